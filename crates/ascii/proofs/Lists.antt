@@ -1,11 +1,10 @@
 -- Laws of lists that loops over a slice use: the suffix that is left to read, and a test of every element.
-use Prim.Native.Nat.{ℕ, zero, suc, _+_, _-_, _≤_, _<_}
-use mathlib.Core.Path.{_≡_, refl, sym, ap, _∙_, subst}
-use mathlib.Core.Bool.{Bool, true, false, _&&_}
+use Prim.Native.Nat.{ℕ, _+_, _≤_, _<_}
+use mathlib.Core.Path.{_≡_, refl}
+use mathlib.Core.Bool.{Bool, true, false}
 use mathlib.Core.List.{List, [], _∷_, _++_}
 use native.Mathlib.Numerals.{add-one}
-use native.Mathlib.Omega.{arith}
-use lib.ListN.{length, take, drop, getD, drop-of-length-le, length-append}
+use lib.ListN.{length, drop, getD, drop-of-length-le}
 use lib.Seq.{drop-cons}
 use Rattle.ascii.specs.Names.{every}
 use Rattle.ascii.proofs.Bools.{and-left, and-right, and-both}
@@ -32,8 +31,3 @@ every-end f s i h = rw (drop-end s i h)
 pub every-append : (f : ℕ → Bool) (s t : List ℕ) → every f s ≡ true → every f t ≡ true → every f (s ++ t) ≡ true
 every-append f [] t p q = q
 every-append f (b ∷ s) t p q = and-both (and-left (f b) _ p) (every-append f s t (and-right (f b) _ p) q)
-
--- a test that follows from another, byte by byte
-pub every-implies : (f g : ℕ → Bool) → ((b : ℕ) → f b ≡ true → g b ≡ true) → (s : List ℕ) → every f s ≡ true → every g s ≡ true
-every-implies f g k [] p = refl
-every-implies f g k (b ∷ s) p = and-both (k b (and-left (f b) _ p)) (every-implies f g k s (and-right (f b) _ p))

@@ -1,7 +1,7 @@
 -- Laws of names compared without regard to case.
-use Prim.Native.Nat.{ℕ, zero, suc, _+_, _≤_, _<_}
-use mathlib.Core.Path.{_≡_, refl, sym, ap, _∙_, subst}
-use mathlib.Core.Bool.{Bool, true, false, _&&_}
+use Prim.Native.Nat.{ℕ, suc, _+_, _≤_, _<_}
+use mathlib.Core.Path.{_≡_, refl, ap, subst}
+use mathlib.Core.Bool.{true, false, and-false}
 use mathlib.Core.Logic.{_↔_}
 use mathlib.Core.List.{List, [], _∷_, map}
 use native.Mathlib.Omega.{arith}
@@ -9,7 +9,7 @@ use lib.Dec.{eqb}
 use lib.ListN.{length, drop, getD}
 use borrow.Author.Tests.{eqb-true, eq-eqb, ne-eqb}
 use Rattle.ascii.specs.Bytes.{upper, isNameByte}
-use Rattle.ascii.specs.Names.{sameBytes, sameName, isName, notEmpty, every}
+use Rattle.ascii.specs.Names.{sameBytes, sameName, isName, every}
 use Rattle.ascii.proofs.Bools.{and-left, and-right, and-both}
 use Rattle.ascii.proofs.Lists.{drop-next, drop-end}
 
@@ -42,10 +42,6 @@ sameName-length [] [] h = absurd (h refl)
 sameName-length [] (b ∷ t) h = refl
 sameName-length (a ∷ s) [] h = refl
 sameName-length (a ∷ s) (b ∷ t) h = rw (sameName-length s t (λ e. h (ap suc e))) (and-false (eqb (upper a) (upper b)))
-  where
-    and-false : (x : Bool) → (x && false) ≡ false
-    and-false true = refl
-    and-false false = refl
 
 -- the loop: equal so far, what is left decides
 pub sameName-next : (s t : List ℕ) (i : ℕ) → i < length s → i < length t → upper (getD s i 0) ≡ upper (getD t i 0)

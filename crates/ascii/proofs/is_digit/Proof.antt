@@ -1,13 +1,9 @@
+-- `ascii::is_digit` meets its contract: the body is the definition.
 use Rattle.ascii.specs.Bytes.{isDigit}
-use mathlib.Core.Path.{_≡_, refl, sym, ap, _∙_}
-use native.Mathlib.Omega.{arith}
-use borrow.Author.Needs.{needs}
+use mathlib.Core.Path.{refl}
 use Rattle.ascii.proofs.is_digit.Statement.{statement}
 use Rattle.ascii.proofs.is_digit.Tie as tie
-use Rattle.ascii.proofs.is_digit.Reads as reads
-use Rattle.ascii.proofs.is_digit.Lts as lts
 
--- src/lib.rt:7:1
 returns : tie.Need-returns
 unfolding isDigit
 returns c = refl

@@ -1,13 +1,9 @@
+-- `ascii::is_letter` meets its contract: the body is the definition.
 use Rattle.ascii.specs.Bytes.{isLetter}
-use mathlib.Core.Path.{_≡_, refl, sym, ap, _∙_}
-use native.Mathlib.Omega.{arith}
-use borrow.Author.Needs.{needs}
+use mathlib.Core.Path.{refl}
 use Rattle.ascii.proofs.is_letter.Statement.{statement}
 use Rattle.ascii.proofs.is_letter.Tie as tie
-use Rattle.ascii.proofs.is_letter.Reads as reads
-use Rattle.ascii.proofs.is_letter.Lts as lts
 
--- src/lib.rt:13:1
 returns : tie.Need-returns
 unfolding isLetter
 returns c = refl

@@ -1,19 +1,16 @@
+-- `ascii::is_name` meets its contract: the loop keeps that what is left decides, and an empty name is none.
 use borrow.Author.Tests.{not-true, not-false}
 use Rattle.ascii.proofs.Names.{isName-none, isName-some}
 use Rattle.ascii.proofs.Lists.{every-next, every-stop, every-end}
-use Rattle.ascii.specs.Names.{isName, every, notEmpty}
+use Rattle.ascii.specs.Names.{isName, every}
 use Rattle.ascii.specs.Bytes.{isNameByte}
-use mathlib.Core.Bool.{Bool, true}
 use lib.ListN.{length, drop}
 use Prim.Native.Nat.{_≤_, _-_}
-use mathlib.Core.Path.{_≡_, refl, sym, ap, _∙_}
+use mathlib.Core.Path.{_≡_, sym, _∙_}
 use native.Mathlib.Omega.{arith}
 use borrow.Author.Needs.{needs}
 use Rattle.ascii.proofs.is_name.Statement.{statement}
 use Rattle.ascii.proofs.is_name.Tie as tie
-use Rattle.ascii.proofs.is_name.Reads as reads
-use Rattle.ascii.proofs.is_name.Lts as lts
-use Rattle.ascii.proofs.is_name_byte.Reads as is-name-byte-reads
 
 abbrev Inv-loop : tie.InvT-loop
 Inv-loop s i₀ i = (i ≤ length s) × (every isNameByte (drop i s) ≡ isName s)
@@ -21,39 +18,30 @@ Inv-loop s i₀ i = (i ≤ length s) × (every isNameByte (drop i s) ≡ isName 
 abbrev μ-loop : tie.MeasureT-loop
 μ-loop s i₀ i = length s - i
 
--- src/lib.rt:66:9
 returns : tie.Need-returns Inv-loop μ-loop
 returns c = sym (isName-none _ (c .if1 .taken))
 
--- src/lib.rt:69:5
 loop-holds : tie.Need-loop-holds Inv-loop μ-loop
 loop-holds c = (omega arith, isName-some _ (c .if1 .left))
 
--- src/lib.rt:70:26
 shared-slice-read-is-name-byte : tie.Need-shared-slice-read-is-name-byte Inv-loop μ-loop
 shared-slice-read-is-name-byte c = omega arith
 
--- src/lib.rt:70:13
 is-name-byte-requires : tie.Need-is-name-byte-requires Inv-loop μ-loop
 is-name-byte-requires c κs = search needs
 
--- src/lib.rt:71:13
 returns-2 : tie.Need-returns-2 Inv-loop μ-loop
 returns-2 c = sym (sym (c .before .before .before .before .loop .inv .1) ∙ every-stop isNameByte _ _ (c .before .before .before .loop-test .taken) (sym (c .before .is-name-byte .ensures) ∙ not-true _ (c .if2 .taken)))
 
--- src/lib.rt:73:9
 add-i : tie.Need-add-i Inv-loop μ-loop
 add-i c = omega arith
 
--- src/lib.rt:69:5
 loop-less : tie.Need-loop-less Inv-loop μ-loop
 loop-less c = omega arith
 
--- src/lib.rt:69:5
 loop-again : tie.Need-loop-again Inv-loop μ-loop
 loop-again c = (omega arith, every-next isNameByte _ _ (c .before .before .before .loop-test .taken) (sym (c .before .is-name-byte .ensures) ∙ not-false _ (c .if2 .left)) ∙ c .before .before .before .before .loop .inv .1)
 
--- src/lib.rt:62:1
 returns-3 : tie.Need-returns-3 Inv-loop μ-loop
 returns-3 c = sym (every-end isNameByte _ _ (c .loop-test .left)) ∙ c .before .loop .inv .1
 

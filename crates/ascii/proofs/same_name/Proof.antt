@@ -1,16 +1,13 @@
-use mathlib.Core.Path.{subst}
+-- `ascii::same_name` meets its contract: the loop keeps that what is left decides, and names of other lengths differ.
+use mathlib.Core.Path.{subst, _≡_, refl, sym, _∙_}
 use Rattle.ascii.proofs.Names.{sameName-next, sameName-stop, sameName-end, sameName-length}
 use Rattle.ascii.specs.Names.{sameName}
 use lib.ListN.{length, drop}
 use Prim.Native.Nat.{ℕ, _≤_, _<_, _-_}
-use mathlib.Core.Path.{_≡_, refl, sym, ap, _∙_}
 use native.Mathlib.Omega.{arith}
 use borrow.Author.Needs.{needs}
 use Rattle.ascii.proofs.same_name.Statement.{statement}
 use Rattle.ascii.proofs.same_name.Tie as tie
-use Rattle.ascii.proofs.same_name.Reads as reads
-use Rattle.ascii.proofs.same_name.Lts as lts
-use Rattle.ascii.proofs.upper.Reads as upper-reads
 
 abbrev Inv-loop : tie.InvT-loop
 Inv-loop a b i₀ i = (i ≤ length a) × (length a ≡ length b) × (sameName (drop i a) (drop i b) ≡ sameName a b)
@@ -18,47 +15,36 @@ Inv-loop a b i₀ i = (i ≤ length a) × (length a ≡ length b) × (sameName (
 abbrev μ-loop : tie.MeasureT-loop
 μ-loop a b i₀ i = length a - i
 
--- src/lib.rt:49:9
 returns : tie.Need-returns Inv-loop μ-loop
 returns c = sym (sameName-length _ _ (c .if1 .taken))
 
--- src/lib.rt:52:5
 loop-holds : tie.Need-loop-holds Inv-loop μ-loop
 loop-holds c = (omega arith, omega arith, refl)
 
--- src/lib.rt:53:18
 shared-slice-read-upper : tie.Need-shared-slice-read-upper Inv-loop μ-loop
 shared-slice-read-upper c = omega arith
 
--- src/lib.rt:53:12
 upper-requires : tie.Need-upper-requires Inv-loop μ-loop
 upper-requires c κs = search needs
 
--- src/lib.rt:53:33
 shared-slice-read-upper-2 : tie.Need-shared-slice-read-upper-2 Inv-loop μ-loop
 shared-slice-read-upper-2 c = omega arith
 
--- src/lib.rt:53:27
 upper-requires-2 : tie.Need-upper-requires-2 Inv-loop μ-loop
 upper-requires-2 c κs = search needs
 
--- src/lib.rt:54:13
 returns-2 : tie.Need-returns-2 Inv-loop μ-loop
 returns-2 c = sym (sym (c .before .before .before .before .before .before .loop .inv .2) ∙ sameName-stop _ _ _ (c .before .before .before .before .before .loop-test .taken) (subst (λ (n : ℕ). c .before .before .before .before .before .before .loop .i < n) (c .before .before .before .before .before .before .loop .inv .1) (c .before .before .before .before .before .loop-test .taken)) (λ e. c .if2 .taken (c .before .before .before .upper .ensures ∙ e ∙ sym (c .before .upper2 .ensures))))
 
--- src/lib.rt:56:9
 add-i : tie.Need-add-i Inv-loop μ-loop
 add-i c = omega arith
 
--- src/lib.rt:52:5
 loop-less : tie.Need-loop-less Inv-loop μ-loop
 loop-less c = omega arith
 
--- src/lib.rt:52:5
 loop-again : tie.Need-loop-again Inv-loop μ-loop
 loop-again c = (omega arith, c .before .before .before .before .before .before .loop .inv .1, sameName-next _ _ _ (c .before .before .before .before .before .loop-test .taken) (subst (λ (n : ℕ). c .before .before .before .before .before .before .loop .i < n) (c .before .before .before .before .before .before .loop .inv .1) (c .before .before .before .before .before .loop-test .taken)) (sym (c .before .before .before .upper .ensures) ∙ c .if2 .left ∙ c .before .upper2 .ensures) ∙ c .before .before .before .before .before .before .loop .inv .2)
 
--- src/lib.rt:45:1
 returns-3 : tie.Need-returns-3 Inv-loop μ-loop
 returns-3 c = sym (sameName-end _ _ _ (c .loop-test .left) (subst (λ (n : ℕ). n ≤ c .before .loop .i) (c .before .loop .inv .1) (c .loop-test .left))) ∙ c .before .loop .inv .2
 

@@ -1,0 +1,402 @@
+-- Laws of content lines: where each line ends, that cutting loses no byte, and that lines written with CR LF are read back.
+use Prim.Native.Nat.{ℕ, zero, suc, _+_, _-_, _≤_, _<_}
+use mathlib.Core.Path.{_≡_, refl, sym, ap, subst, _∙_}
+use mathlib.Core.Bool.{Bool, true, false, not}
+use mathlib.Core.List.{List, [], _∷_, _++_, append-nil}
+use native.Mathlib.Omega.{arith}
+use lib.Dec.{eqb}
+use lib.ListN.{length, take, drop, getD, take-append-drop, length-drop, length-append}
+use lib.Seq.{take-all, getD-drop, take-suc, length-take-le, drop-drop}
+use borrow.Author.Tests.{eqb-true, not-true, ne-eqb}
+use Rattle.ascii.proofs.Bools.{and-left, and-right, and-both}
+use Rattle.ascii.proofs.Lists.{drop-next, drop-end}
+use Rattle.text.specs.Unfolding.{isBreak, isBlank, isFold, unfolded, noFold}
+use Rattle.text.specs.Lines.{Pieces, end, unended, line, grow, cut, breakAt, part, LineAt, LastPiece, NoPiece, EndsAt, lineCount, bytesOf, joined, linesOf, allLines, contentLines, LineFrom, NoLineFrom, StepsTo, everyLine, holdsNoCR, beginsPlain, standsPlain}
+use Rattle.text.specs.declared.LineEnd.{LineEnd}
+use Rattle.text.specs.declared.LineEnd.the-variants.{At, Unended, None}
+use Rattle.text.specs.declared.Span.{Span}
+use Rattle.text.specs.declared.Span.the-variants.{Line, End}
+use Rattle.text.proofs.Unfolding.{unfolded-same, getD-inside}
+
+-- at CR LF a line ends, and any other byte belongs to the first piece of what follows
+cut-by : (b c : ℕ) (s : List ℕ) (x : Bool) → isBreak b c ≡ x
+    → cut (b ∷ c ∷ s) ≡ elim x as (λ y. Pieces) [ true ↦ line [] (cut s) | false ↦ grow b (cut (c ∷ s)) ]
+unfolding cut
+cut-by b c s x e = ap (λ (y : Bool). elim y as (λ z. Pieces) [ true ↦ line [] (cut s) | false ↦ grow b (cut (c ∷ s)) ]) e
+
+pub cut-break : (b c : ℕ) (s : List ℕ) → isBreak b c ≡ true → cut (b ∷ c ∷ s) ≡ line [] (cut s)
+cut-break b c s e = cut-by b c s true e
+
+pub cut-grow : (b : ℕ) (s : List ℕ) → isBreak b (getD s 0 0) ≡ false → cut (b ∷ s) ≡ grow b (cut s)
+unfolding cut
+cut-grow b [] e = refl
+cut-grow b (c ∷ s) e = cut-by b c s false e
+
+pub cut-none : cut [] ≡ end
+unfolding cut
+cut-none = refl
+
+-- a CR LF lies inside
+pub break-inside : (s : List ℕ) (i : ℕ) → breakAt s i ≡ true → i + 2 ≤ length s
+unfolding breakAt isBreak
+break-inside s i e = omega (arith, getD-inside (λ b. eqb b 10) refl s (i + 1) (and-right (eqb (getD s i 0) 13) _ e))
+
+-- CR LF begins with CR
+pub no-break-other : (s : List ℕ) (i : ℕ) → (getD s i 0 ≡ 13 → ⊥) → breakAt s i ≡ false
+unfolding breakAt isBreak
+no-break-other s i h = rw (ne-eqb (getD s i 0) 13 h)
+
+-- the same by place, as a search goes over the bytes
+pub cut-break-at : (s : List ℕ) (i : ℕ) → breakAt s i ≡ true → cut (drop i s) ≡ line [] (cut (drop (i + 2) s))
+unfolding breakAt
+cut-break-at s i e =
+    let h : i + 2 ≤ length s = break-inside s i e in
+    let two : i + 1 + 1 ≡ i + 2 = omega arith in
+    let rest : drop (i + 1) s ≡ getD s (i + 1) 0 ∷ drop (i + 2) s = rw two at (drop-next s (i + 1) (omega arith)) in
+    rw (drop-next s i (omega arith), rest) (cut-break _ _ _ e)
+
+pub cut-grow-at : (s : List ℕ) (i : ℕ) → i < length s → breakAt s i ≡ false → cut (drop i s) ≡ grow (getD s i 0) (cut (drop (i + 1) s))
+unfolding breakAt
+cut-grow-at s i h e =
+    let one : i + 1 + 0 ≡ i + 1 = omega arith in
+    rw (drop-next s i h) (cut-grow (getD s i 0) (drop (i + 1) s) (rw (getD-drop (i + 1) s 0 0, one) e))
+
+-- several bytes more in front of the first piece
+abbrev pub grown : List ℕ → Pieces → Pieces
+grown [] p = p
+grown (b ∷ l) p = grow b (grown l p)
+
+grown-snoc : (l : List ℕ) (b : ℕ) (p : Pieces) → grown (l ++ (b ∷ [])) p ≡ grown l (grow b p)
+grown-snoc [] b p = refl
+grown-snoc (a ∷ l) b p = ap (grow a) (grown-snoc l b p)
+
+grown-line : (l t : List ℕ) (p : Pieces) → grown l (line t p) ≡ line (l ++ t) p
+grown-line [] t p = refl
+grown-line (a ∷ l) t p = ap (grow a) (grown-line l t p)
+
+grown-unended : (l t : List ℕ) → grown l (unended t) ≡ unended (l ++ t)
+grown-unended [] t = refl
+grown-unended (a ∷ l) t = ap (grow a) (grown-unended l t)
+
+-- parts: one byte more, and what is left
+pub part-next : (s : List ℕ) (a e : ℕ) → a ≤ e → e < length s → part s a (e + 1) ≡ part s a e ++ (getD s e 0 ∷ [])
+part-next s a e h k =
+    let n : e + 1 - a ≡ suc (e - a) = omega arith in
+    let m : a + (e - a) ≡ e = omega arith in
+    rw n
+    (take-suc (drop a s) (e - a) 0 (simp length-drop (omega arith))
+    ∙ ap (λ (x : ℕ). part s a e ++ (x ∷ [])) (getD-drop a s (e - a) 0 ∙ ap (λ (x : ℕ). getD s x 0) m))
+
+pub part-rest : (s : List ℕ) (a e : ℕ) → a ≤ e → part s a e ++ drop e s ≡ drop a s
+part-rest s a e h =
+    let m : a + (e - a) ≡ e = omega arith in
+    ap (λ (l : List ℕ). part s a e ++ l) (sym (drop-drop (e - a) a s ∙ ap (λ (x : ℕ). drop x s) m)) ∙ take-append-drop (e - a) (drop a s)
+
+pub part-none : (s : List ℕ) (a : ℕ) → part s a a ≡ []
+part-none s a =
+    let z : a - a ≡ 0 = omega arith in
+    ap (λ (n : ℕ). take n (drop a s)) z
+
+pub length-part : (s : List ℕ) (a e : ℕ) → a ≤ e → e ≤ length s → length (part s a e) ≡ e - a
+length-part s a e h k = length-take-le (e - a) (drop a s) (simp length-drop (omega arith))
+
+-- the search: no CR LF from `from` up to i, so these bytes belong to the first piece
+pub record Searched (s : List ℕ) (from i : ℕ) : Type 0 where
+  pub order : from ≤ i
+  pub inside : i < length s
+  pub pieces : cut (drop from s) ≡ grown (part s from i) (cut (drop i s))
+
+pub searched-start : (s : List ℕ) (from : ℕ) → from < length s → Searched s from from
+searched-start s from h = record {
+  order = omega arith;
+  inside = h;
+  pieces = ap (λ (l : List ℕ). grown l (cut (drop from s))) (sym (part-none s from));
+}
+
+pub searched-next : {s : List ℕ} {from i : ℕ} → Searched s from i → i + 1 < length s → breakAt s i ≡ false → Searched s from (i + 1)
+searched-next {s} {from} {i} p h e = record {
+  order = omega (arith, p .order);
+  inside = h;
+  pieces =
+      p .pieces
+      ∙ ap (grown (part s from i)) (cut-grow-at s i (p .inside) e)
+      ∙ sym (grown-snoc (part s from i) (getD s i 0) (cut (drop (i + 1) s)))
+      ∙ ap (λ (l : List ℕ). grown l (cut (drop (i + 1) s))) (sym (part-next s from i (p .order) (p .inside)));
+}
+
+pub searched-found : {s : List ℕ} {from i : ℕ} → Searched s from i → breakAt s i ≡ true → EndsAt s from (At i)
+unfolding EndsAt
+searched-found {s} {from} {i} p e = record {
+  starts = p .order;
+  inside = break-inside s i e;
+  pieces =
+      p .pieces
+      ∙ ap (grown (part s from i)) (cut-break-at s i e)
+      ∙ grown-line (part s from i) [] (cut (drop (i + 2) s))
+      ∙ ap (λ (l : List ℕ). line l (cut (drop (i + 2) s))) (append-nil (part s from i));
+}
+
+pub searched-end : {s : List ℕ} {from i : ℕ} → Searched s from i → length s ≤ i + 1 → EndsAt s from Unended
+unfolding EndsAt cut
+searched-end {s} {from} {i} p h =
+    let one : drop i s ≡ getD s i 0 ∷ [] = drop-next s i (p .inside) ∙ ap (λ (l : List ℕ). getD s i 0 ∷ l) (drop-end s (i + 1) h) in
+    record {
+      starts = omega (arith, p .order, p .inside);
+      pieces =
+          p .pieces
+          ∙ ap (λ (l : List ℕ). grown (part s from i) (cut l)) one
+          ∙ grown-unended (part s from i) (getD s i 0 ∷ [])
+          ∙ ap (λ (l : List ℕ). unended (part s from i ++ l)) (sym one)
+          ∙ ap unended (part-rest s from i (p .order));
+    }
+
+pub searched-none : (s : List ℕ) (from : ℕ) → length s ≤ from → EndsAt s from None
+unfolding EndsAt
+searched-none s from h = record { past = h; pieces = ap cut (drop-end s from h) ∙ cut-none }
+
+-- what a caller learns from each answer
+pub line-at : {s : List ℕ} {from : ℕ} {r : LineEnd} (e : ℕ) → EndsAt s from r → r ≡ At e → LineAt s from e
+unfolding EndsAt
+line-at {s} {from} e h q = subst (EndsAt s from) q h
+
+pub last-piece : {s : List ℕ} {from : ℕ} {r : LineEnd} → EndsAt s from r → r ≡ Unended → LastPiece s from
+unfolding EndsAt
+last-piece {s} {from} h q = subst (EndsAt s from) q h
+
+pub no-piece : {s : List ℕ} {from : ℕ} {r : LineEnd} → EndsAt s from r → r ≡ None → NoPiece s from
+unfolding EndsAt
+no-piece {s} {from} h q = subst (EndsAt s from) q h
+
+-- the place where a line ends is the first CR LF: it stands there, and nowhere before
+pub record FirstBreak (s : List ℕ) (from e : ℕ) : Type 0 where
+  pub here : breakAt s e ≡ true
+  pub earlier : (k : ℕ) → from ≤ k → k < e → breakAt s k ≡ false
+
+breakAt-suc : (b : ℕ) (s : List ℕ) (i : ℕ) → breakAt (b ∷ s) (suc i) ≡ breakAt s i
+unfolding breakAt
+breakAt-suc b s i =
+    let n : suc i + 1 ≡ suc (i + 1) = omega arith in
+    rw n
+
+breakAt-drop : (s : List ℕ) (a i : ℕ) → breakAt (drop a s) i ≡ breakAt s (a + i)
+unfolding breakAt
+breakAt-drop s a i =
+    let n : a + (i + 1) ≡ a + i + 1 = omega arith in
+    rw (getD-drop a s i 0, getD-drop a s (i + 1) 0, n)
+
+first-later : (b c : ℕ) (s : List ℕ) (n : ℕ) → isBreak b c ≡ false → FirstBreak (c ∷ s) 0 n → FirstBreak (b ∷ c ∷ s) 0 (suc n)
+unfolding breakAt
+first-later b c s n e f = record {
+  here = breakAt-suc b (c ∷ s) n ∙ f .here;
+  earlier = λ k z h. go k h;
+}
+  where
+    go : (k : ℕ) → k < suc n → breakAt (b ∷ c ∷ s) k ≡ false
+    go zero h = e
+    go (suc k) h = breakAt-suc b (c ∷ s) k ∙ f .earlier k (omega arith) (omega arith)
+
+first-grown : (b c : ℕ) (s l : List ℕ) (p q : Pieces) → isBreak b c ≡ false → grow b q ≡ line l p
+    → ((t : List ℕ) (r : Pieces) → q ≡ line t r → FirstBreak (c ∷ s) 0 (length t)) → FirstBreak (b ∷ c ∷ s) 0 (length l)
+first-grown b c s l p end e g k = let z : _≡_ {A = ℕ} 0 1 = cc in absurd (omega arith)
+first-grown b c s l p (unended t) e g k = let z : _≡_ {A = ℕ} 0 1 = cc in absurd (omega arith)
+first-grown b c s l p (line t r) e g k =
+    let n : b ∷ t ≡ l = cc in
+    subst (λ (x : List ℕ). FirstBreak (b ∷ c ∷ s) 0 (length x)) n (first-later b c s (length t) e (k t r refl))
+
+first-either : (b c : ℕ) (s l : List ℕ) (p : Pieces) (x : Bool) → isBreak b c ≡ x → cut (b ∷ c ∷ s) ≡ line l p
+    → ((t : List ℕ) (r : Pieces) → cut (c ∷ s) ≡ line t r → FirstBreak (c ∷ s) 0 (length t)) → FirstBreak (b ∷ c ∷ s) 0 (length l)
+unfolding breakAt
+first-either b c s l p true e g k =
+    let q : line [] (cut s) ≡ line l p = sym (cut-break b c s e) ∙ g in
+    let n : [] ≡ l = cc in
+    subst (λ (x : List ℕ). FirstBreak (b ∷ c ∷ s) 0 (length x)) n (record { here = e; earlier = λ j z h. absurd (omega arith) })
+first-either b c s l p false e g k = first-grown b c s l p (cut (c ∷ s)) e (sym (cut-grow b (c ∷ s) e) ∙ g) k
+
+pub cut-first : (s l : List ℕ) (p : Pieces) → cut s ≡ line l p → FirstBreak s 0 (length l)
+unfolding cut
+cut-first [] l p e = let z : _≡_ {A = ℕ} 0 1 = cc in absurd (omega arith)
+cut-first (b ∷ []) l p e = let z : _≡_ {A = ℕ} 0 1 = cc in absurd (omega arith)
+cut-first (b ∷ c ∷ s) l p e = first-either b c s l p (isBreak b c) refl e (cut-first (c ∷ s))
+
+pub line-at-first : {s : List ℕ} {from e : ℕ} → LineAt s from e → FirstBreak s from e
+line-at-first {s} {from} {e} h =
+    let n : length (part s from e) ≡ e - from = length-part s from e (h .starts) (omega (arith, h .inside)) in
+    let f : FirstBreak (drop from s) 0 (length (part s from e)) = cut-first (drop from s) _ _ (h .pieces) in
+    let m : from + (e - from) ≡ e = omega (arith, h .starts) in
+    record {
+      here =
+          sym (breakAt-drop s from (e - from) ∙ ap (breakAt s) m)
+          ∙ subst (λ (x : ℕ). breakAt (drop from s) x ≡ true) n (f .here);
+      earlier =
+          λ k a b.
+          let d : from + (k - from) ≡ k = omega arith in
+          sym (breakAt-drop s from (k - from) ∙ ap (breakAt s) d) ∙ f .earlier (k - from) (omega arith) (rw n (omega arith));
+    }
+
+-- cutting loses nothing: each piece with its CR LF again gives the bytes
+bytesOf-grow : (b : ℕ) (p : Pieces) → bytesOf (grow b p) ≡ b ∷ bytesOf p
+bytesOf-grow b end = refl
+bytesOf-grow b (unended t) = refl
+bytesOf-grow b (line t p) = refl
+
+bytesOf-break : (b c : ℕ) (s : List ℕ) → isBreak b c ≡ true → 13 ∷ 10 ∷ s ≡ b ∷ c ∷ s
+unfolding isBreak
+bytesOf-break b c s e =
+    let h : b ≡ 13 = eqb-true b 13 (and-left (eqb b 13) _ e) in
+    let k : c ≡ 10 = eqb-true c 10 (and-right (eqb b 13) _ e) in
+    cc
+
+bytesOf-either : (b c : ℕ) (s : List ℕ) (x : Bool) → isBreak b c ≡ x → bytesOf (cut s) ≡ s → bytesOf (cut (c ∷ s)) ≡ c ∷ s
+    → bytesOf (cut (b ∷ c ∷ s)) ≡ b ∷ c ∷ s
+bytesOf-either b c s true e p q =
+    ap bytesOf (cut-break b c s e) ∙ ap (λ (l : List ℕ). 13 ∷ 10 ∷ l) p ∙ bytesOf-break b c s e
+bytesOf-either b c s false e p q =
+    ap bytesOf (cut-grow b (c ∷ s) e) ∙ bytesOf-grow b (cut (c ∷ s)) ∙ ap (λ (l : List ℕ). b ∷ l) q
+
+pub bytesOf-cut : (s : List ℕ) → bytesOf (cut s) ≡ s
+unfolding cut
+bytesOf-cut [] = refl
+bytesOf-cut (b ∷ []) = refl
+bytesOf-cut (b ∷ c ∷ s) = bytesOf-either b c s (isBreak b c) refl (bytesOf-cut s) (bytesOf-cut (c ∷ s))
+
+-- so a line and what follows it have two bytes less than the whole, and a piece that is not ended is the whole
+pub cut-length : (s l : List ℕ) (p : Pieces) → cut s ≡ line l p → length l + 2 + length (bytesOf p) ≡ length s
+cut-length s l p e =
+    let whole : l ++ (13 ∷ 10 ∷ bytesOf p) ≡ s = sym (ap bytesOf e) ∙ bytesOf-cut s in
+    omega (arith, simp length-append at (ap length whole))
+
+pub cut-unended : (s t : List ℕ) → cut s ≡ unended t → t ≡ s
+cut-unended s t e = sym (ap bytesOf e) ∙ bytesOf-cut s
+
+-- a piece that is not ended has a byte
+pub cut-unended-some : (s t : List ℕ) → cut s ≡ unended t → 0 < length t
+unfolding cut
+cut-unended-some [] t e = let z : _≡_ {A = ℕ} 0 1 = cc in absurd (omega arith)
+cut-unended-some (b ∷ s) t e = rw (cut-unended (b ∷ s) t e) (omega arith)
+
+lineCount-bytes : (p : Pieces) → lineCount p + lineCount p ≤ length (bytesOf p)
+lineCount-bytes end = omega arith
+lineCount-bytes (unended t) = omega arith
+lineCount-bytes (line l p) = simp length-append (omega (arith, lineCount-bytes p))
+
+-- a line takes at least its CR LF
+pub lineCount-cut : (s : List ℕ) → lineCount (cut s) + lineCount (cut s) ≤ length s
+lineCount-cut s = rw bytesOf-cut at (lineCount-bytes (cut s))
+
+-- lines written each with CR LF are read back: no CR inside keeps a line whole
+no-break : (b c : ℕ) → not (eqb b 13) ≡ true → isBreak b c ≡ false
+unfolding isBreak
+no-break b c e = rw (not-true (eqb b 13) e)
+
+pub cut-line : (l s : List ℕ) → holdsNoCR l ≡ true → cut (l ++ (13 ∷ 10 ∷ s)) ≡ line l (cut s)
+unfolding isBreak
+cut-line [] s e = cut-break 13 10 s refl
+cut-line (b ∷ l) s e =
+    cut-grow b (l ++ (13 ∷ 10 ∷ s)) (no-break b (getD (l ++ (13 ∷ 10 ∷ s)) 0 0) (and-left (not (eqb b 13)) _ e))
+    ∙ ap (grow b) (cut-line l s (and-right (not (eqb b 13)) _ e))
+
+pub cut-joined : (ls : List (List ℕ)) → everyLine holdsNoCR ls ≡ true → cut (joined ls) ≡ linesOf ls
+cut-joined [] e = cut-none
+cut-joined (l ∷ ls) e =
+    cut-line l (joined ls) (and-left (holdsNoCR l) _ e) ∙ ap (line l) (cut-joined ls (and-right (holdsNoCR l) _ e))
+
+-- and no blank in front of any makes no fold
+noFold-plain : (b : ℕ) (s : List ℕ) → not (eqb b 13) ≡ true → noFold s ≡ true → noFold (b ∷ s) ≡ true
+unfolding noFold isFold
+noFold-plain b [] e h = refl
+noFold-plain b (c ∷ []) e h = refl
+noFold-plain b (c ∷ d ∷ s) e h = rw (no-break b c e) h
+
+noFold-break : (s : List ℕ) → beginsPlain s ≡ true → noFold s ≡ true → noFold (13 ∷ 10 ∷ s) ≡ true
+unfolding noFold isFold isBreak
+noFold-break [] e h = refl
+noFold-break (b ∷ s) e h = rw (not-true (isBlank b) e) (noFold-plain 10 (b ∷ s) refl h)
+
+noFold-line : (l s : List ℕ) → holdsNoCR l ≡ true → beginsPlain s ≡ true → noFold s ≡ true → noFold (l ++ (13 ∷ 10 ∷ s)) ≡ true
+noFold-line [] s p q h = noFold-break s q h
+noFold-line (b ∷ l) s p q h =
+    noFold-plain b (l ++ (13 ∷ 10 ∷ s)) (and-left (not (eqb b 13)) _ p) (noFold-line l s (and-right (not (eqb b 13)) _ p) q h)
+
+beginsPlain-joined : (ls : List (List ℕ)) → everyLine standsPlain ls ≡ true → beginsPlain (joined ls) ≡ true
+unfolding isBlank
+beginsPlain-joined [] e = refl
+beginsPlain-joined ([] ∷ ls) e = refl
+beginsPlain-joined ((b ∷ l) ∷ ls) e = and-right (holdsNoCR (b ∷ l)) _ (and-left (standsPlain (b ∷ l)) _ e)
+
+pub noFold-joined : (ls : List (List ℕ)) → everyLine standsPlain ls ≡ true → noFold (joined ls) ≡ true
+unfolding noFold
+noFold-joined [] e = refl
+noFold-joined (l ∷ ls) e =
+    let rest : everyLine standsPlain ls ≡ true = and-right (standsPlain l) _ e in
+    noFold-line l (joined ls) (and-left (holdsNoCR l) _ (and-left (standsPlain l) _ e)) (beginsPlain-joined ls rest) (noFold-joined ls rest)
+
+pub unfolded-joined : (ls : List (List ℕ)) → everyLine standsPlain ls ≡ true → unfolded (joined ls) ≡ joined ls
+unfolded-joined ls e = unfolded-same (joined ls) (noFold-joined ls e)
+
+-- what is written so is read back line by line
+holdsNoCR-plain : (ls : List (List ℕ)) → everyLine standsPlain ls ≡ true → everyLine holdsNoCR ls ≡ true
+holdsNoCR-plain [] e = refl
+holdsNoCR-plain (l ∷ ls) e =
+    and-both (and-left (holdsNoCR l) _ (and-left (standsPlain l) _ e)) (holdsNoCR-plain ls (and-right (standsPlain l) _ e))
+
+pub cut-unfolded-joined : (ls : List (List ℕ)) → everyLine standsPlain ls ≡ true → cut (unfolded (joined ls)) ≡ linesOf ls
+cut-unfolded-joined ls e = ap cut (unfolded-joined ls e) ∙ cut-joined ls (holdsNoCR-plain ls e)
+
+-- zero bytes have no piece; a CR LF at the end has no piece after it, and a second one ends an empty line
+example-cut-last : cut (65 ∷ 13 ∷ 10 ∷ []) ≡ line (65 ∷ []) end
+unfolding cut isBreak
+example-cut-last = refl
+
+example-cut-empty : cut (65 ∷ 13 ∷ 10 ∷ 13 ∷ 10 ∷ []) ≡ line (65 ∷ []) (line [] end)
+unfolding cut isBreak
+example-cut-empty = refl
+
+example-cut-unended : cut (13 ∷ 10 ∷ 13 ∷ []) ≡ line [] (unended (13 ∷ []))
+unfolding cut isBreak
+example-cut-unended = refl
+
+-- ---- the step from line to line
+
+pub contentLines-none : contentLines [] ≡ []
+unfolding contentLines
+contentLines-none = ap allLines cut-none
+
+pub steps-at : {s : List ℕ} {from e : ℕ} → LineAt s from e → StepsTo s from (Line e (e + 2))
+unfolding StepsTo contentLines
+steps-at {s} {from} {e} h =
+    record {
+      starts = h .starts;
+      ends = omega arith;
+      goes-on = omega (arith, h .starts);
+      inside = h .inside;
+      lines = ap allLines (h .pieces);
+    }
+
+pub steps-last : {s : List ℕ} {from : ℕ} → LastPiece s from → StepsTo s from (Line (length s) (length s))
+unfolding StepsTo contentLines
+steps-last {s} {from} h =
+    let whole : part s from (length s) ≡ drop from s = take-all (length s - from) (drop from s) (simp length-drop (omega arith)) in
+    record {
+      starts = omega (arith, h .starts);
+      ends = omega arith;
+      goes-on = h .starts;
+      inside = omega arith;
+      lines =
+          ap allLines (h .pieces)
+          ∙ ap (λ (l : List ℕ). l ∷ []) (sym whole)
+          ∙ ap (λ (ls : List (List ℕ)). part s from (length s) ∷ ls)
+          (sym (ap (λ (l : List ℕ). allLines (cut l)) (drop-end s (length s) (omega arith)) ∙ ap allLines cut-none));
+    }
+
+pub steps-none : {s : List ℕ} {from : ℕ} → NoPiece s from → StepsTo s from End
+unfolding StepsTo contentLines
+steps-none h = record { past = h .past; lines = ap allLines (h .pieces) }
+
+-- what a caller knows of each answer
+pub line-from : {s : List ℕ} {from : ℕ} {r : Span} (e next : ℕ) → StepsTo s from r → r ≡ Line e next → LineFrom s from e next
+unfolding StepsTo
+line-from {s} {from} e next h q = subst (λ (x : Span). StepsTo s from x) q h
+
+pub no-line-from : {s : List ℕ} {from : ℕ} {r : Span} → StepsTo s from r → r ≡ End → NoLineFrom s from
+unfolding StepsTo
+no-line-from {s} {from} h q = subst (λ (x : Span). StepsTo s from x) q h

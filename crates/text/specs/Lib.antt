@@ -1,0 +1,3 @@
+pub mod TextMatch
+pub mod Unfolding
+pub mod Lines
