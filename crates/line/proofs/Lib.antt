@@ -1,0 +1,7 @@
+pub mod Scanner
+pub mod Pieces
+pub mod Reading
+pub mod Parameters
+pub mod WellFormed
+pub mod Rendering
+pub mod File

@@ -1,0 +1,143 @@
+-- Laws of the check of all lines: what each piece adds to it, and what its answer says of the whole file.
+use Prim.Native.Nat.{ℕ, _+_, _≤_}
+use mathlib.Core.Path.{_≡_, refl, sym, ap, _∙_}
+use mathlib.Core.Bool.{Bool, true, false, not, _&&_}
+use mathlib.Core.List.{List, [], _∷_}
+use mathlib.Core.Logic.{_↔_}
+use native.Mathlib.Omega.{arith}
+use lib.ListN.{length, drop}
+use borrow.Author.Tests.{not-true}
+use Rattle.ascii.proofs.Bools.{and-left, and-right, and-both, clash}
+use Rattle.text.specs.Lines.{Pieces, end, unended, line, cut, part, LineAt, LastPiece, NoPiece, linesOf, allLines, contentLines, everyLine}
+use Rattle.line.specs.Scanner.{isWellFormed}
+use Rattle.line.specs.WellFormed.{lineCheckFrom, lineCheck, AllGood, linesThen, beginsBadly, FirstBad}
+use Rattle.line.specs.declared.check.LineCheck.the-variants.{Good, BadLine}
+
+-- ---- one piece
+
+lineCheck-well : (n : ℕ) (l : List ℕ) (p : Pieces) → isWellFormed l ≡ true → lineCheckFrom n (line l p) ≡ lineCheckFrom (n + 1) p
+unfolding lineCheckFrom
+lineCheck-well n l p e = rw (e, lineCheckFrom)
+
+lineCheck-badly : (n : ℕ) (l : List ℕ) (p : Pieces) → isWellFormed l ≡ false → lineCheckFrom n (line l p) ≡ BadLine n
+unfolding lineCheckFrom
+lineCheck-badly n l p e = rw (e, lineCheckFrom)
+
+-- ---- the loop: the lines before `from` are well formed, and the next has number n
+
+pub record Checked (s : List ℕ) (n from : ℕ) : Type 0 where
+  pub inside : from ≤ length s
+  pub few : n ≤ from + 1
+  pub rest : lineCheckFrom n (cut (drop from s)) ≡ lineCheck s
+
+pub checked-start : (s : List ℕ) → Checked s 1 0
+unfolding lineCheck
+checked-start s = record { inside = omega arith; few = omega arith; rest = refl }
+
+module _ {s : List ℕ} {n from : ℕ} (k : Checked s n from) where
+  pub checked-next : {e : ℕ} → LineAt s from e → isWellFormed (part s from e) ≡ true → Checked s (n + 1) (e + 2)
+  checked-next {e} h w = record {
+    inside = h .inside;
+    few = omega (arith, k .few, h .starts);
+    rest = sym (lineCheck-well n (part s from e) (cut (drop (e + 2) s)) w) ∙ sym (ap (lineCheckFrom n) (h .pieces)) ∙ k .rest;
+  }
+
+  pub checked-bad : {e : ℕ} → LineAt s from e → isWellFormed (part s from e) ≡ false → BadLine n ≡ lineCheck s
+  checked-bad {e} h w = sym (lineCheck-badly n (part s from e) (cut (drop (e + 2) s)) w) ∙ sym (ap (lineCheckFrom n) (h .pieces)) ∙ k .rest
+
+  pub checked-unended : LastPiece s from → BadLine n ≡ lineCheck s
+  unfolding lineCheckFrom
+  checked-unended h = sym (ap (lineCheckFrom n) (h .pieces)) ∙ k .rest
+
+  pub checked-end : NoPiece s from → Good ≡ lineCheck s
+  unfolding lineCheckFrom
+  checked-end h = sym (ap (lineCheckFrom n) (h .pieces)) ∙ k .rest
+
+-- ---- what the answer says
+
+-- well formed lines, each ended, are good
+good-from : (n : ℕ) (ls : List (List ℕ)) → everyLine isWellFormed ls ≡ true → lineCheckFrom n (linesOf ls) ≡ Good
+unfolding lineCheckFrom
+good-from n [] e = refl
+good-from n (l ∷ ls) e =
+    lineCheck-well n l (linesOf ls) (and-left (isWellFormed l) _ e) ∙ good-from (n + 1) ls (and-right (isWellFormed l) _ e)
+
+pub lines-good : (s : List ℕ) (ls : List (List ℕ)) → cut s ≡ linesOf ls → everyLine isWellFormed ls ≡ true → lineCheck s ≡ Good
+unfolding lineCheck
+lines-good s ls e w = ap (lineCheckFrom 1) e ∙ good-from 1 ls w
+
+never-good : {A : Type 0} {n : ℕ} → BadLine n ≡ Good → A
+never-good e = let z : _≡_ {A = ℕ} 0 1 = cc in absurd (omega arith)
+
+all-good : (n : ℕ) (p : Pieces) → lineCheckFrom n p ≡ Good → (p ≡ linesOf (allLines p)) × (everyLine isWellFormed (allLines p) ≡ true)
+unfolding lineCheckFrom
+all-good n end e = (refl, refl)
+all-good n (unended t) e = never-good e
+all-good n (line l p) e = go (isWellFormed l) refl (all-good (n + 1) p)
+  where
+    go : (t : Bool) → isWellFormed l ≡ t
+        → (lineCheckFrom (n + 1) p ≡ Good → (p ≡ linesOf (allLines p)) × (everyLine isWellFormed (allLines p) ≡ true))
+        → (line l p ≡ line l (linesOf (allLines p))) × ((isWellFormed l && everyLine isWellFormed (allLines p)) ≡ true)
+    go true w k = let r = k (sym (lineCheck-well n l p w) ∙ e) in (ap (line l) (r .0), and-both w (r .1))
+    go false w k = never-good (sym (lineCheck-badly n l p w) ∙ e)
+
+-- the check answers Good exactly where CR LF ends every line and each is well formed
+pub good-iff : (s : List ℕ) → (lineCheck s ≡ Good) ↔ AllGood s
+unfolding lineCheck contentLines
+good-iff s = (
+  λ e. record { ended = all-good 1 (cut s) e .0; good = all-good 1 (cut s) e .1 },
+  λ k. lines-good s (contentLines s) (k .ended) (k .good),
+)
+
+never-bad : {A : Type 0} {n : ℕ} → Good ≡ BadLine n → A
+never-bad e = let z : _≡_ {A = ℕ} 0 1 = cc in absurd (omega arith)
+
+same-number : {m n : ℕ} → BadLine m ≡ BadLine n → m ≡ n
+same-number e = cc
+
+bad-here : (n : ℕ) (p : Pieces) (k : ℕ) → beginsBadly p ≡ true → BadLine n ≡ BadLine k → FirstBad n p k
+unfolding linesThen
+bad-here n p k b e = record { earlier = []; rest = p; whole = refl; number = omega (arith, same-number e); good = refl; bad = b }
+
+first-bad : (n : ℕ) (p : Pieces) (k : ℕ) → lineCheckFrom n p ≡ BadLine k → FirstBad n p k
+unfolding lineCheckFrom linesThen beginsBadly
+first-bad n end k e = never-bad e
+first-bad n (unended t) k e = bad-here n (unended t) k refl e
+first-bad n (line l p) k e = go (isWellFormed l) refl (first-bad (n + 1) p k)
+  where
+    go : (t : Bool) → isWellFormed l ≡ t → (lineCheckFrom (n + 1) p ≡ BadLine k → FirstBad (n + 1) p k) → FirstBad n (line l p) k
+    go true w f =
+        let r : FirstBad (n + 1) p k = f (sym (lineCheck-well n l p w) ∙ e) in
+        record {
+          earlier = l ∷ r .earlier;
+          rest = r .rest;
+          whole = ap (line l) (r .whole);
+          number = omega (arith, r .number);
+          good = and-both w (r .good);
+          bad = r .bad;
+        }
+    go false w f = bad-here n (line l p) k (ap not w) (sym (lineCheck-badly n l p w) ∙ e)
+
+begins-badly : (n : ℕ) (p : Pieces) → beginsBadly p ≡ true → lineCheckFrom n p ≡ BadLine n
+unfolding beginsBadly lineCheckFrom
+begins-badly n end e = clash e refl
+begins-badly n (unended t) e = refl
+begins-badly n (line l p) e = lineCheck-badly n l p (not-true (isWellFormed l) e)
+
+then-bad : (n : ℕ) (ls : List (List ℕ)) (p : Pieces) → everyLine isWellFormed ls ≡ true → beginsBadly p ≡ true
+    → lineCheckFrom n (linesThen ls p) ≡ BadLine (n + length ls)
+unfolding linesThen
+then-bad n [] p g b = begins-badly n p b ∙ ap BadLine (omega arith)
+then-bad n (l ∷ ls) p g b =
+    lineCheck-well n l (linesThen ls p) (and-left (isWellFormed l) _ g)
+    ∙ then-bad (n + 1) ls p (and-right (isWellFormed l) _ g) b
+    ∙ ap BadLine (omega arith)
+
+-- it answers with a number exactly where that is the number of the first badly formed line
+pub bad-iff : (s : List ℕ) (k : ℕ) → (lineCheck s ≡ BadLine k) ↔ FirstBad 1 (cut s) k
+unfolding lineCheck
+bad-iff s k = (
+  λ e. first-bad 1 (cut s) k e,
+  λ f.
+      ap (lineCheckFrom 1) (f .whole) ∙ then-bad 1 (f .earlier) (f .rest) (f .good) (f .bad) ∙ ap BadLine (sym (f .number)),
+)

@@ -1,0 +1,7 @@
+pub mod Grammar
+pub mod Scanner
+pub mod Pieces
+pub mod Reading
+pub mod WellFormed
+pub mod Rendering
+pub mod File

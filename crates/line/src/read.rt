@@ -1,0 +1,151 @@
+// The name, the parameters and the value of a line, read in place.
+// A part that is handed back is a part of the caller's own slice.
+use crate::split;
+ghost use mathlib.Core.Path.{_≡_};
+ghost use mathlib.Core.List.{[]};
+ghost use Prim.Native.Nat.{_<_};
+ghost use lib.ListN.{length, getD};
+ghost use Rattle.line.specs.Reading.{headOf, valueOf, nameOf, parameterTexts, parameterName, isNamed, valuesOf};
+ghost use Rattle.line.specs.Reading.{parameterOf, lineOf, usageOf, countedWith, hasParameter, hasTwice, hasList, firstValue};
+
+// How often a parameter of a name stands on a line, and whether one of them has more than one value.
+pub struct Usage {
+    pub times: usize,
+    pub listed: bool,
+}
+
+// Name and parameters: what stands before the line's colon.
+pub fn head(line: &[u8]) -> &[u8]
+    ensures { λ r. ⌜ now r ≡ headOf (now (line .entry)) ⌝ }
+{
+    split::before(line, 58, true)
+}
+
+// What stands behind the line's colon.
+pub fn value(line: &[u8]) -> &[u8]
+    ensures { λ r. ⌜ now r ≡ valueOf (now (line .entry)) ⌝ }
+{
+    split::after(line, 58, true)
+}
+
+pub fn name(line: &[u8]) -> &[u8]
+    ensures { λ r. ⌜ now r ≡ nameOf (now (line .entry)) ⌝ }
+{
+    split::before(head(line), 59, true)
+}
+
+pub fn parameter_count(line: &[u8]) -> usize
+    ensures { λ r. ⌜ r ≡ length (parameterTexts (now (line .entry))) ⌝ }
+{
+    split::piece_count(head(line), 59, true) - 1
+}
+
+// Parameter number n as it is written, counted from 0; nothing, where there are not so many.
+pub fn parameter(line: &[u8], n: usize) -> &[u8]
+    ensures { λ r. ⌜ now r ≡ getD (parameterTexts (now (line .entry))) n [] ⌝ }
+{
+    split::nth_piece(split::after(head(line), 59, true), 59, true, n)
+}
+
+pub fn parameter_name(p: &[u8]) -> &[u8]
+    ensures { λ r. ⌜ now r ≡ parameterName (now (p .entry)) ⌝ }
+{
+    split::before(p, 61, true)
+}
+
+// Does the parameter have the name, ASCII case disregarded?
+pub fn is_named(p: &[u8], name: &[u8]) -> bool
+    ensures { λ r. ⌜ r ≡ isNamed (now (name .entry)) (now (p .entry)) ⌝ }
+{
+    ascii::same_name(parameter_name(p), name)
+}
+
+pub fn value_count(p: &[u8]) -> usize
+    ensures { λ r. ⌜ r ≡ length (valuesOf (now (p .entry))) ⌝ }
+{
+    split::piece_count(split::after(p, 61, true), 44, true)
+}
+
+// Value number n of a parameter, quotes taken off; nothing, where there are not so many.
+pub fn parameter_value(p: &[u8], n: usize) -> &[u8]
+    ensures { λ r. ⌜ now r ≡ getD (valuesOf (now (p .entry))) n [] ⌝ }
+{
+    split::quotes_off(split::nth_piece(split::after(p, 61, true), 44, true, n))
+}
+
+// How the name is used on the line, in one pass over its parameters.
+pub fn usage_of(line: &[u8], name: &[u8]) -> Usage
+    ensures { λ r. ⌜ r ≡ usageOf (now (name .entry)) (lineOf (now (line .entry)) .parameters) ⌝ }
+{
+    let h = head(line);
+    let mut u = Usage {
+        times: 0,
+        listed: false,
+    };
+    let mut at = split::find(h, 0, 59, true);
+    while at < h.len() {
+        let from = at + 1;
+        let e = split::find(h, from, 59, true);
+        u = counted(u, &h[from..e], name);
+        at = e;
+    }
+    u
+}
+
+// The count with the parameter p, where that has the name.
+fn counted(u: Usage, p: &[u8], name: &[u8]) -> Usage
+    requires { ⌜ u .times < 18446744073709551615 ⌝ }
+    ensures { λ r. ⌜ r ≡ countedWith (now (name .entry)) u (parameterOf (now (p .entry))) ⌝ }
+{
+    let times = u.times;
+    let listed = u.listed;
+    if is_named(p, name) {
+        let list = 1 < value_count(p);
+        Usage {
+            times: times + 1,
+            listed: listed | list,
+        }
+    } else {
+        u
+    }
+}
+
+pub fn has_parameter(line: &[u8], name: &[u8]) -> bool
+    ensures { λ r. ⌜ r ≡ hasParameter (now (name .entry)) (lineOf (now (line .entry))) ⌝ }
+{
+    let u = usage_of(line, name);
+    0 < u.times
+}
+
+pub fn has_parameter_twice(line: &[u8], name: &[u8]) -> bool
+    ensures { λ r. ⌜ r ≡ hasTwice (now (name .entry)) (lineOf (now (line .entry))) ⌝ }
+{
+    let u = usage_of(line, name);
+    1 < u.times
+}
+
+// Does a parameter of the name have more than one value?
+pub fn has_parameter_list(line: &[u8], name: &[u8]) -> bool
+    ensures { λ r. ⌜ r ≡ hasList (now (name .entry)) (lineOf (now (line .entry))) ⌝ }
+{
+    let u = usage_of(line, name);
+    u.listed
+}
+
+// The first value of the first parameter of the name, quotes taken off; nothing, where there is none.
+pub fn first_value<'a>(line: &'a [u8], name: &[u8]) -> &'a [u8]
+    ensures { λ r. ⌜ now r ≡ firstValue (now (name .entry)) (lineOf (now (line .entry))) ⌝ }
+{
+    let h = head(line);
+    let mut at = split::find(h, 0, 59, true);
+    while at < h.len() {
+        let from = at + 1;
+        let e = split::find(h, from, 59, true);
+        let p = &h[from..e];
+        if is_named(p, name) {
+            return parameter_value(p, 0);
+        }
+        at = e;
+    }
+    &h[..0]
+}
