@@ -1,0 +1,11 @@
+pub mod Tables
+pub mod Years
+pub mod Months
+pub mod Readers
+pub mod Seconds
+pub mod Durations
+pub mod Calendar
+pub mod Putting
+pub mod Written
+pub mod Examples
+pub mod Grammar

@@ -1,0 +1,44 @@
+-- The three ways out are the definition's tests; a day that is there is in one of twelve months, so that the sums fit.
+use Rattle.time.proofs.Readers.{day-parts, checkedDay-below, checkedDay-above, checkedDay-of}
+use Rattle.time.proofs.Months.{monthDays-month}
+use native.Mathlib.Omega.{arith}
+use borrow.Author.Needs.{needs}
+use Rattle.time.proofs.date_time.checked_day.Statement.{statement}
+use Rattle.time.proofs.date_time.checked_day.Tie as tie
+
+returns : tie.Need-returns
+returns c = checkedDay-below _ _ _ (c .if1 .taken)
+
+month-days-requires : tie.Need-month-days-requires
+month-days-requires c κs = search needs
+
+returns-2 : tie.Need-returns-2
+returns-2 c = checkedDay-above _ _ _ _ (c .before .before .if1 .left) (c .before .month-days .ensures) (c .if2 .taken)
+
+days-before-year-requires : tie.Need-days-before-year-requires
+days-before-year-requires c κs = search needs
+
+days-before-month-requires : tie.Need-days-before-month-requires
+days-before-month-requires c κs = monthDays-month _ _ _ _ (c .before .before .before .if1 .left) (c .before .before .month-days .ensures) (c .before .if2 .left)
+
+add-t7 : tie.Need-add-t7
+add-t7 c = omega (arith, day-parts _ _ _ _ _ _ (c .before .before .before .before .before .pre) (c .before .before .before .before .if1 .left) (c .before .before .before .month-days .ensures) (c .before .before .if2 .left) (c .before .days-before-year .ensures) (c .days-before-month .ensures))
+
+add-t9 : tie.Need-add-t9
+add-t9 c = omega (arith, day-parts _ _ _ _ _ _ (c .before .before .before .before .before .pre) (c .before .before .before .before .if1 .left) (c .before .before .before .month-days .ensures) (c .before .before .if2 .left) (c .before .days-before-year .ensures) (c .days-before-month .ensures))
+
+returns-3 : tie.Need-returns-3
+returns-3 c = checkedDay-of _ _ _ _ _ _ (c .before .before .before .before .if1 .left) (c .before .before .before .month-days .ensures) (c .before .before .if2 .left) (c .before .days-before-year .ensures) (c .days-before-month .ensures)
+
+pub checked-day-spec : {M : Type 1} → statement M
+checked-day-spec =
+    tie.close
+    (tie.spec
+    returns
+    month-days-requires
+    returns-2
+    days-before-year-requires
+    days-before-month-requires
+    add-t7
+    add-t9
+    returns-3)

@@ -1,0 +1,72 @@
+-- Each way out is a case of the three numbers.
+use Rattle.time.specs.DateTime.{dateAt}
+use Rattle.time.proofs.Readers.{yearAt-small, three-first, three-second, three-third, three-all}
+use mathlib.Core.Path.{sym, _∙_}
+use borrow.Author.Needs.{needs}
+use Rattle.time.proofs.date_time.date_at.Statement.{statement}
+use Rattle.time.proofs.date_time.date_at.Tie as tie
+
+year-at-requires : tie.Need-year-at-requires
+year-at-requires c κs = search needs
+
+enum-told : tie.Need-enum-told
+enum-told c = search needs
+
+enum-known-year : tie.Need-enum-known-year
+enum-known-year c = search needs
+
+pair-at-requires : tie.Need-pair-at-requires
+pair-at-requires c κs = search needs
+
+enum-told-2 : tie.Need-enum-told-2
+enum-told-2 c = search needs
+
+enum-known-month : tie.Need-enum-known-month
+enum-known-month c = search needs
+
+pair-at-requires-2 : tie.Need-pair-at-requires-2
+pair-at-requires-2 c κs = search needs
+
+enum-told-3 : tie.Need-enum-told-3
+enum-told-3 c = search needs
+
+enum-known-day : tie.Need-enum-known-day
+enum-known-day c = search needs
+
+checked-day-requires : tie.Need-checked-day-requires
+checked-day-requires c κs = yearAt-small _ _ (sym (c .before .before .before .before .before .before .before .before .before .before .before .year-at .ensures) ∙ c .before .before .before .before .before .before .before .before .before .year .given .1)
+
+returns : tie.Need-returns
+unfolding dateAt
+returns c = three-first _ _ _ _ (sym (c .before .before .year-at .ensures) ∙ c .enum-told .given .1)
+
+returns-2 : tie.Need-returns-2
+unfolding dateAt
+returns-2 c = three-second _ _ _ _ (sym (c .before .before .before .before .before .before .year-at .ensures) ∙ c .before .before .before .before .year .given .1) (sym (c .before .before .pair-at .ensures) ∙ c .enum-told2 .given .1)
+
+returns-3 : tie.Need-returns-3
+unfolding dateAt
+returns-3 c = three-third _ _ _ _ (sym (c .before .before .before .before .before .before .before .before .before .before .year-at .ensures) ∙ c .before .before .before .before .before .before .before .before .year .given .1) (sym (c .before .before .before .before .before .before .pair-at .ensures) ∙ c .before .before .before .before .month .given .1) (sym (c .before .before .pair-at2 .ensures) ∙ c .enum-told3 .given .1)
+
+returns-4 : tie.Need-returns-4
+unfolding dateAt
+returns-4 c = c .checked-day .ensures ∙ three-all _ _ _ _ (sym (c .before .before .before .before .before .before .before .before .before .before .before .before .year-at .ensures) ∙ c .before .before .before .before .before .before .before .before .before .before .year .given .1) (sym (c .before .before .before .before .before .before .before .before .pair-at .ensures) ∙ c .before .before .before .before .before .before .month .given .1) (sym (c .before .before .before .before .pair-at2 .ensures) ∙ c .before .before .day .given .1)
+
+pub date-at-spec : {M : Type 1} → statement M
+date-at-spec =
+    tie.close
+    (tie.spec
+    year-at-requires
+    enum-told
+    enum-known-year
+    pair-at-requires
+    enum-told-2
+    enum-known-month
+    pair-at-requires-2
+    enum-told-3
+    enum-known-day
+    checked-day-requires
+    returns
+    returns-2
+    returns-3
+    returns-4)

@@ -1,0 +1,31 @@
+-- Two runs of bytes, one behind the other, are the text.
+use Rattle.time.proofs.Written.{written-parts}
+use Rattle.time.specs.Limits.{lastSecond}
+use native.Mathlib.Omega.{arith}
+use borrow.Author.Needs.{needs}
+use Rattle.time.proofs.writing.write_utc.Statement.{statement}
+use Rattle.time.proofs.writing.write_utc.Tie as tie
+
+day-of-requires : tie.Need-day-of-requires
+unfolding lastSecond
+day-of-requires c κs = omega arith
+
+put-date-requires : tie.Need-put-date-requires
+put-date-requires c κs = search needs
+
+add-put-time : tie.Need-add-put-time
+add-put-time c = search needs
+
+put-time-requires : tie.Need-put-time-requires
+put-time-requires c κs = search needs
+
+same-length : tie.Need-same-length
+same-length c = search needs
+
+returns : tie.Need-returns
+returns c = written-parts (c .before .before .before .before .before .before .before .before .before .before .args .out .now) _ _ (c .before .before .before .before .before .before .before .before .before .before .args .at) (c .before .before .before .before .before .before .before .before .before .before .args .t) _ (c .before .before .before .before .before .before .before .day-of .ensures) (c .before .before .before .before .before .before .put-date .ensures) (c .before .before .put-time .ensures)
+
+pub write-utc-spec : {M : Type 1} → statement M
+write-utc-spec =
+    tie.close
+    (tie.spec day-of-requires put-date-requires add-put-time put-time-requires same-length returns)
