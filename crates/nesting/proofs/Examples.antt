@@ -1,0 +1,95 @@
+-- Examples at the edges of the nesting rules: one table, one statement.
+use Prim.Native.Nat.{ℕ, zero, suc}
+use Prim.Native.String.{String}
+use mathlib.Core.Path.{_≡_, refl, ap}
+use mathlib.Core.Bool.{Bool, true, false, _&&_}
+use mathlib.Core.List.{List, [], _∷_, _++_}
+use lib.Dec.{eqb}
+use borrow.Author.Tests.{eqb-true}
+use Rattle.ascii.specs.Bytes.{upper, isNameByte, isLetter, isDigit}
+use Rattle.ascii.specs.Names.{sameName, isName}
+use Rattle.ascii.specs.Words.{ascii}
+use Rattle.ascii.proofs.Bools.{and-left, and-right, clash}
+use Rattle.line.specs.Grammar.{ContentLine}
+use Rattle.line.specs.Pieces.{firstOutside, before, after, pieces}
+use Rattle.line.specs.Reading.{lineOf, nameOf, headOf, valueOf, parameterTexts}
+use Rattle.nesting.specs.Marks.{markOf}
+use Rattle.nesting.specs.Nesting.{isCalendar, isEvent, isFreeBusy, mayBegin, afterBegin, afterEnd, afterProperty, afterWrong, walk, outcome, nestingOf}
+use Rattle.nesting.specs.declared.Nesting.{Nesting}
+use Rattle.nesting.specs.declared.Nesting.the-variants.{Good, BadLine}
+
+-- lines as they are written, and what is said of them
+pub record Example : Type 0 where
+  pub texts : List String
+  pub said : Nesting
+
+abbrev pub linesOf : List String → List ContentLine
+linesOf [] = []
+linesOf (l ∷ ls) = lineOf (ascii l) ∷ linesOf ls
+
+abbrev pub AllHold : List Example → Type 0
+AllHold [] = Unit {0}
+AllHold (x ∷ xs) = (nestingOf (linesOf (x .texts)) ≡ x .said) × AllHold xs
+
+abbrev same : Nesting → Nesting → Bool
+same Good Good = true
+same Good (BadLine j) = false
+same (BadLine i) Good = false
+same (BadLine i) (BadLine j) = eqb i j
+
+same-eq : (a b : Nesting) → same a b ≡ true → a ≡ b
+same-eq Good Good e = refl
+same-eq Good (BadLine j) e = clash e refl
+same-eq (BadLine i) Good e = clash e refl
+same-eq (BadLine i) (BadLine j) e = ap BadLine (eqb-true i j e)
+
+abbrev test : List Example → Bool
+test [] = true
+test (x ∷ xs) = same (nestingOf (linesOf (x .texts))) (x .said) && test xs
+
+sound : (xs : List Example) → test xs ≡ true → AllHold xs
+sound [] e = tt
+sound (x ∷ xs) e = (
+  same-eq (nestingOf (linesOf (x .texts))) (x .said) (and-left (same (nestingOf (linesOf (x .texts))) (x .said)) (test xs) e),
+  sound xs (and-right (same (nestingOf (linesOf (x .texts))) (x .said)) (test xs) e),
+)
+
+abbrev pub example : List String → Nesting → Example
+example ls r = record { texts = ls; said = r }
+
+-- the same lines, so many times
+abbrev pub times : ℕ → List String → List String
+times zero ls = []
+times (suc n) ls = ls ++ times n ls
+
+-- inside VCALENDAR, a component in a component, so many
+abbrev pub deep : ℕ → List String
+deep n = ("BEGIN:VCALENDAR" ∷ times n ("BEGIN:A" ∷ [])) ++ (times n ("END:A" ∷ []) ++ ("END:VCALENDAR" ∷ []))
+
+-- inside VCALENDAR, components side by side, so many
+abbrev pub wide : ℕ → List String
+wide n = "BEGIN:VCALENDAR" ∷ (times n ("BEGIN:A" ∷ "END:A" ∷ []) ++ ("END:VCALENDAR" ∷ []))
+
+abbrev pub table : List Example
+table =
+    example ("BEGIN:VCALENDAR" ∷ "END:vcalendar" ∷ []) Good
+    ∷ example ("BEGIN:VCALENDAR" ∷ "BEGIN:VEVENT" ∷ "UID:1" ∷ "BEGIN:VALARM" ∷ "END:VALARM" ∷ "END:VEVENT" ∷ "END:VCALENDAR" ∷ []) Good
+    ∷ example ("BEGIN:VCALENDAR" ∷ "BEGIN:-" ∷ "END:-" ∷ "VCALENDAR:1" ∷ "END:VCALENDAR" ∷ []) Good
+    ∷ example (deep 7) Good
+    ∷ example (deep 8) (BadLine 9)
+    ∷ example (wide 255) Good
+    ∷ example (wide 256) (BadLine 512)
+    ∷ example [] (BadLine 1)
+    ∷ example ("VERSION:2.0" ∷ "BEGIN:VCALENDAR" ∷ []) (BadLine 1)
+    ∷ example ("BEGIN:VCALENDAR" ∷ "VERSION:2.0" ∷ []) (BadLine 3)
+    ∷ example ("BEGIN:VCALENDAR" ∷ "BEGIN:VCALENDAR" ∷ []) (BadLine 2)
+    ∷ example ("BEGIN:VCALENDAR" ∷ "END:VCALENDAR" ∷ "BEGIN:VCALENDAR" ∷ []) (BadLine 3)
+    ∷ example ("BEGIN:VCALENDAR" ∷ "BEGIN:VTODO" ∷ "BEGIN:VEVENT" ∷ []) (BadLine 3)
+    ∷ example ("BEGIN:VCALENDAR" ∷ "BEGIN:VTODO" ∷ "END:VCALENDAR" ∷ []) (BadLine 3)
+    ∷ example ("BEGIN:VCALENDAR" ∷ "BEGIN;X=1:VTODO" ∷ []) (BadLine 2)
+    ∷ example ("BEGIN:VCALENDAR" ∷ "BEGIN:A B" ∷ []) (BadLine 2)
+    ∷ []
+
+pub edges : AllHold table
+unfolding nestingOf walk outcome markOf lineOf nameOf headOf valueOf parameterTexts firstOutside before after pieces sameName upper isName isNameByte isLetter isDigit isCalendar isEvent isFreeBusy mayBegin afterBegin afterEnd afterProperty afterWrong
+edges = sound table refl

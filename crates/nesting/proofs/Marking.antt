@@ -1,0 +1,146 @@
+-- What a line is to the nesting, and what it does to the innermost open component.
+use Prim.Native.Nat.{ℕ, _+_, _-_, _≤_}
+use mathlib.Core.Path.{_≡_, refl, sym, ap, _∙_}
+use mathlib.Core.Bool.{Bool, true, false, cond, _&&_}
+use mathlib.Core.List.{List, [], _∷_, map}
+use native.Mathlib.Omega.{arith}
+use lib.Dec.{eqb}
+use lib.ListN.{length}
+use borrow.Author.Tests.{ne-eqb}
+use Rattle.ascii.specs.Names.{sameName, isName}
+use Rattle.ascii.specs.Words.{ascii}
+use Rattle.ascii.proofs.Bools.{clash}
+use Rattle.line.specs.Grammar.{ContentLine}
+use Rattle.line.specs.Reading.{lineOf, nameOf, valueOf, parameterTexts, parameterOf}
+use Rattle.nesting.specs.Marks.{markOf, markedBy, noParameters}
+use Rattle.nesting.specs.Nesting.{mayBegin, Walk, inside, broken, afterBegin, outside, afterEnd, afterProperty, afterWrong, afterMark}
+use Rattle.nesting.specs.Passing.{metBy}
+use Rattle.nesting.specs.declared.Mark.{Mark}
+use Rattle.nesting.specs.declared.Mark.the-variants.{Begins, Ends, Property, Wrong}
+use Rattle.nesting.specs.declared.Met.{Met}
+use Rattle.nesting.specs.declared.Met.the-variants.{Opens, Stays, Closes, Breaks}
+use Rattle.nesting.proofs.Walks.{may-begin-stands}
+
+-- ---- what a line is
+
+no-parameters : (ts : List (List ℕ)) → noParameters (map parameterOf ts) ≡ eqb (length ts) 0
+no-parameters [] = refl
+no-parameters (t ∷ ts) = sym (ne-eqb (length (t ∷ ts)) 0 (λ e. omega arith))
+
+-- the code's test is the rule's
+marked-test : (l : List ℕ) (n : ℕ) (b : Bool) → n ≡ length (parameterTexts l) → b ≡ isName (valueOf l)
+    → (noParameters (lineOf l .parameters) && isName (lineOf l .value)) ≡ (eqb n 0 && b)
+unfolding lineOf
+marked-test l n b p q = rw (no-parameters (parameterTexts l), p, q)
+
+pub marked-yes : (l : List ℕ) (m : Mark) (n : ℕ) (b : Bool) → n ≡ length (parameterTexts l) → b ≡ isName (valueOf l)
+    → (eqb n 0 && b) ≡ true → m ≡ markedBy (lineOf l) m
+marked-yes l m n b p q e = sym (ap (λ (t : Bool). cond t m Wrong) (marked-test l n b p q ∙ e))
+
+pub marked-no : (l : List ℕ) (m : Mark) (n : ℕ) (b : Bool) → n ≡ length (parameterTexts l) → b ≡ isName (valueOf l)
+    → (eqb n 0 && b) ≡ false → Wrong ≡ markedBy (lineOf l) m
+marked-no l m n b p q e = sym (ap (λ (t : Bool). cond t m Wrong) (marked-test l n b p q ∙ e))
+
+-- the mark of a line whose name is BEGIN, or is END
+abbrev marking : ContentLine → Bool → Bool → Mark
+marking x a b = cond a (markedBy x Begins) (cond b (markedBy x Ends) Property)
+
+module _ (l n : List ℕ) (p : n ≡ nameOf l) (t : Bool) (q : t ≡ sameName n (ascii "BEGIN")) where
+  mark-is : (u : Bool) → u ≡ sameName n (ascii "END") → markOf (lineOf l) ≡ marking (lineOf l) t u
+  unfolding markOf lineOf
+  mark-is u v = rw (q, v, p)
+
+  pub mark-begin : (r : Mark) → t ≡ true → r ≡ markedBy (lineOf l) Begins → r ≡ markOf (lineOf l)
+  mark-begin r e h = h ∙ sym (mark-is (sameName n (ascii "END")) refl ∙ ap (λ (a : Bool). marking (lineOf l) a (sameName n (ascii "END"))) e)
+
+  module _ (u : Bool) (v : u ≡ sameName n (ascii "END")) (e : t ≡ false) where
+    mark-later : (b : Bool) → u ≡ b → markOf (lineOf l) ≡ marking (lineOf l) false b
+    mark-later b f = mark-is u v ∙ ap (λ (a : Bool). marking (lineOf l) a u) e ∙ ap (marking (lineOf l) false) f
+
+    pub mark-end : (r : Mark) → u ≡ true → r ≡ markedBy (lineOf l) Ends → r ≡ markOf (lineOf l)
+    mark-end r f h = h ∙ sym (mark-later true f)
+
+    pub mark-property : u ≡ false → Property ≡ markOf (lineOf l)
+    mark-property f = sym (mark-later false f)
+
+-- ---- what a line does to the innermost open component
+
+abbrev pub afterMet : Met → ℕ → List ℕ → List ℕ → List (List ℕ) → ℕ → Walk
+afterMet Opens i v n o k = inside (v ∷ n ∷ o) (k + 1)
+afterMet Stays i v n o k = inside (n ∷ o) k
+afterMet Closes i v n o k = outside o k
+afterMet Breaks i v n o k = broken i
+
+pub after-met : (m : Mark) (x : ContentLine) (i : ℕ) (n : List ℕ) (o : List (List ℕ)) (k : ℕ)
+    → afterMark m i x (inside (n ∷ o) k) ≡ afterMet (metBy m (x .value) n (length (n ∷ o) + 1) (k + 1)) i (x .value) n o k
+unfolding metBy afterBegin afterEnd afterProperty afterWrong
+after-met Begins x i n o k = go (mayBegin (x .value) (length (n ∷ o) + 1) (k + 1))
+  where
+    go : (t : Bool) → cond t (inside (x .value ∷ n ∷ o) (k + 1)) (broken i) ≡ afterMet (cond t Opens Breaks) i (x .value) n o k
+    go true = refl
+    go false = refl
+after-met Ends x i n o k = go (sameName (x .value) n)
+  where
+    go : (t : Bool) → cond t (outside o k) (broken i) ≡ afterMet (cond t Closes Breaks) i (x .value) n o k
+    go true = refl
+    go false = refl
+after-met Property x i n o k = refl
+after-met Wrong x i n o k = refl
+
+-- where one more may begin there is room for it
+pub record Room (left count : ℕ) : Type 0 where
+  pub some : 1 ≤ left
+  pub few : count ≤ 256
+
+abbrev isOpens : Met → Bool
+isOpens Opens = true
+isOpens Stays = false
+isOpens Closes = false
+isOpens Breaks = false
+
+cond-opens : (t : Bool) (m : Met) → isOpens m ≡ false → isOpens (cond t m Breaks) ≡ false
+cond-opens true m e = e
+cond-opens false m e = refl
+
+opens-may : (m : Mark) (v n : List ℕ) (d k : ℕ) → isOpens (metBy m v n d k) ≡ true → mayBegin v d k ≡ true
+unfolding metBy
+opens-may Begins v n d k e = go (mayBegin v d k) e
+  where
+    go : (t : Bool) → isOpens (cond t Opens Breaks) ≡ true → t ≡ true
+    go true h = refl
+    go false h = h
+opens-may Ends v n d k e = clash e (cond-opens (sameName v n) Closes refl)
+opens-may Property v n d k e = clash e refl
+opens-may Wrong v n d k e = clash e refl
+
+pub opens-room : (m : Mark) (x : ContentLine) (n : List ℕ) (left k : ℕ) → metBy m (x .value) n (10 - left) k ≡ Opens → Room left k
+opens-room m x n left k e =
+    let b = may-begin-stands (record { number = 0; line = x }) (10 - left) k (opens-may m (x .value) n (10 - left) k (ap isOpens e)) in
+    record { some = omega (arith, b .stands .at-most-8); few = b .counted }
+
+-- ---- the function that says what a line does
+
+module _ (n : List ℕ) (d k : ℕ) {m r : Mark} {v w : List ℕ} {t : Bool} (p : r ≡ m) (g : w ≡ v) where
+  pub met-opens : r ≡ Begins → t ≡ mayBegin w d k → t ≡ true → Opens ≡ metBy m v n d k
+  unfolding metBy
+  met-opens b e h = rw (sym p ∙ b, sym g, sym e ∙ h)
+
+  pub met-begin-breaks : r ≡ Begins → t ≡ mayBegin w d k → t ≡ false → Breaks ≡ metBy m v n d k
+  unfolding metBy
+  met-begin-breaks b e h = rw (sym p ∙ b, sym g, sym e ∙ h)
+
+  pub met-closes : r ≡ Ends → t ≡ sameName w n → t ≡ true → Closes ≡ metBy m v n d k
+  unfolding metBy
+  met-closes b e h = rw (sym p ∙ b, sym g, sym e ∙ h)
+
+  pub met-end-breaks : r ≡ Ends → t ≡ sameName w n → t ≡ false → Breaks ≡ metBy m v n d k
+  unfolding metBy
+  met-end-breaks b e h = rw (sym p ∙ b, sym g, sym e ∙ h)
+
+pub met-stays : (v n : List ℕ) (d k : ℕ) {m r : Mark} → r ≡ m → r ≡ Property → Stays ≡ metBy m v n d k
+unfolding metBy
+met-stays v n d k p b = rw (sym p ∙ b)
+
+pub met-wrong : (v n : List ℕ) (d k : ℕ) {m r : Mark} → r ≡ m → r ≡ Wrong → Breaks ≡ metBy m v n d k
+unfolding metBy
+met-wrong v n d k p b = rw (sym p ∙ b)

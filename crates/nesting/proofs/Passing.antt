@@ -1,0 +1,227 @@
+-- How reading a component goes from line to line, and how the whole file is read.
+use Prim.Native.Nat.{ℕ, suc, _+_, _-_, _≤_}
+use mathlib.Core.Path.{_≡_, refl, sym, ap, _∙_, subst}
+use mathlib.Core.Bool.{Bool, true, false, cond}
+use mathlib.Core.List.{List, [], _∷_, map}
+use native.Mathlib.Omega.{arith}
+use lib.ListN.{length}
+use Rattle.ascii.specs.Names.{sameName}
+use Rattle.ascii.specs.Words.{ascii}
+use Rattle.text.specs.Lines.{contentLines, part, LineFrom, NoLineFrom}
+use Rattle.line.specs.Grammar.{ContentLine}
+use Rattle.line.specs.Reading.{lineOf, valueOf}
+use Rattle.nesting.specs.Marks.{markOf}
+use Rattle.nesting.specs.Nesting.{isCalendar, Walk, start, inside, closed, broken, afterBegin, afterEnd, afterProperty, afterWrong, afterMark, walk, outcome, nestingOf}
+use Rattle.nesting.specs.WellNested.{numberedFrom}
+use Rattle.nesting.specs.Passing.{linesAt, nestingIn, nestingFrom, metBy, beginsBy, beginsCalendar, ClosesAt, BreaksBefore, ReadsTo}
+use Rattle.nesting.specs.declared.Mark.{Mark}
+use Rattle.nesting.specs.declared.Mark.the-variants.{Begins, Ends, Property, Wrong}
+use Rattle.nesting.specs.declared.Nesting.{Nesting}
+use Rattle.nesting.specs.declared.Nesting.the-variants.{Good, BadLine}
+use Rattle.nesting.specs.declared.Met.{Met}
+use Rattle.nesting.specs.declared.Met.the-variants.{Opens, Stays, Closes, Breaks}
+use Rattle.nesting.specs.declared.Closed.{Closed}
+use Rattle.nesting.specs.declared.Closed.the-variants.{At, Broken}
+use Rattle.nesting.proofs.Walks.{walk-numbered, stays-broken, after-closed}
+use Rattle.nesting.proofs.Marking.{afterMet, after-met, Room, opens-room}
+
+-- ---- lines from a place on
+
+pub lines-next : {s : List ℕ} {at e next : ℕ} → LineFrom s at e next → linesAt s at ≡ lineOf (part s at e) ∷ linesAt s next
+unfolding linesAt
+lines-next h = ap (map lineOf) (h .lines)
+
+pub lines-none : {s : List ℕ} {at : ℕ} → NoLineFrom s at → linesAt s at ≡ []
+unfolding linesAt
+lines-none h = ap (map lineOf) (h .lines)
+
+-- ---- the outcome from a line on
+
+from-next : (i : ℕ) (w : Walk) (x : ContentLine) (xs : List ContentLine)
+    → nestingFrom i w (x ∷ xs) ≡ nestingFrom (i + 1) (afterMark (markOf x) i x w) xs
+unfolding nestingFrom walk
+from-next i w x xs =
+    let n : i + suc (length xs) ≡ i + 1 + length xs = omega arith in
+    let m : suc i ≡ i + 1 = omega arith in
+    ap (λ (j : ℕ). outcome j (walk (suc i) (afterMark (markOf x) i x w) xs)) n
+    ∙ ap (λ (j : ℕ). outcome (i + 1 + length xs) (walk j (afterMark (markOf x) i x w) xs)) m
+
+from-none : (i : ℕ) (w : Walk) → nestingFrom i w [] ≡ outcome i w
+unfolding nestingFrom walk
+from-none i w = let n : i + 0 ≡ i = omega arith in ap (λ (j : ℕ). outcome j w) n
+
+from-broken : (i j : ℕ) (xs : List ContentLine) → nestingFrom i (broken j) xs ≡ BadLine j
+unfolding nestingFrom outcome
+from-broken i j xs = ap (outcome (i + length xs)) (walk-numbered i (broken j) xs ∙ stays-broken j (numberedFrom i xs))
+
+-- ---- reading a component
+
+-- what a caller learns from each answer
+pub closes-at : {s name : List ℕ} {at number count left : ℕ} {r : Closed} (a i c : ℕ) → ReadsTo s name at number count left r → r ≡ At a i c
+    → ClosesAt s name at number count left a i c
+unfolding ReadsTo
+closes-at {s} {name} {at} {number} {count} {left} a i c h q = subst (ReadsTo s name at number count left) q h
+
+pub breaks-before : {s name : List ℕ} {at number count left : ℕ} {r : Closed} (j : ℕ) → ReadsTo s name at number count left r → r ≡ Broken j
+    → BreaksBefore s name at number count left j
+unfolding ReadsTo
+breaks-before {s} {name} {at} {number} {count} {left} j h q = subst (ReadsTo s name at number count left) q h
+
+-- from place at₀ the reading has come to place at, and the outcome is decided from there
+pub record Reading (s name : List ℕ) (at₀ number₀ count₀ left at number count : ℕ) : Type 0 where
+  pub onward : at₀ ≤ at
+  pub within : at ≤ length s
+  pub numbered : number ≤ at + 1
+  pub counted : count ≤ 256
+  pub decided : (o : List (List ℕ)) → length o + left ≡ 8
+      → nestingFrom number₀ (inside (name ∷ o) count₀) (linesAt s at₀) ≡ nestingFrom number (inside (name ∷ o) count) (linesAt s at)
+
+pub reading-start : (s name : List ℕ) (at number count left : ℕ) → at ≤ length s → number ≤ at + 1 → count ≤ 256
+    → Reading s name at number count left at number count
+reading-start s name at number count left h n k = record { onward = omega arith; within = h; numbered = n; counted = k; decided = λ o e. refl }
+
+module _ {s name : List ℕ} {at₀ number₀ count₀ left at number count : ℕ} (r : Reading s name at₀ number₀ count₀ left at number count) where
+  -- the file just stops
+  pub reading-end : NoLineFrom s at → ReadsTo s name at₀ number₀ count₀ left (Broken number)
+  unfolding ReadsTo outcome
+  reading-end h = record {
+    decided = λ o e. r .decided o e ∙ ap (nestingFrom number (inside (name ∷ o) count)) (lines-none h) ∙ from-none number (inside (name ∷ o) count);
+  }
+
+  module _ {e next : ℕ} (h : LineFrom s at e next) (m : Met) (q : m ≡ metBy (markOf (lineOf (part s at e))) (valueOf (part s at e)) name (10 - left) (count + 1)) where
+    met-next : (o : List (List ℕ)) → length o + left ≡ 8 → nestingFrom number₀ (inside (name ∷ o) count₀) (linesAt s at₀)
+        ≡ nestingFrom (number + 1) (afterMet m number (valueOf (part s at e)) name o count) (linesAt s next)
+    unfolding lineOf
+    met-next o w =
+        let x = lineOf (part s at e) in
+        let d : length (name ∷ o) + 1 ≡ 10 - left = omega arith in
+        r .decided o w
+        ∙ ap (nestingFrom number (inside (name ∷ o) count)) (lines-next h)
+        ∙ from-next number (inside (name ∷ o) count) x (linesAt s next)
+        ∙ ap (λ (v : Walk). nestingFrom (number + 1) v (linesAt s next))
+        (after-met (markOf x) x number name o count
+        ∙ ap (λ (j : ℕ). afterMet (metBy (markOf x) (x .value) name j (count + 1)) number (x .value) name o count) d
+        ∙ ap (λ (j : Met). afterMet j number (x .value) name o count) (sym q))
+
+    met-case : (j : Met) → m ≡ j → (o : List (List ℕ)) → length o + left ≡ 8 → nestingFrom number₀ (inside (name ∷ o) count₀) (linesAt s at₀)
+        ≡ nestingFrom (number + 1) (afterMet j number (valueOf (part s at e)) name o count) (linesAt s next)
+    met-case j p o w =
+        met-next o w ∙ ap (λ (i : Met). nestingFrom (number + 1) (afterMet i number (valueOf (part s at e)) name o count) (linesAt s next)) p
+
+    pub reading-stays : m ≡ Stays → Reading s name at₀ number₀ count₀ left next (number + 1) count
+    reading-stays p = record {
+      onward = omega (arith, r .onward, h .goes-on);
+      within = h .inside;
+      numbered = omega (arith, r .numbered, h .goes-on);
+      counted = r .counted;
+      decided = met-case Stays p;
+    }
+
+    pub reading-closes : m ≡ Closes → ReadsTo s name at₀ number₀ count₀ left (At next (number + 1) count)
+    unfolding ReadsTo
+    reading-closes p = record {
+      onward = omega (arith, r .onward, h .goes-on);
+      within = h .inside;
+      numbered = omega (arith, r .numbered, h .goes-on);
+      counted = r .counted;
+      decided = met-case Closes p;
+    }
+
+    pub reading-breaks : m ≡ Breaks → ReadsTo s name at₀ number₀ count₀ left (Broken number)
+    unfolding ReadsTo
+    reading-breaks p = record { decided = λ o w. met-case Breaks p o w ∙ from-broken (number + 1) number (linesAt s next) }
+
+    pub reading-room : m ≡ Opens → Room left (count + 1)
+    unfolding lineOf
+    reading-room p = opens-room (markOf (lineOf (part s at e))) (lineOf (part s at e)) name left (count + 1) (sym q ∙ p)
+
+    module _ (p : m ≡ Opens) (v : List ℕ) (g : v ≡ valueOf (part s at e)) (u : Closed) (k : ReadsTo s v next (number + 1) (count + 1) (left - 1) u) where
+      -- the lines of the inner component, whatever is open around it
+      inner-next : (o : List (List ℕ)) → length o + left ≡ 8 → nestingFrom number₀ (inside (name ∷ o) count₀) (linesAt s at₀)
+          ≡ nestingFrom (number + 1) (inside (v ∷ name ∷ o) (count + 1)) (linesAt s next)
+      inner-next o w =
+          met-case Opens p o w ∙ ap (λ (n : List ℕ). nestingFrom (number + 1) (inside (n ∷ name ∷ o) (count + 1)) (linesAt s next)) (sym g)
+
+      inner-room : (o : List (List ℕ)) → length o + left ≡ 8 → length (name ∷ o) + (left - 1) ≡ 8
+      inner-room o w = omega (arith, reading-room p .some)
+
+      pub reading-inner : (a i c : ℕ) → u ≡ At a i c → Reading s name at₀ number₀ count₀ left a i c
+      reading-inner a i c f =
+          let y = closes-at a i c k f in
+          record {
+            onward = omega (arith, r .onward, h .goes-on, y .onward);
+            within = y .within;
+            numbered = y .numbered;
+            counted = y .counted;
+            decided = λ o w. inner-next o w ∙ y .decided (name ∷ o) (inner-room o w);
+          }
+
+      pub reading-inner-breaks : (j : ℕ) → u ≡ Broken j → ReadsTo s name at₀ number₀ count₀ left (Broken j)
+      unfolding ReadsTo
+      reading-inner-breaks j f =
+          let y = breaks-before j k f in
+          record { decided = λ o w. inner-next o w ∙ y .decided (name ∷ o) (inner-room o w) }
+
+-- ---- the whole file
+
+from-start : (s : List ℕ) → nestingIn s ≡ nestingFrom 1 start (linesAt s 0)
+unfolding nestingIn nestingFrom nestingOf linesAt
+from-start s =
+    let xs = map lineOf (contentLines s) in
+    let n : length xs + 1 ≡ 1 + length xs = omega arith in
+    ap (λ (j : ℕ). outcome j (walk 1 start xs)) n
+
+after-start : (m : Mark) (i : ℕ) (x : ContentLine) → afterMark m i x start ≡ cond (beginsBy m (x .value)) (inside (x .value ∷ []) 1) (broken i)
+unfolding afterBegin afterEnd afterProperty afterWrong
+after-start Begins i x = refl
+after-start Ends i x = refl
+after-start Property i x = refl
+after-start Wrong i x = refl
+
+pub begins-yes : {m r : Mark} {v w : List ℕ} (t : Bool) → r ≡ m → w ≡ v → r ≡ Begins → t ≡ sameName w (ascii "VCALENDAR") → t ≡ beginsBy m v
+unfolding isCalendar
+begins-yes t p g b e = rw (sym p ∙ b, sym g) e
+
+pub begins-no : {m r : Mark} (v : List ℕ) (q : Mark) → r ≡ m → r ≡ q → beginsBy q v ≡ false → false ≡ beginsBy m v
+begins-no v q p b e = sym (ap (λ (j : Mark). beginsBy j v) (sym p ∙ b) ∙ e)
+
+pub calendar-last : (s : List ℕ) (at i : ℕ) → NoLineFrom s at → Good ≡ nestingFrom i closed (linesAt s at)
+unfolding outcome
+calendar-last s at i h = sym (ap (nestingFrom i closed) (lines-none h) ∙ from-none i closed)
+
+pub calendar-follows : (s : List ℕ) (at i : ℕ) {e next : ℕ} → LineFrom s at e next → BadLine i ≡ nestingFrom i closed (linesAt s at)
+calendar-follows s at i {e} {next} h =
+    let x = lineOf (part s at e) in
+    sym
+    (ap (nestingFrom i closed) (lines-next h)
+    ∙ from-next i closed x (linesAt s next)
+    ∙ ap (λ (v : Walk). nestingFrom (i + 1) v (linesAt s next)) (after-closed (markOf x) i x)
+    ∙ from-broken (i + 1) i (linesAt s next))
+
+pub check-empty : (s : List ℕ) → NoLineFrom s 0 → BadLine 1 ≡ nestingIn s
+unfolding outcome
+check-empty s h = sym (from-start s ∙ ap (nestingFrom 1 start) (lines-none h) ∙ from-none 1 start)
+
+module _ (s : List ℕ) {e next : ℕ} (h : LineFrom s 0 e next) {t : Bool} (b : t ≡ beginsCalendar (lineOf (part s 0 e))) where
+  first-line : (u : Bool) → t ≡ u → nestingIn s ≡ nestingFrom 2 (cond u (inside (valueOf (part s 0 e) ∷ []) 1) (broken 1)) (linesAt s next)
+  unfolding beginsCalendar lineOf
+  first-line u f =
+      let x = lineOf (part s 0 e) in
+      from-start s
+      ∙ ap (nestingFrom 1 start) (lines-next h)
+      ∙ from-next 1 start x (linesAt s next)
+      ∙ ap (λ (v : Walk). nestingFrom 2 v (linesAt s next))
+      (after-start (markOf x) 1 x ∙ ap (λ (j : Bool). cond j (inside (x .value ∷ []) 1) (broken 1)) (sym b ∙ f))
+
+  pub check-other : t ≡ false → BadLine 1 ≡ nestingIn s
+  check-other f = sym (first-line false f ∙ from-broken 2 1 (linesAt s next))
+
+  module _ (f : t ≡ true) (v : List ℕ) (g : v ≡ valueOf (part s 0 e)) (u : Closed) (k : ReadsTo s v next 2 1 8 u) where
+    named-line : nestingIn s ≡ nestingFrom 2 (inside (v ∷ []) 1) (linesAt s next)
+    named-line = first-line true f ∙ ap (λ (n : List ℕ). nestingFrom 2 (inside (n ∷ []) 1) (linesAt s next)) (sym g)
+
+    pub check-closed : (a i c : ℕ) → u ≡ At a i c → (r : Nesting) → r ≡ nestingFrom i closed (linesAt s a) → r ≡ nestingIn s
+    check-closed a i c q r w = w ∙ sym (named-line ∙ closes-at a i c k q .decided [] refl)
+
+    pub check-broken : (j : ℕ) → u ≡ Broken j → BadLine j ≡ nestingIn s
+    check-broken j q = sym (named-line ∙ breaks-before j k q .decided [] refl)

@@ -1,0 +1,6 @@
+pub mod Marks
+pub mod Nesting
+pub mod Components
+pub mod WellNested
+pub mod Faults
+pub mod Passing

@@ -1,0 +1,188 @@
+// The nesting of components: is it right, and if not at which line; and a walk from item to item of a component.
+// Each function equals one definition of specs/.
+pub mod items;
+
+use text::Span;
+ghost use mathlib.Core.Path.{_≡_};
+ghost use Prim.Native.Nat.{_+_, _≤_};
+ghost use lib.ListN.{length};
+ghost use Rattle.line.specs.Reading.{lineOf, valueOf};
+ghost use Rattle.nesting.specs.Marks.{markOf, markedBy};
+ghost use Rattle.nesting.specs.Nesting.{mayBegin, Walk};
+ghost use Rattle.nesting.specs.Passing.{metBy, beginsCalendar, ReadsTo, linesAt, nestingFrom, nestingIn};
+
+// What a line is to the nesting.
+pub enum Mark {
+    Begins,
+    Ends,
+    Property,
+    // A BEGIN or END line with a parameter, or whose value is no name.
+    Wrong,
+}
+
+// Is the nesting right, or which line breaks it?
+pub enum Nesting {
+    Good,
+    BadLine(usize),
+}
+
+// What a line does to the innermost open component.
+enum Met {
+    // A component may begin in it.
+    Opens,
+    // It is a property.
+    Stays,
+    // It is its END line.
+    Closes,
+    // No continuation keeps the rules.
+    Breaks,
+}
+
+// Where a component has ended.
+enum Closed {
+    // The place behind its END line, the number of the line there, and how many components have begun.
+    At(usize, usize, usize),
+    // The nesting breaks first, at this line.
+    Broken(usize),
+}
+
+pub fn mark_of(line: &[u8]) -> Mark
+    ensures { λ r. ⌜ r ≡ markOf (lineOf (now (line .entry))) ⌝ }
+{
+    let name = line::read::name(line);
+    if ascii::same_name(name, b"BEGIN") {
+        return marked_by(line, Mark::Begins);
+    }
+    if ascii::same_name(name, b"END") {
+        return marked_by(line, Mark::Ends);
+    }
+    Mark::Property
+}
+
+// The mark, if the line has no parameters and a name as value.
+fn marked_by(line: &[u8], mark: Mark) -> Mark
+    ensures { λ r. ⌜ r ≡ markedBy (lineOf (now (line .entry))) mark ⌝ }
+{
+    let count = line::read::parameter_count(line);
+    let named = ascii::is_name(line::read::value(line));
+    if (count == 0) & named {
+        mark
+    } else {
+        Mark::Wrong
+    }
+}
+
+// May a component of this name begin inside VCALENDAR, at this depth, as component number `count`?
+pub fn may_begin(name: &[u8], depth: usize, count: usize) -> bool
+    ensures { λ r. ⌜ r ≡ mayBegin (now (name .entry)) depth count ⌝ }
+{
+    let calendar = ascii::same_name(name, b"VCALENDAR");
+    let event = ascii::same_name(name, b"VEVENT");
+    let free_busy = ascii::same_name(name, b"VFREEBUSY");
+    !calendar & (depth <= 8) & (count <= 256) & ((depth == 2) | !(event | free_busy))
+}
+
+// What the line does to the innermost open component, of this name; one more would be at this depth, as component number `count`.
+fn meets(line: &[u8], name: &[u8], depth: usize, count: usize) -> Met
+    ensures { λ r. ⌜ r ≡ metBy (markOf (lineOf (now (line .entry)))) (valueOf (now (line .entry))) (now (name .entry)) depth count ⌝ }
+{
+    let value = line::read::value(line);
+    match mark_of(line) {
+        Mark::Begins => {
+            if may_begin(value, depth, count) {
+                Met::Opens
+            } else {
+                Met::Breaks
+            }
+        }
+        Mark::Ends => {
+            if ascii::same_name(value, name) {
+                Met::Closes
+            } else {
+                Met::Breaks
+            }
+        }
+        Mark::Property => Met::Stays,
+        Mark::Wrong => Met::Breaks,
+    }
+}
+
+// Reads the component of this name, whose lines begin at `from` with line number `first`, and each component in it by this same function.
+// `begun` components have begun, this one among them, and at most `left` may be open inside each other from this one on: 8 for VCALENDAR.
+fn component(s: &[u8], name: &[u8], from: usize, first: usize, begun: usize, left: usize) -> Closed
+    requires { ⌜ (from ≤ length (now s)) × (first ≤ from + 1) × (begun ≤ 256) × (left ≤ 8) ⌝ }
+    ensures { λ r. ⌜ ReadsTo (now (s .entry)) (now (name .entry)) from first begun left r ⌝ }
+{
+    let mut at = from;
+    let mut number = first;
+    let mut count = begun;
+    loop {
+        match text::next_line(s, at) {
+            Span::End => return Closed::Broken(number),
+            Span::Line(e, next) => {
+                let line = &s[at..e];
+                let after = number + 1;
+                let more = count + 1;
+                match meets(line, name, 10 - left, more) {
+                    Met::Opens => {
+                        match component(s, line::read::value(line), next, after, more, left - 1) {
+                            Closed::At(a, i, c) => {
+                                at = a;
+                                number = i;
+                                count = c;
+                            }
+                            Closed::Broken(j) => return Closed::Broken(j),
+                        }
+                    }
+                    Met::Stays => {
+                        at = next;
+                        number = after;
+                    }
+                    Met::Closes => return Closed::At(next, after, count),
+                    Met::Breaks => return Closed::Broken(number),
+                }
+            }
+        }
+    }
+}
+
+fn begins_calendar(line: &[u8]) -> bool
+    ensures { λ r. ⌜ r ≡ beginsCalendar (lineOf (now (line .entry))) ⌝ }
+{
+    match mark_of(line) {
+        Mark::Begins => ascii::same_name(line::read::value(line), b"VCALENDAR"),
+        Mark::Ends => false,
+        Mark::Property => false,
+        Mark::Wrong => false,
+    }
+}
+
+// VCALENDAR has ended: no line may follow.
+fn after_calendar(s: &[u8], at: usize, number: usize) -> Nesting
+    ensures { λ r. ⌜ r ≡ nestingFrom number Walk.closed (linesAt (now (s .entry)) at) ⌝ }
+{
+    match text::next_line(s, at) {
+        Span::End => Nesting::Good,
+        Span::Line(_, _) => Nesting::BadLine(number),
+    }
+}
+
+// Is the nesting of these lines right, and if not at which line does it break?
+pub fn check_nesting(s: &[u8]) -> Nesting
+    ensures { λ r. ⌜ r ≡ nestingIn (now (s .entry)) ⌝ }
+{
+    let from = 0;
+    match text::next_line(s, from) {
+        Span::End => Nesting::BadLine(1),
+        Span::Line(e, next) => {
+            let line = &s[from..e];
+            if !begins_calendar(line) {
+                return Nesting::BadLine(1);
+            }
+            match component(s, line::read::value(line), next, 2, 1, 8) {
+                Closed::At(at, number, _) => after_calendar(s, at, number),
+                Closed::Broken(j) => Nesting::BadLine(j),
+            }
+        }
+    }
+}
