@@ -15,11 +15,11 @@ isDigit b = between 48 57 b
 unfoldable pub isLetter : ℕ → Bool
 isLetter b = between 65 90 b || between 97 122 b
 
--- "letters, digits or hyphens": the bytes of a name
+-- the bytes of a name: a letter, a digit or a hyphen
 unfoldable pub isNameByte : ℕ → Bool
 isNameByte b = isLetter b || isDigit b || eqb b 45
 
--- "a byte below 32 other than tab, or 127"
+-- a control: below 32 but not tab, or 127
 unfoldable pub isControl : ℕ → Bool
 isControl b = ltb b 32 && not (eqb b 9) || eqb b 127
 

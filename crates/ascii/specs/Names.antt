@@ -17,7 +17,7 @@ sameBytes [] (b ∷ t) = false
 sameBytes (a ∷ s) [] = false
 sameBytes (a ∷ s) (b ∷ t) = eqb a b && sameBytes s t
 
--- "compare without regard to ASCII case"
+-- the same name: equal once ASCII case is disregarded
 unfoldable pub sameName : List ℕ → List ℕ → Bool
 sameName s t = sameBytes (map upper s) (map upper t)
 
@@ -25,6 +25,6 @@ abbrev pub notEmpty : List ℕ → Bool
 notEmpty [] = false
 notEmpty (b ∷ s) = true
 
--- "a name of one or more letters, digits or hyphens"
+-- a name: name bytes, at least one
 unfoldable pub isName : List ℕ → Bool
 isName s = notEmpty s && every isNameByte s

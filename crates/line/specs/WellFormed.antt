@@ -15,7 +15,7 @@ lineCheckFrom n end = Good
 lineCheckFrom n (unended t) = BadLine n
 lineCheckFrom n (line l p) = elim (isWellFormed l) [ true ↦ lineCheckFrom (n + 1) p | false ↦ BadLine n ]
 
--- "some line badly formed", and which
+-- is some line badly formed, and which is the first?
 unfoldable pub lineCheck : List ℕ → LineCheck
 lineCheck s = lineCheckFrom 1 (cut s)
 

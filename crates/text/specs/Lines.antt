@@ -24,7 +24,7 @@ grow b end = unended (b ∷ [])
 grow b (unended t) = unended (b ∷ t)
 grow b (line t p) = line (b ∷ t) p
 
--- "cut at each CR LF"; zero bytes are zero lines, and bytes that end in CR LF have no piece after it
+-- a line ends at each CR LF; zero bytes are zero lines, and bytes that end in CR LF have no piece after it
 unfoldable pub cut : List ℕ → Pieces
 cut [] = end
 cut (b ∷ []) = unended (b ∷ [])

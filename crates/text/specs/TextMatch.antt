@@ -25,7 +25,7 @@ abbrev pub containsBytes : List ℕ → List ℕ → Bool
 containsBytes [] t = startsWith t []
 containsBytes (b ∷ v) t = startsWith t (b ∷ v) || containsBytes v t
 
--- "its value contains the text", byte by byte once both are folded by the collation
+-- the value contains the text, byte by byte once both are folded by the collation
 unfoldable pub contains : Collation → List ℕ → List ℕ → Bool
 contains c v t = containsBytes (map (foldedBy c) v) (map (foldedBy c) t)
 

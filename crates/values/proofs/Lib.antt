@@ -1,0 +1,6 @@
+pub mod Usages
+pub mod Items
+pub mod Moments
+pub mod Rules
+pub mod Periods
+pub mod Sayings

@@ -1,0 +1,120 @@
+// A DATE or DATE-TIME value within the limits, by the offset.
+use time::date_time;
+use time::date_time::DateTime;
+use time::date_time::Kind;
+use time::limits;
+use time::limits::Second;
+ghost use mathlib.Core.Path.{_≡_};
+ghost use Prim.Native.Nat.{_≤_};
+ghost use Rattle.line.specs.Reading.{lineOf};
+ghost use Rattle.values.specs.Times.{atSecond, timeBy, readTime, formNamed, formOf, timeOf, utcOnly};
+
+// What values are read by: today the offset, as 50,400 more than it.
+pub struct Context {
+    pub shift: u64,
+}
+
+// A time within the limits: its kind, and its UTC second.
+pub struct Time {
+    pub kind: Kind,
+    pub second: u64,
+}
+
+pub enum TimeRead {
+    Of(Time),
+    Bad,
+}
+
+// The form that the parameter VALUE asks for.
+pub enum Form {
+    DateTime,
+    Date,
+    Wrong,
+}
+
+// The form that a word names, ASCII case disregarded.
+pub fn form_named(w: &[u8]) -> Form
+    ensures { λ r. ⌜ r ≡ formNamed (now (w .entry)) ⌝ }
+{
+    if ascii::same_name(w, b"DATE") {
+        return Form::Date;
+    }
+    if ascii::same_name(w, b"DATE-TIME") {
+        return Form::DateTime;
+    }
+    Form::Wrong
+}
+
+// The form that a line asks for: VALUE twice or as a list is wrong.
+pub fn form_of(line: &[u8]) -> Form
+    ensures { λ r. ⌜ r ≡ formOf (lineOf (now (line .entry))) ⌝ }
+{
+    let u = line::read::usage_of(line, b"VALUE");
+    let times = u.times;
+    let listed = u.listed;
+    if (1 < times) | listed {
+        return Form::Wrong;
+    }
+    if 0 < times {
+        return form_named(line::read::first_value(line, b"VALUE"));
+    }
+    Form::DateTime
+}
+
+// A time of the kind, where its second is within the limits.
+fn at_second(kind: Kind, second: Second) -> TimeRead
+    ensures { λ r. ⌜ r ≡ atSecond kind second ⌝ }
+{
+    match second {
+        Second::At(t) => TimeRead::Of(Time { kind, second: t }),
+        Second::Outside => TimeRead::Bad,
+    }
+}
+
+fn time_by(c: Context, read: DateTime) -> TimeRead
+    requires { ⌜ c .shift ≤ 100800 ⌝ }
+    ensures { λ r. ⌜ r ≡ timeBy c read ⌝ }
+{
+    let shift = c.shift;
+    match read {
+        DateTime::At(kind, clock) => at_second(kind, limits::utc_second(kind, clock, shift)),
+        DateTime::Bad => TimeRead::Bad,
+    }
+}
+
+// A value of the form that is asked for.
+pub fn read_time(c: Context, form: Form, s: &[u8]) -> TimeRead
+    requires { ⌜ c .shift ≤ 100800 ⌝ }
+    ensures { λ r. ⌜ r ≡ readTime c form (now (s .entry)) ⌝ }
+{
+    match form {
+        Form::DateTime => time_by(c, date_time::read_date_time(s)),
+        Form::Date => time_by(c, date_time::read_date(s)),
+        Form::Wrong => TimeRead::Bad,
+    }
+}
+
+// The time that a line gives.
+pub fn time_of(c: Context, line: &[u8]) -> TimeRead
+    requires { ⌜ c .shift ≤ 100800 ⌝ }
+    ensures { λ r. ⌜ r ≡ timeOf c (lineOf (now (line .entry))) ⌝ }
+{
+    read_time(c, form_of(line), line::read::value(line))
+}
+
+// A UTC time as it is, any other is bad.
+pub fn utc_only(r: TimeRead) -> TimeRead
+    ensures { λ q. ⌜ q ≡ utcOnly r ⌝ }
+{
+    match r {
+        TimeRead::Of(t) => {
+            let kind = t.kind;
+            match kind {
+                Kind::Utc => TimeRead::Of(t),
+                Kind::Floating => TimeRead::Bad,
+                Kind::Date => TimeRead::Bad,
+            }
+        }
+        TimeRead::Bad => TimeRead::Bad,
+    }
+}
