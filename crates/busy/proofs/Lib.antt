@@ -1,0 +1,5 @@
+pub mod Bounds
+pub mod Starts
+pub mod Searching
+pub mod PeriodLists
+pub mod Examples

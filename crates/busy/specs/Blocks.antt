@@ -1,0 +1,13 @@
+-- A block by its periods (document 01, Events and blocks): "otherwise by any of its periods, of whatever type".
+use Prim.Native.Nat.{ℕ}
+use mathlib.Core.Path.{_≡_}
+use mathlib.Core.Bool.{true}
+use mathlib.Core.List.{List, List·Memᴰ}
+use Rattle.calendar.specs.Meaning.{BusyPeriod}
+use Rattle.busy.specs.TimeRange.{touches}
+
+-- some period of the list touches the range
+pub record PeriodIn (a b : ℕ) (ps : List BusyPeriod) : Type 0 where
+  pub which : BusyPeriod
+  pub listed : List·Memᴰ which ps
+  pub passes : touches a b (which .period .start) (which .period .end) ≡ true

@@ -1,0 +1,47 @@
+-- The time range test (document 01, Events and blocks; RFC 4791 9.9): is an event or a block in the range from a up to, but not including, b?
+use Prim.Native.Nat.{ℕ, _<_, _≤_}
+use mathlib.Core.Path.{_≡_}
+use mathlib.Core.Bool.{Bool, true, false, cond, _&&_, _||_}
+use mathlib.Core.List.{List, [], _∷_}
+use lib.Dec.{eqb, ltb, leb}
+use Rattle.calendar.specs.Meaning.{BusyPeriod}
+use Rattle.calendar.specs.declared.Event.{Event}
+use Rattle.calendar.specs.declared.Bound.{Bound}
+use Rattle.calendar.specs.declared.Block.{Block}
+use Rattle.busy.specs.Instances.{startOf, endOf, stands}
+
+-- what stands from s to t, against the range: start < t and end > s; where it has no length, start ≤ s and s < end
+unfoldable pub touches : ℕ → ℕ → ℕ → ℕ → Bool
+touches a b s t = cond (eqb s t) (leb a s && ltb s b) (ltb a t && ltb s b)
+
+-- instance k of an event is in range
+unfoldable pub instanceIn : Event → ℕ → ℕ → ℕ → Bool
+instanceIn e a b k = stands e k && touches a b (startOf e k) (endOf e k)
+
+-- "an event is in range if some instance .."
+pub record EventIn (e : Event) (a b : ℕ) : Type 0 where
+  pub number : ℕ
+  pub passes : instanceIn e a b number ≡ true
+
+-- a block with both ends, tested as an event between them is
+unfoldable pub betweenIn : ℕ → ℕ → ℕ → ℕ → Bool
+betweenIn a b s t = touches a b s t
+
+-- "otherwise by any of its periods, of whatever type; with none it is not in range"
+unfoldable pub periodsTouch : ℕ → ℕ → List BusyPeriod → Bool
+periodsTouch a b [] = false
+periodsTouch a b (p ∷ ps) = touches a b (p .period .start) (p .period .end) || periodsTouch a b ps
+
+unfoldable pub boundsIn : ℕ → ℕ → Bound → Bound → List BusyPeriod → Bool
+boundsIn a b (Bound.At s) (Bound.At t) ps = betweenIn a b s t
+boundsIn a b (Bound.At s) Bound.None ps = periodsTouch a b ps
+boundsIn a b Bound.None (Bound.At t) ps = periodsTouch a b ps
+boundsIn a b Bound.None Bound.None ps = periodsTouch a b ps
+
+unfoldable pub blockIn : Block → List BusyPeriod → ℕ → ℕ → Bool
+blockIn k ps a b = boundsIn a b (k .start) (k .end) ps
+
+-- a Bool that decides a statement
+pub record Decides (r : Bool) (P : Type 0) : Type 0 where
+  pub holds : r ≡ true → P
+  pub fails : r ≡ false → P → ⊥

@@ -1,0 +1,6 @@
+pub mod Outcomes
+pub mod Steps
+pub mod Loops
+pub mod Meanings
+pub mod Listed
+pub mod Sizes

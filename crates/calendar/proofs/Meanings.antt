@@ -1,0 +1,58 @@
+-- What the fault of a calendar tells of its meaning.
+use Prim.Native.Nat.{ℕ}
+use mathlib.Core.Path.{_≡_, refl, _∙_}
+use mathlib.Core.List.{List}
+use native.Mathlib.Omega.{arith}
+use Rattle.line.specs.WellFormed.{lineCheck}
+use Rattle.line.specs.declared.check.LineCheck.{LineCheck}
+use Rattle.nesting.specs.Nesting.{nestingOf}
+use Rattle.nesting.specs.Passing.{nestingIn}
+use Rattle.nesting.specs.declared.Nesting.{Nesting}
+use Rattle.values.specs.declared.times.Context.{Context}
+use Rattle.calendar.specs.Meaning.{Entry, Meaning, fault, calendar, byRules, byValues, byNesting, byLines, valueFault, ruleFault, entriesOf, fileLines, componentsOf, contentsOf, meaningOf, faultOf}
+use Rattle.calendar.specs.declared.ValueCheck.{ValueCheck}
+use Rattle.calendar.specs.declared.RuleCheck.{RuleCheck}
+use Rattle.calendar.specs.declared.Fault.{Fault}
+
+-- the nesting that the check reads is that of the file's lines
+pub nesting-file : (u : List ℕ) → nestingIn u ≡ nestingOf (fileLines u)
+unfolding nestingIn fileLines
+nesting-file u = refl
+
+-- a calendar with a fault means that fault
+pub has-fault : (m : Meaning) (n i : ℕ) → faultOf m ≡ Fault.At n i → m ≡ fault n i
+unfolding faultOf
+has-fault (fault k j) n i e = cc
+has-fault (calendar es) n i e = let z : _≡_ {A = ℕ} 0 1 = cc in absurd (omega arith)
+
+rules-good : (k : RuleCheck) (es : List Entry) → faultOf (byRules k es) ≡ Fault.None → byRules k es ≡ calendar es
+unfolding faultOf byRules
+rules-good RuleCheck.Good es e = refl
+rules-good (RuleCheck.Broken n) es e = let z : _≡_ {A = ℕ} 0 1 = cc in absurd (omega arith)
+
+values-good : (k : ValueCheck) (m : Meaning) → faultOf (byValues k m) ≡ Fault.None → (byValues k m ≡ m) × (faultOf m ≡ Fault.None)
+unfolding faultOf byValues
+values-good ValueCheck.Good m e = (refl, e)
+values-good (ValueCheck.Unsupported n) m e = let z : _≡_ {A = ℕ} 0 1 = cc in absurd (omega arith)
+values-good (ValueCheck.Bad n) m e = let z : _≡_ {A = ℕ} 0 1 = cc in absurd (omega arith)
+
+nesting-good : (k : Nesting) (m : Meaning) → faultOf (byNesting k m) ≡ Fault.None → (byNesting k m ≡ m) × (faultOf m ≡ Fault.None)
+unfolding faultOf byNesting
+nesting-good Nesting.Good m e = (refl, e)
+nesting-good (Nesting.BadLine n) m e = let z : _≡_ {A = ℕ} 0 1 = cc in absurd (omega arith)
+
+lines-good : (k : LineCheck) (m : Meaning) → faultOf (byLines k m) ≡ Fault.None → (byLines k m ≡ m) × (faultOf m ≡ Fault.None)
+unfolding faultOf byLines
+lines-good LineCheck.Good m e = (refl, e)
+lines-good (LineCheck.BadLine n) m e = let z : _≡_ {A = ℕ} 0 1 = cc in absurd (omega arith)
+
+-- a calendar without a fault means its events and blocks
+pub no-fault : (c : Context) (u : List ℕ) → faultOf (meaningOf c u) ≡ Fault.None → meaningOf c u ≡ calendar (entriesOf c (componentsOf u))
+unfolding meaningOf contentsOf
+no-fault c u e =
+    let ks = componentsOf u in
+    let rules = byRules (ruleFault c ks) (entriesOf c ks) in
+    let l = lines-good (lineCheck u) (byNesting (nestingOf (fileLines u)) (contentsOf c u)) e in
+    let n = nesting-good (nestingOf (fileLines u)) (contentsOf c u) (l .1) in
+    let v = values-good (valueFault c ks) rules (n .1) in
+    l .0 ∙ n .0 ∙ v .0 ∙ rules-good (ruleFault c ks) (entriesOf c ks) (v .1)

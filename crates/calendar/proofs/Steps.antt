@@ -1,0 +1,239 @@
+-- From item to item: what one step tells of the sayings, the faults and the components of what stands at a place.
+use Prim.Native.Nat.{ℕ, zero, suc, _+_}
+use mathlib.Core.Path.{_≡_, refl, sym, ap, _∙_}
+use mathlib.Core.List.{List, [], _∷_, _++_, map}
+use Rattle.text.specs.Lines.{part}
+use Rattle.line.specs.Grammar.{ContentLine}
+use Rattle.line.specs.Reading.{lineOf}
+use Rattle.nesting.specs.Marks.{markOf}
+use Rattle.nesting.specs.Components.{Numbered, markedAs, markedFrom, Items, itemsOf, Component, componentsIn, propertiesIn}
+use Rattle.nesting.specs.Passing.{linesAt, linesFrom, numbered, PropertyAt, InnerAt, NoItemAt, SkipsTo}
+use Rattle.nesting.specs.declared.Mark.{Mark}
+use Rattle.nesting.specs.declared.Mark.the-variants.{Begins, Ends, Property, Wrong}
+use Rattle.nesting.specs.declared.items.Place.{Place}
+use Rattle.values.specs.Said.{sayingOf}
+use Rattle.values.specs.declared.times.Context.{Context}
+use Rattle.values.specs.declared.said.Scope.{Scope}
+use Rattle.values.specs.declared.said.Saying.{Saying}
+use Rattle.calendar.specs.Gathered.{nothingGathered, gather}
+use Rattle.calendar.specs.Events.{eventBy, blockBy}
+use Rattle.calendar.specs.Meaning.{sayingsIn, faultOr, faultIn, eventOf, blockOf, eventBroken, blockBroken, isBroken, BusyPeriod, periodsBy, blockPeriods, eventEntry, blockEntry, entryOf}
+use Rattle.calendar.specs.Places.{sayingsAt, gatheredAt, eventAt, blockAt, brokenAt, blockPeriodsAt, entryAt, faultAt, faultElse, componentsFrom, componentAt}
+use Rattle.calendar.specs.declared.BlockRead.{BlockRead}
+use Rattle.calendar.specs.declared.ValueCheck.{ValueCheck}
+
+-- ---- line numbers play no part in what lines say
+
+abbrev linesIn : List Numbered → List ContentLine
+linesIn [] = []
+linesIn (x ∷ xs) = x .line ∷ linesIn xs
+
+abbrev properLines : ℕ → ℕ → List ContentLine → List ContentLine
+properLines d i xs = linesIn (propertiesIn (itemsOf d (markedFrom i xs)))
+
+lines-step : (x : ContentLine) (m : Mark) (xs : List ContentLine) (i j : ℕ)
+    → ((d : ℕ) → properLines d (suc i) xs ≡ properLines d (suc j) xs) → (d : ℕ)
+    → linesIn (propertiesIn (itemsOf d (markedAs m (numbered i x) ∷ markedFrom (suc i) xs)))
+    ≡ linesIn (propertiesIn (itemsOf d (markedAs m (numbered j x) ∷ markedFrom (suc j) xs)))
+unfolding itemsOf propertiesIn
+lines-step x Begins xs i j h zero = h 1
+lines-step x Begins xs i j h (suc d) = h (suc (suc d))
+lines-step x Ends xs i j h zero = refl
+lines-step x Ends xs i j h (suc d) = h d
+lines-step x Property xs i j h zero = ap (λ (l : List ContentLine). x ∷ l) (h 0)
+lines-step x Property xs i j h (suc d) = h (suc d)
+lines-step x Wrong xs i j h zero = ap (λ (l : List ContentLine). x ∷ l) (h 0)
+lines-step x Wrong xs i j h (suc d) = h (suc d)
+
+lines-number : (xs : List ContentLine) (d i j : ℕ) → properLines d i xs ≡ properLines d j xs
+unfolding markedFrom itemsOf
+lines-number [] d i j = refl
+lines-number (x ∷ xs) d i j = lines-step x (markOf x) xs i j (λ e. lines-number xs e (suc i) (suc j)) d
+
+-- what is decided by the lines alone
+by-lines : {A : Type 0} (f : List Numbered → A) (g : List ContentLine → A) → ((xs : List Numbered) → f xs ≡ g (linesIn xs)) → (s : List ℕ)
+    (at d i j : ℕ) → f (propertiesIn (itemsOf d (linesFrom s at i))) ≡ f (propertiesIn (itemsOf d (linesFrom s at j)))
+unfolding linesFrom
+by-lines f g h s at d i j =
+    h (propertiesIn (itemsOf d (markedFrom i (linesAt s at))))
+    ∙ ap g (lines-number (linesAt s at) d i j)
+    ∙ sym (h (propertiesIn (itemsOf d (markedFrom j (linesAt s at)))))
+
+sayings-lines : (c : Context) (o : Scope) (xs : List Numbered) → sayingsIn c o xs ≡ map (sayingOf c o) (linesIn xs)
+unfolding sayingsIn
+sayings-lines c o [] = refl
+sayings-lines c o (x ∷ xs) = ap (λ (l : List Saying). sayingOf c o (x .line) ∷ l) (sayings-lines c o xs)
+
+pub sayings-number : (c : Context) (o : Scope) (s : List ℕ) (at d i j : ℕ)
+    → sayingsIn c o (propertiesIn (itemsOf d (linesFrom s at i))) ≡ sayingsIn c o (propertiesIn (itemsOf d (linesFrom s at j)))
+sayings-number c o s at d i j = by-lines (sayingsIn c o) (map (sayingOf c o)) (sayings-lines c o) s at d i j
+
+abbrev periodsOf : Context → List ContentLine → List BusyPeriod
+periodsOf c [] = []
+periodsOf c (x ∷ xs) = periodsBy (sayingOf c Scope.FreeBusy x) x ++ periodsOf c xs
+
+periods-lines : (c : Context) (xs : List Numbered) → blockPeriods c xs ≡ periodsOf c (linesIn xs)
+unfolding blockPeriods
+periods-lines c [] = refl
+periods-lines c (x ∷ xs) = ap (λ (l : List BusyPeriod). periodsBy (sayingOf c Scope.FreeBusy (x .line)) (x .line) ++ l) (periods-lines c xs)
+
+pub periods-number : (c : Context) (s : List ℕ) (at d i j : ℕ)
+    → blockPeriods c (propertiesIn (itemsOf d (linesFrom s at i))) ≡ blockPeriods c (propertiesIn (itemsOf d (linesFrom s at j)))
+periods-number c s at d i j = by-lines (blockPeriods c) (periodsOf c) (periods-lines c) s at d i j
+
+-- so they may begin with any number
+pub sayings-any : (c : Context) (o : Scope) (s : List ℕ) (at i : ℕ) → sayingsIn c o (propertiesIn (itemsOf 0 (linesFrom s at i))) ≡ sayingsAt c o s at
+unfolding sayingsAt
+sayings-any c o s at i = sayings-number c o s at 0 i 1
+
+pub gathered-any : (c : Context) (o : Scope) (s : List ℕ) (at i : ℕ)
+    → gather nothingGathered (sayingsIn c o (propertiesIn (itemsOf 0 (linesFrom s at i)))) ≡ gatheredAt c o s at
+unfolding gatheredAt
+gathered-any c o s at i = ap (gather nothingGathered) (sayings-any c o s at i)
+
+-- ---- the component whose items begin at a place
+
+pub eventOf-at : (c : Context) (k : Component) (s : List ℕ) (at i : ℕ) → k .items ≡ itemsOf 0 (linesFrom s at i) → eventOf c k ≡ eventAt c s at
+unfolding eventOf eventAt
+eventOf-at c k s at i e =
+    ap (λ (x : Items). eventBy (gather nothingGathered (sayingsIn c Scope.Event (propertiesIn x)))) e
+    ∙ ap eventBy (gathered-any c Scope.Event s at i)
+
+pub blockOf-at : (c : Context) (k : Component) (s : List ℕ) (at i : ℕ) → k .items ≡ itemsOf 0 (linesFrom s at i) → blockOf c k ≡ blockAt c s at
+unfolding blockOf blockAt
+blockOf-at c k s at i e =
+    ap (λ (x : Items). blockBy (gather nothingGathered (sayingsIn c Scope.FreeBusy (propertiesIn x)))) e
+    ∙ ap blockBy (gathered-any c Scope.FreeBusy s at i)
+
+pub isBroken-at : (c : Context) (o : Scope) (k : Component) (s : List ℕ) (at i : ℕ) → k .items ≡ itemsOf 0 (linesFrom s at i)
+    → isBroken c o k ≡ brokenAt c o s at
+unfolding isBroken brokenAt
+isBroken-at c Scope.Event k s at i e = ap eventBroken (eventOf-at c k s at i e)
+isBroken-at c Scope.FreeBusy k s at i e = ap blockBroken (blockOf-at c k s at i e)
+isBroken-at c Scope.Other k s at i e = refl
+
+pub entryOf-at : (c : Context) (o : Scope) (k : Component) (s : List ℕ) (at i : ℕ) → k .items ≡ itemsOf 0 (linesFrom s at i)
+    → entryOf c o k ≡ entryAt c o s at
+unfolding entryOf entryAt blockPeriodsAt
+entryOf-at c Scope.Event k s at i e = ap eventEntry (eventOf-at c k s at i e)
+entryOf-at c Scope.FreeBusy k s at i e =
+    ap (λ (b : BlockRead). blockEntry b (blockPeriods c (propertiesIn (k .items)))) (blockOf-at c k s at i e)
+    ∙ ap (blockEntry (blockAt c s at)) (ap (λ (x : Items). blockPeriods c (propertiesIn x)) e ∙ periods-number c s at 0 i 1)
+entryOf-at c Scope.Other k s at i e = refl
+
+-- ---- one step: sayings
+
+module _ (c : Context) (o : Scope) {s : List ℕ} {at : ℕ} where
+  pub sayings-property : {e next : ℕ} → PropertyAt s at e next → sayingsAt c o s at ≡ sayingOf c o (lineOf (part s at e)) ∷ sayingsAt c o s next
+  unfolding sayingsAt propertiesIn sayingsIn
+  sayings-property {e} {next} h =
+      ap (λ (k : Items). sayingsIn c o (propertiesIn k)) (h .items 1)
+      ∙ ap (λ (l : List Saying). sayingOf c o (lineOf (part s at e)) ∷ l) (sayings-number c o s next 0 (1 + 1) 1)
+
+  pub sayings-inner : {e next j : ℕ} {p : Place} → InnerAt s at e next → SkipsTo s next j p → sayingsAt c o s at ≡ sayingsAt c o s (p .at)
+  unfolding sayingsAt propertiesIn sayingsIn
+  sayings-inner {e} {next} {j} {p} h k =
+      ap (λ (x : Items). sayingsIn c o (propertiesIn x)) (h .items 1)
+      ∙ sayings-number c o s next 1 (1 + 1) j
+      ∙ ap (λ (x : Items). sayingsIn c o (propertiesIn x)) (k .items 0)
+      ∙ sayings-number c o s (p .at) 0 (p .number) 1
+
+  pub sayings-none : NoItemAt s at → sayingsAt c o s at ≡ []
+  unfolding sayingsAt propertiesIn sayingsIn
+  sayings-none h = ap (λ (k : Items). sayingsIn c o (propertiesIn k)) (h .items 1)
+
+-- ---- one step: the periods of a block
+
+module _ (c : Context) {s : List ℕ} {at : ℕ} where
+  pub periods-property : {e next : ℕ} → PropertyAt s at e next
+      → blockPeriodsAt c s at
+      ≡ periodsBy (sayingOf c Scope.FreeBusy (lineOf (part s at e))) (lineOf (part s at e)) ++ blockPeriodsAt c s next
+  unfolding blockPeriodsAt propertiesIn blockPeriods
+  periods-property {e} {next} h =
+      ap (λ (k : Items). blockPeriods c (propertiesIn k)) (h .items 1)
+      ∙ ap (λ (l : List BusyPeriod). periodsBy (sayingOf c Scope.FreeBusy (lineOf (part s at e))) (lineOf (part s at e)) ++ l)
+      (periods-number c s next 0 (1 + 1) 1)
+
+  pub periods-inner : {e next j : ℕ} {p : Place} → InnerAt s at e next → SkipsTo s next j p → blockPeriodsAt c s at ≡ blockPeriodsAt c s (p .at)
+  unfolding blockPeriodsAt propertiesIn
+  periods-inner {e} {next} {j} {p} h k =
+      ap (λ (x : Items). blockPeriods c (propertiesIn x)) (h .items 1)
+      ∙ periods-number c s next 1 (1 + 1) j
+      ∙ ap (λ (x : Items). blockPeriods c (propertiesIn x)) (k .items 0)
+      ∙ periods-number c s (p .at) 0 (p .number) 1
+
+  pub periods-none : NoItemAt s at → blockPeriodsAt c s at ≡ []
+  unfolding blockPeriodsAt propertiesIn blockPeriods
+  periods-none h = ap (λ (k : Items). blockPeriods c (propertiesIn k)) (h .items 1)
+
+-- ---- one step: faults
+
+module _ (c : Context) (o : Scope) {s : List ℕ} {at : ℕ} (i : ℕ) where
+  pub fault-property : {e next : ℕ} → PropertyAt s at e next
+      → faultAt c o s at i ≡ faultOr i (sayingOf c o (lineOf (part s at e))) (faultAt c o s next (i + 1))
+  unfolding faultAt propertiesIn faultIn
+  fault-property h = ap (λ (k : Items). faultIn c o (propertiesIn k) ValueCheck.Good) (h .items i)
+
+  pub fault-inner : {e next : ℕ} {p : Place} → InnerAt s at e next → SkipsTo s next (i + 1) p → faultAt c o s at i ≡ faultAt c o s (p .at) (p .number)
+  unfolding faultAt propertiesIn
+  fault-inner h k =
+      ap (λ (x : Items). faultIn c o (propertiesIn x) ValueCheck.Good) (h .items i)
+      ∙ ap (λ (x : Items). faultIn c o (propertiesIn x) ValueCheck.Good) (k .items 0)
+
+  pub fault-none : NoItemAt s at → faultAt c o s at i ≡ ValueCheck.Good
+  unfolding faultAt propertiesIn faultIn
+  fault-none h = ap (λ (k : Items). faultIn c o (propertiesIn k) ValueCheck.Good) (h .items i)
+
+-- ---- one step: components
+
+module _ {s : List ℕ} {at : ℕ} (i : ℕ) where
+  pub components-property : {e next : ℕ} → PropertyAt s at e next → componentsFrom s at i ≡ componentsFrom s next (i + 1)
+  unfolding componentsFrom componentsIn
+  components-property h = ap componentsIn (h .items i)
+
+  -- a component, and those behind it
+  pub components-first : {e next : ℕ} → InnerAt s at e next
+      → componentsFrom s at i ≡ componentAt s at e next i ∷ componentsIn (itemsOf 1 (linesFrom s next (i + 1)))
+  unfolding componentsFrom componentsIn componentAt
+  components-first h = ap componentsIn (h .items i)
+
+  pub components-none : NoItemAt s at → componentsFrom s at i ≡ []
+  unfolding componentsFrom componentsIn
+  components-none h = ap componentsIn (h .items i)
+
+pub components-skip : {s : List ℕ} {next j : ℕ} {p : Place} → SkipsTo s next j p
+    → componentsIn (itemsOf 1 (linesFrom s next j)) ≡ componentsFrom s (p .at) (p .number)
+unfolding componentsFrom
+components-skip k = ap componentsIn (k .items 0)
+
+-- ---- a fault, or what the rest has
+
+fault-else-twice : (a b r : ValueCheck) → faultElse (faultElse a b) r ≡ faultElse a (faultElse b r)
+unfolding faultElse
+fault-else-twice ValueCheck.Good b r = refl
+fault-else-twice (ValueCheck.Unsupported n) b r = refl
+fault-else-twice (ValueCheck.Bad n) b r = refl
+
+pub faultOr-else : (n : ℕ) (x : Saying) (r : ValueCheck) → faultOr n x r ≡ faultElse (faultOr n x ValueCheck.Good) r
+unfolding faultOr faultElse
+faultOr-else n Saying.Nothing r = refl
+faultOr-else n Saying.Unsupported r = refl
+faultOr-else n Saying.Bad r = refl
+faultOr-else n (Saying.Start t) r = refl
+faultOr-else n (Saying.End t) r = refl
+faultOr-else n (Saying.Lasts d) r = refl
+faultOr-else n (Saying.Repeats x) r = refl
+faultOr-else n (Saying.HasStatus x) r = refl
+faultOr-else n (Saying.Transparent x) r = refl
+faultOr-else n (Saying.HasPeriods b) r = refl
+
+pub faultIn-else : (c : Context) (o : Scope) (xs : List Numbered) (r : ValueCheck) → faultIn c o xs r ≡ faultElse (faultIn c o xs ValueCheck.Good) r
+unfolding faultIn faultElse
+faultIn-else c o [] r = refl
+faultIn-else c o (x ∷ xs) r =
+    let n = x .number in
+    let y = sayingOf c o (x .line) in
+    faultOr-else n y (faultIn c o xs r)
+    ∙ ap (faultElse (faultOr n y ValueCheck.Good)) (faultIn-else c o xs r)
+    ∙ sym (fault-else-twice (faultOr n y ValueCheck.Good) (faultIn c o xs ValueCheck.Good) r)
+    ∙ ap (λ (a : ValueCheck). faultElse a r) (sym (faultOr-else n y (faultIn c o xs ValueCheck.Good)))

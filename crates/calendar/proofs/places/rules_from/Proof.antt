@@ -1,0 +1,105 @@
+-- The components before a place break no rule, so those from it on decide.
+use Prim.Native.Nat.{_-_}
+use lib.ListN.{length}
+use Rattle.calendar.specs.Meaning.{ruleFault}
+use Rattle.nesting.proofs.Stepping.{property-at, inner-at, no-item-at}
+use Rattle.calendar.proofs.Loops.{Passing, passing-start, passing-property, passing-inner, passing-found, passing-end, rule-kept, rule-broken}
+use mathlib.Core.Path.{refl}
+use native.Mathlib.Omega.{arith}
+use borrow.Author.Needs.{needs}
+use Rattle.calendar.proofs.places.rules_from.Statement.{statement}
+use Rattle.calendar.proofs.places.rules_from.Tie as tie
+
+abbrev Inv-loop : tie.InvT-loop
+Inv-loop s from first c at₀ number₀ at number = Passing (ruleFault c) s from first at number
+
+abbrev μ-loop : tie.MeasureT-loop
+μ-loop s from first c at₀ number₀ at number = length s - at
+
+loop-holds : tie.Need-loop-holds Inv-loop μ-loop
+loop-holds c = passing-start _ _ _ _ (c .before .pre .1) (c .before .pre .2)
+
+next-item-requires : tie.Need-next-item-requires Inv-loop μ-loop
+next-item-requires c κs = search needs
+
+enum-known-next : tie.Need-enum-known-next Inv-loop μ-loop
+enum-known-next c = search needs
+
+add-number : tie.Need-add-number Inv-loop μ-loop
+add-number c = let h = property-at _ _ (c .before .before .before .next-item .ensures) (c .before .next .given .1) in omega (arith, h .line .goes-on, h .line .inside, c .before .before .before .before .loop .inv .counted)
+
+loop-less : tie.Need-loop-less Inv-loop μ-loop
+loop-less c = let h = property-at _ _ (c .before .before .before .next-item .ensures) (c .before .next .given .1) in omega (arith, h .line .goes-on, h .line .inside)
+
+loop-again : tie.Need-loop-again Inv-loop μ-loop
+loop-again c = passing-property (c .before .before .before .before .loop .inv) (property-at _ _ (c .before .before .before .next-item .ensures) (c .before .next .given .1))
+
+enum-known-e : tie.Need-enum-known-e Inv-loop μ-loop
+enum-known-e c = search needs
+
+sub-value : tie.Need-sub-value Inv-loop μ-loop
+sub-value c = let h = inner-at _ _ (c .before .before .before .next-item .ensures) (c .before .e .given .1) in omega (arith, h .line .starts, h .line .ends, h .line .inside)
+
+part-value-start : tie.Need-part-value-start Inv-loop μ-loop
+part-value-start c = let h = inner-at _ _ (c .before .before .before .next-item .ensures) (c .before .e .given .1) in omega (arith, h .line .starts, h .line .ends, h .line .inside)
+
+part-value-end : tie.Need-part-value-end Inv-loop μ-loop
+part-value-end c = let h = inner-at _ _ (c .before .before .before .next-item .ensures) (c .before .e .given .1) in omega (arith, h .line .starts, h .line .ends, h .line .inside)
+
+value-requires : tie.Need-value-requires Inv-loop μ-loop
+value-requires c κs = search needs
+
+scope-of-requires : tie.Need-scope-of-requires Inv-loop μ-loop
+scope-of-requires c κs = search needs
+
+is-broken-at-requires : tie.Need-is-broken-at-requires Inv-loop μ-loop
+is-broken-at-requires c κs = c .before .before .before .before .before .before .before .before .before .pre .0
+
+returns : tie.Need-returns Inv-loop μ-loop
+returns c = passing-found (c .before .before .before .before .before .before .before .before .before .loop .inv) (inner-at _ _ (c .before .before .before .before .before .before .before .before .next-item .ensures) (c .before .before .before .before .before .before .e .given .1)) (rule-broken _ _ (inner-at _ _ (c .before .before .before .before .before .before .before .before .next-item .ensures) (c .before .before .before .before .before .before .e .given .1)) (c .before .before .before .value .ensures) (c .before .before .scope-of .ensures) (c .before .is-broken-at .ensures) (c .if1 .taken))
+
+add-skip-component : tie.Need-add-skip-component Inv-loop μ-loop
+add-skip-component c = let h = inner-at _ _ (c .before .before .before .before .before .before .before .before .next-item .ensures) (c .before .before .before .before .before .before .e .given .1) in omega (arith, h .line .goes-on, h .line .inside, c .before .before .before .before .before .before .before .before .before .loop .inv .counted)
+
+skip-component-requires : tie.Need-skip-component-requires Inv-loop μ-loop
+skip-component-requires c κs = let h = inner-at _ _ (c .before .before .before .before .before .before .before .before .next-item .ensures) (c .before .before .before .before .before .before .e .given .1) in (h .line .inside, omega (arith, h .line .goes-on, c .before .before .before .before .before .before .before .before .before .loop .inv .counted))
+
+loop-less-2 : tie.Need-loop-less-2 Inv-loop μ-loop
+loop-less-2 c = let h = inner-at _ _ (c .before .before .before .before .before .before .before .before .before .next-item .ensures) (c .before .before .before .before .before .before .before .e .given .1) in omega (arith, h .line .goes-on, h .line .inside, c .skip-component .ensures .onward, c .skip-component .ensures .within)
+
+loop-again-2 : tie.Need-loop-again-2 Inv-loop μ-loop
+loop-again-2 c = passing-inner (c .before .before .before .before .before .before .before .before .before .before .loop .inv) (inner-at _ _ (c .before .before .before .before .before .before .before .before .before .next-item .ensures) (c .before .before .before .before .before .before .before .e .given .1)) refl (c .skip-component .ensures) (rule-kept _ _ (inner-at _ _ (c .before .before .before .before .before .before .before .before .before .next-item .ensures) (c .before .before .before .before .before .before .before .e .given .1)) (c .before .before .before .before .value .ensures) (c .before .before .before .scope-of .ensures) (c .before .before .is-broken-at .ensures) (c .before .if1 .left))
+
+enum-told : tie.Need-enum-told Inv-loop μ-loop
+enum-told c = search needs
+
+returns-2 : tie.Need-returns-2 Inv-loop μ-loop
+unfolding ruleFault
+returns-2 c = passing-end (c .before .before .before .loop .inv) (no-item-at (c .before .before .next-item .ensures) (c .enum-told .given .1))
+
+pub rules-from-spec : {M : Type 1} → statement M
+rules-from-spec =
+    tie.close
+    (tie.spec
+    Inv-loop
+    μ-loop
+    loop-holds
+    next-item-requires
+    enum-known-next
+    add-number
+    loop-less
+    loop-again
+    enum-known-e
+    sub-value
+    part-value-start
+    part-value-end
+    value-requires
+    scope-of-requires
+    is-broken-at-requires
+    returns
+    add-skip-component
+    skip-component-requires
+    loop-less-2
+    loop-again-2
+    enum-told
+    returns-2)

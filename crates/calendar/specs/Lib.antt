@@ -1,0 +1,6 @@
+pub mod Gathered
+pub mod Events
+pub mod Meaning
+pub mod Places
+pub mod Periods
+pub mod Sizes

@@ -1,0 +1,189 @@
+-- The meaning of a calendar (document 01, refusals 6 to 10): the first fault with its place, or its events and blocks in file order.
+use Prim.Native.Nat.{ℕ}
+use mathlib.Core.Bool.{Bool, true, false, cond}
+use mathlib.Core.List.{List, [], _∷_, _++_, map}
+use Rattle.line.specs.Grammar.{ContentLine}
+use Rattle.line.specs.Reading.{lineOf}
+use Rattle.line.specs.WellFormed.{lineCheck}
+use Rattle.line.specs.declared.check.LineCheck.{LineCheck}
+use Rattle.text.specs.Lines.{contentLines}
+use Rattle.nesting.specs.Nesting.{isEvent, isFreeBusy, nestingOf}
+use Rattle.nesting.specs.Components.{Numbered, Component, treeOf, itemsBelow, componentsIn, propertiesIn}
+use Rattle.nesting.specs.declared.Nesting.{Nesting}
+use Rattle.values.specs.Said.{sayingOf}
+use Rattle.values.specs.Period.{periodsIn, goodPeriods}
+use Rattle.values.specs.declared.period.Period.{Period}
+use Rattle.values.specs.declared.times.Context.{Context}
+use Rattle.values.specs.declared.said.Scope.{Scope}
+use Rattle.values.specs.declared.said.Busy.{Busy}
+use Rattle.values.specs.declared.said.Saying.{Saying}
+use Rattle.calendar.specs.Gathered.{nothingGathered, gather}
+use Rattle.calendar.specs.Events.{eventBy, blockBy}
+use Rattle.calendar.specs.declared.Event.{Event}
+use Rattle.calendar.specs.declared.Block.{Block}
+use Rattle.calendar.specs.declared.EventRead.{EventRead}
+use Rattle.calendar.specs.declared.BlockRead.{BlockRead}
+use Rattle.calendar.specs.declared.ValueCheck.{ValueCheck}
+use Rattle.calendar.specs.declared.RuleCheck.{RuleCheck}
+use Rattle.calendar.specs.declared.Fault.{Fault}
+
+-- what a component is, by its name
+unfoldable pub scopeOf : List ℕ → Scope
+scopeOf n = cond (isEvent n) Scope.Event (cond (isFreeBusy n) Scope.FreeBusy Scope.Other)
+
+unfoldable pub componentScope : Component → Scope
+componentScope k = scopeOf (k .begin .line .value)
+
+-- what each line directly in a component says, in order
+unfoldable pub sayingsIn : Context → Scope → List Numbered → List Saying
+sayingsIn c s [] = []
+sayingsIn c s (x ∷ xs) = sayingOf c s (x .line) ∷ sayingsIn c s xs
+
+-- ---- 8 and 9: the first line in file order with either
+
+-- a line's own fault, else what the lines after it have
+unfoldable pub faultOr : ℕ → Saying → ValueCheck → ValueCheck
+faultOr n Saying.Nothing r = r
+faultOr n Saying.Unsupported r = ValueCheck.Unsupported n
+faultOr n Saying.Bad r = ValueCheck.Bad n
+faultOr n (Saying.Start t) r = r
+faultOr n (Saying.End t) r = r
+faultOr n (Saying.Lasts d) r = r
+faultOr n (Saying.Repeats x) r = r
+faultOr n (Saying.HasStatus x) r = r
+faultOr n (Saying.Transparent x) r = r
+faultOr n (Saying.HasPeriods b) r = r
+
+-- the lines of one component, and then what is to follow
+unfoldable pub faultIn : Context → Scope → List Numbered → ValueCheck → ValueCheck
+faultIn c s [] r = r
+faultIn c s (x ∷ xs) r = faultOr (x .number) (sayingOf c s (x .line)) (faultIn c s xs r)
+
+unfoldable pub valueFault : Context → List Component → ValueCheck
+valueFault c [] = ValueCheck.Good
+valueFault c (k ∷ ks) = faultIn c (componentScope k) (propertiesIn (k .items)) (valueFault c ks)
+
+-- ---- 10: the first component in file order that breaks a rule
+
+unfoldable pub eventOf : Context → Component → EventRead
+eventOf c k = eventBy (gather nothingGathered (sayingsIn c Scope.Event (propertiesIn (k .items))))
+
+unfoldable pub blockOf : Context → Component → BlockRead
+blockOf c k = blockBy (gather nothingGathered (sayingsIn c Scope.FreeBusy (propertiesIn (k .items))))
+
+abbrev pub eventBroken : EventRead → Bool
+eventBroken (EventRead.Of e) = false
+eventBroken EventRead.Broken = true
+
+abbrev pub blockBroken : BlockRead → Bool
+blockBroken (BlockRead.Of b) = false
+blockBroken BlockRead.Broken = true
+
+unfoldable pub isBroken : Context → Scope → Component → Bool
+isBroken c Scope.Event k = eventBroken (eventOf c k)
+isBroken c Scope.FreeBusy k = blockBroken (blockOf c k)
+isBroken c Scope.Other k = false
+
+unfoldable pub brokenOr : Bool → ℕ → RuleCheck → RuleCheck
+brokenOr true n r = RuleCheck.Broken n
+brokenOr false n r = r
+
+-- a broken component is named by its BEGIN line
+unfoldable pub ruleFault : Context → List Component → RuleCheck
+ruleFault c [] = RuleCheck.Good
+ruleFault c (k ∷ ks) = brokenOr (isBroken c (componentScope k) k) (k .begin .number) (ruleFault c ks)
+
+-- ---- the meaning
+
+-- a FREEBUSY period with its type
+pub record BusyPeriod : Type 0 where
+  pub busy : Busy
+  pub period : Period
+
+abbrev pub typed : Busy → List Period → List BusyPeriod
+typed b [] = []
+typed b (p ∷ ps) = record { busy = b; period = p } ∷ typed b ps
+
+-- the periods that a line gives
+unfoldable pub periodsBy : Saying → ContentLine → List BusyPeriod
+periodsBy Saying.Nothing x = []
+periodsBy Saying.Unsupported x = []
+periodsBy Saying.Bad x = []
+periodsBy (Saying.Start t) x = []
+periodsBy (Saying.End t) x = []
+periodsBy (Saying.Lasts d) x = []
+periodsBy (Saying.Repeats r) x = []
+periodsBy (Saying.HasStatus s) x = []
+periodsBy (Saying.Transparent t) x = []
+periodsBy (Saying.HasPeriods b) x = typed b (goodPeriods (periodsIn (x .value)))
+
+-- the periods of a block, in file order
+unfoldable pub blockPeriods : Context → List Numbered → List BusyPeriod
+blockPeriods c [] = []
+blockPeriods c (x ∷ xs) = periodsBy (sayingOf c Scope.FreeBusy (x .line)) (x .line) ++ blockPeriods c xs
+
+-- an event, or a block with its periods
+pub data Entry : Type 0 where
+  event : Event → Entry
+  block : Block → List BusyPeriod → Entry
+
+abbrev pub eventEntry : EventRead → List Entry
+eventEntry (EventRead.Of e) = event e ∷ []
+eventEntry EventRead.Broken = []
+
+abbrev pub blockEntry : BlockRead → List BusyPeriod → List Entry
+blockEntry (BlockRead.Of b) ps = block b ps ∷ []
+blockEntry BlockRead.Broken ps = []
+
+unfoldable pub entryOf : Context → Scope → Component → List Entry
+entryOf c Scope.Event k = eventEntry (eventOf c k)
+entryOf c Scope.FreeBusy k = blockEntry (blockOf c k) (blockPeriods c (propertiesIn (k .items)))
+entryOf c Scope.Other k = []
+
+unfoldable pub entriesOf : Context → List Component → List Entry
+entriesOf c [] = []
+entriesOf c (k ∷ ks) = entryOf c (componentScope k) k ++ entriesOf c ks
+
+-- the lines of a file, each as it is read
+unfoldable pub fileLines : List ℕ → List ContentLine
+fileLines u = map lineOf (contentLines u)
+
+-- the components right below VCALENDAR, in file order
+unfoldable pub componentsOf : List ℕ → List Component
+componentsOf u = componentsIn (itemsBelow (treeOf (fileLines u)))
+
+-- a fault by its refusal number and its line, or the events and blocks
+pub data Meaning : Type 0 where
+  fault : ℕ → ℕ → Meaning
+  calendar : List Entry → Meaning
+
+unfoldable pub byRules : RuleCheck → List Entry → Meaning
+byRules RuleCheck.Good es = calendar es
+byRules (RuleCheck.Broken n) es = fault 10 n
+
+unfoldable pub byValues : ValueCheck → Meaning → Meaning
+byValues ValueCheck.Good m = m
+byValues (ValueCheck.Unsupported n) m = fault 8 n
+byValues (ValueCheck.Bad n) m = fault 9 n
+
+unfoldable pub byNesting : Nesting → Meaning → Meaning
+byNesting Nesting.Good m = m
+byNesting (Nesting.BadLine n) m = fault 7 n
+
+unfoldable pub byLines : LineCheck → Meaning → Meaning
+byLines LineCheck.Good m = m
+byLines (LineCheck.BadLine n) m = fault 6 n
+
+-- what lines that are good and nested right mean
+unfoldable pub contentsOf : Context → List ℕ → Meaning
+contentsOf c u =
+    byValues (valueFault c (componentsOf u)) (byRules (ruleFault c (componentsOf u)) (entriesOf c (componentsOf u)))
+
+-- from the unfolded bytes and the context: the lowest of refusals 6 to 10 that applies, or what the calendar holds
+unfoldable pub meaningOf : Context → List ℕ → Meaning
+meaningOf c u = byLines (lineCheck u) (byNesting (nestingOf (fileLines u)) (contentsOf c u))
+
+-- the fault alone
+unfoldable pub faultOf : Meaning → Fault
+faultOf (fault n i) = Fault.At n i
+faultOf (calendar es) = Fault.None
