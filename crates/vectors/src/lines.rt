@@ -19,7 +19,7 @@ fn digit(b: u8) -> u8
 }
 
 // The bytes that a text in hex writes, as many as there is room for.
-fn decode(out: &mut [u8], hex: &[u8]) -> usize
+pub fn decode(out: &mut [u8], hex: &[u8]) -> usize
     ensures { λ r. ⌜ r ≤ length (now (out .exit)) ⌝ }
 {
     let mut n = 0;

@@ -3,15 +3,10 @@ use mathlib.Core.Bool.{false}
 use Rattle.line.proofs.Pieces.{nextPlace-ge, nextPlace-le}
 use lib.ListN.{length}
 use Prim.Native.Nat.{_-_, _≤_}
-use mathlib.Core.Path.{_≡_, refl, sym, ap, _∙_}
 use native.Mathlib.Omega.{arith}
 use borrow.Author.Needs.{needs}
 use Rattle.vectors.proofs.answer_all.Statement.{statement}
 use Rattle.vectors.proofs.answer_all.Tie as tie
-use Rattle.vectors.proofs.answer_all.Reads as reads
-use Rattle.vectors.proofs.answer_all.Lts as lts
-use Rattle.line.proofs.split.find.Reads as find-reads
-use Rattle.vectors.proofs.answer_line.Reads as answer-line-reads
 
 abbrev Inv-loop : tie.InvT-loop
 Inv-loop s from₀ from = Unit
@@ -27,43 +22,33 @@ found c =
     let from = c .before .before .loop .from in
     (omega (arith, c .find .ensures, nextPlace-ge false 10 s from), omega (arith, c .find .ensures, nextPlace-le false 10 s from (omega arith)))
 
--- src/main.rt:113:5
 loop-holds : tie.Need-loop-holds Inv-loop μ-loop
 loop-holds c = tt
 
--- src/main.rt:114:13
 find-requires : tie.Need-find-requires Inv-loop μ-loop
 find-requires c κs = search needs
 
--- src/main.rt:115:21
 sub-answer-line : tie.Need-sub-answer-line Inv-loop μ-loop
 sub-answer-line c = omega (arith, found c)
 
--- src/main.rt:115:21
 part-answer-line-start : tie.Need-part-answer-line-start Inv-loop μ-loop
 part-answer-line-start c = omega (arith, found c)
 
--- src/main.rt:115:21
 part-answer-line-end : tie.Need-part-answer-line-end Inv-loop μ-loop
 part-answer-line-end c = omega (arith, found c)
 
--- src/main.rt:115:9
 answer-line-requires : tie.Need-answer-line-requires Inv-loop μ-loop
 answer-line-requires c κs = search needs
 
--- src/main.rt:116:16
 add-from : tie.Need-add-from Inv-loop μ-loop
 add-from c = omega (arith, found (c .before .before))
 
--- src/main.rt:113:5
 loop-less : tie.Need-loop-less Inv-loop μ-loop
 loop-less c = omega (arith, found (c .before .before))
 
--- src/main.rt:113:5
 loop-again : tie.Need-loop-again Inv-loop μ-loop
 loop-again c = tt
 
--- src/main.rt:111:1
 returns : tie.Need-returns Inv-loop μ-loop
 returns c = tt
 

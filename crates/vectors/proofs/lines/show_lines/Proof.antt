@@ -1,16 +1,12 @@
+-- `vectors::lines::show_lines` is safe and ends: each line lies inside the bytes, and the next one begins behind it.
 use Rattle.text.specs.Lines.{LineFrom}
 use Rattle.text.proofs.Lines.{line-from}
 use Prim.Native.Nat.{_-_}
 use lib.ListN.{length}
-use mathlib.Core.Path.{_≡_, refl, sym, ap, _∙_}
 use native.Mathlib.Omega.{arith}
 use borrow.Author.Needs.{needs}
 use Rattle.vectors.proofs.lines.show_lines.Statement.{statement}
 use Rattle.vectors.proofs.lines.show_lines.Tie as tie
-use Rattle.vectors.proofs.lines.show_lines.Reads as reads
-use Rattle.vectors.proofs.lines.show_lines.Lts as lts
-use Rattle.text.proofs.next_line.Reads as next-line-reads
-use Rattle.vectors.proofs.lines.show_line.Reads as show-line-reads
 
 abbrev Inv-loop : tie.InvT-loop
 Inv-loop s from₀ from = Unit
@@ -23,47 +19,36 @@ at-line : (c : tie.After-known-told Inv-loop μ-loop)
     → LineFrom (c .before .before .before .before .before .before .args .s .now) (c .before .before .before .before .loop .from) (c .before .e .given .0 .0) (c .before .e .given .0 .1 .0)
 at-line c = line-from _ _ (c .before .before .before .next-line .ensures) (c .before .e .given .1)
 
--- src/lines.rt:84:5
 loop-holds : tie.Need-loop-holds Inv-loop μ-loop
 loop-holds c = tt
 
--- src/lines.rt:85:15
 next-line-requires : tie.Need-next-line-requires Inv-loop μ-loop
 next-line-requires c κs = search needs
 
--- src/lines.rt:86:24
 enum-known-e : tie.Need-enum-known-e Inv-loop μ-loop
 enum-known-e c = search needs
 
--- src/lines.rt:87:27
 sub-show-line : tie.Need-sub-show-line Inv-loop μ-loop
 sub-show-line c = omega (arith, at-line c)
 
--- src/lines.rt:87:27
 part-show-line-start : tie.Need-part-show-line-start Inv-loop μ-loop
 part-show-line-start c = omega (arith, at-line c)
 
--- src/lines.rt:87:27
 part-show-line-end : tie.Need-part-show-line-end Inv-loop μ-loop
 part-show-line-end c = omega (arith, at-line c)
 
--- src/lines.rt:87:17
 show-line-requires : tie.Need-show-line-requires Inv-loop μ-loop
 show-line-requires c κs = search needs
 
--- src/lines.rt:84:5
 loop-less : tie.Need-loop-less Inv-loop μ-loop
 loop-less c = omega (arith, at-line (c .before .before))
 
--- src/lines.rt:84:5
 loop-again : tie.Need-loop-again Inv-loop μ-loop
 loop-again c = tt
 
--- src/lines.rt:90:26
 enum-told : tie.Need-enum-told Inv-loop μ-loop
 enum-told c = search needs
 
--- src/lines.rt:90:26
 returns : tie.Need-returns Inv-loop μ-loop
 returns c = tt
 
