@@ -1,4 +1,4 @@
--- A block by its periods (document 01, Events and blocks): "otherwise by any of its periods, of whatever type".
+-- A block by its periods (document 01, Events and blocks): some period of the list meets the range.
 use Prim.Native.Nat.{ℕ}
 use mathlib.Core.Path.{_≡_}
 use mathlib.Core.Bool.{true}

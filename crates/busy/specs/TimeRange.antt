@@ -18,7 +18,7 @@ touches a b s t = cond (eqb s t) (leb a s && ltb s b) (ltb a t && ltb s b)
 unfoldable pub instanceIn : Event → ℕ → ℕ → ℕ → Bool
 instanceIn e a b k = stands e k && touches a b (startOf e k) (endOf e k)
 
--- "an event is in range if some instance .."
+-- an event is in range where some instance is
 pub record EventIn (e : Event) (a b : ℕ) : Type 0 where
   pub number : ℕ
   pub passes : instanceIn e a b number ≡ true
@@ -27,7 +27,7 @@ pub record EventIn (e : Event) (a b : ℕ) : Type 0 where
 unfoldable pub betweenIn : ℕ → ℕ → ℕ → ℕ → Bool
 betweenIn a b s t = touches a b s t
 
--- "otherwise by any of its periods, of whatever type; with none it is not in range"
+-- any other block goes by its periods, free ones too; without one it is in no range
 unfoldable pub periodsTouch : ℕ → ℕ → List BusyPeriod → Bool
 periodsTouch a b [] = false
 periodsTouch a b (p ∷ ps) = touches a b (p .period .start) (p .period .end) || periodsTouch a b ps

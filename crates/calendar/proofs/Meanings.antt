@@ -56,3 +56,34 @@ no-fault c u e =
     let n = nesting-good (nestingOf (fileLines u)) (contentsOf c u) (l .1) in
     let v = values-good (valueFault c ks) rules (n .1) in
     l .0 ∙ n .0 ∙ v .0 ∙ rules-good (ruleFault c ks) (entriesOf c ks) (v .1)
+
+-- ---- each refusal exactly where its check fails and those before it pass
+
+module _ (c : Context) (u : List ℕ) where
+  pub refused-6 : (n : ℕ) → lineCheck u ≡ LineCheck.BadLine n → meaningOf c u ≡ fault 6 n
+  unfolding meaningOf byLines
+  refused-6 n h = rw h
+
+  module _ (l : lineCheck u ≡ LineCheck.Good) where
+    pub refused-7 : (n : ℕ) → nestingOf (fileLines u) ≡ Nesting.BadLine n → meaningOf c u ≡ fault 7 n
+    unfolding meaningOf byLines byNesting
+    refused-7 n h = rw (l, h)
+
+    module _ (k : nestingOf (fileLines u) ≡ Nesting.Good) where
+      pub refused-8 : (n : ℕ) → valueFault c (componentsOf u) ≡ ValueCheck.Unsupported n → meaningOf c u ≡ fault 8 n
+      unfolding meaningOf byLines byNesting contentsOf byValues
+      refused-8 n h = rw (l, k, h)
+
+      pub refused-9 : (n : ℕ) → valueFault c (componentsOf u) ≡ ValueCheck.Bad n → meaningOf c u ≡ fault 9 n
+      unfolding meaningOf byLines byNesting contentsOf byValues
+      refused-9 n h = rw (l, k, h)
+
+      pub refused-10 : (n : ℕ) → valueFault c (componentsOf u) ≡ ValueCheck.Good → ruleFault c (componentsOf u) ≡ RuleCheck.Broken n
+          → meaningOf c u ≡ fault 10 n
+      unfolding meaningOf byLines byNesting contentsOf byValues byRules
+      refused-10 n v h = rw (l, k, v, h)
+
+      pub not-refused : valueFault c (componentsOf u) ≡ ValueCheck.Good → ruleFault c (componentsOf u) ≡ RuleCheck.Good
+          → meaningOf c u ≡ calendar (entriesOf c (componentsOf u))
+      unfolding meaningOf byLines byNesting contentsOf byValues byRules
+      not-refused v h = rw (l, k, v, h)

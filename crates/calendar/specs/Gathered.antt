@@ -42,7 +42,7 @@ unfoldable pub transparencyGiven : TransparencyGiven → Bool
 transparencyGiven (TransparencyGiven.Given t) = true
 transparencyGiven TransparencyGiven.Absent = false
 
--- one line more; "at most one each" of DTSTART, DTEND, DURATION, RRULE, STATUS, TRANSP
+-- one line more; no more than one may stand of DTSTART, DTEND, DURATION, RRULE, STATUS, TRANSP
 unfoldable pub gatheredWith : Gathered → Saying → Gathered
 gatheredWith g Saying.Nothing = g
 gatheredWith g Saying.Unsupported = g

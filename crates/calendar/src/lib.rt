@@ -1,7 +1,7 @@
 // The meaning of a calendar: its events and free-busy blocks, or the first fault with its line.
 // Each function equals one definition of specs/.
-pub mod check;
 pub mod events;
+pub mod faults;
 pub mod gather;
 pub mod periods;
 pub mod places;

@@ -58,7 +58,7 @@ fn check(cal: &[u8], shift: u64)
         return;
     }
     let n = text::unfold_into(&mut work, cal);
-    show_fault(calendar::check::check_calendar(&work[..n], Context { shift }));
+    show_fault(calendar::faults::check_calendar(&work[..n], Context { shift }));
 }
 
 // The offset as 50,400 more than it, a blank, and the calendar in hex.

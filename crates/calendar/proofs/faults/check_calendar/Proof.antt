@@ -3,8 +3,8 @@ use Rattle.calendar.specs.Meaning.{meaningOf, byLines, byNesting, faultO
 use Rattle.calendar.proofs.Meanings.{nesting-file}
 use mathlib.Core.Path.{sym, _∙_}
 use borrow.Author.Needs.{needs}
-use Rattle.calendar.proofs.check.check_calendar.Statement.{statement}
-use Rattle.calendar.proofs.check.check_calendar.Tie as tie
+use Rattle.calendar.proofs.faults.check_calendar.Statement.{statement}
+use Rattle.calendar.proofs.faults.check_calendar.Tie as tie
 
 check-lines-requires : tie.Need-check-lines-requires
 check-lines-requires c κs = search needs

@@ -2,8 +2,8 @@
 use Rattle.calendar.specs.Meaning.{contentsOf, byValues, byRules, faultOf}
 use mathlib.Core.Path.{sym, _∙_}
 use borrow.Author.Needs.{needs}
-use Rattle.calendar.proofs.check.check_contents.Statement.{statement}
-use Rattle.calendar.proofs.check.check_contents.Tie as tie
+use Rattle.calendar.proofs.faults.check_contents.Statement.{statement}
+use Rattle.calendar.proofs.faults.check_contents.Tie as tie
 
 check-values-requires : tie.Need-check-values-requires
 check-values-requires c κs = search needs

@@ -1,0 +1,6 @@
+pub mod Sections
+pub mod Records
+pub mod Fits
+pub mod Layout
+pub mod WellFormed
+pub mod Paper
