@@ -1,4 +1,5 @@
 pub mod Outcomes
+pub mod BusyPlaces
 pub mod Steps
 pub mod Loops
 pub mod Meanings

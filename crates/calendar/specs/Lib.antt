@@ -1,5 +1,6 @@
 pub mod Gathered
 pub mod Events
+pub mod BusyTypes
 pub mod Meaning
 pub mod Places
 pub mod Periods

@@ -21,6 +21,7 @@ use values::said::Busy;
 use values::said::Status;
 use values::times::Time;
 ghost use mathlib.Core.Path.{_≡_};
+ghost use Rattle.calendar.specs.BusyTypes.{reportPlace};
 ghost use Rattle.calendar.specs.Events.{kindNumber, sameKind, isDate, statedEnd, statedDuration, endingBy, limitBy, repeatBy, daysBy, intervalBy};
 ghost use Rattle.calendar.specs.Events.{busyByStatus, busyBy, eventMade, eventWith, eventFrom, eventBy, blockBetween, blockFrom, blockBy};
 
@@ -275,4 +276,16 @@ pub fn block_by(g: Gathered) -> BlockRead
         return BlockRead::Broken;
     }
     block_from(start, end)
+}
+
+// The place of a busy type in a report; free time comes behind them.
+pub fn report_place(b: Busy) -> usize
+    ensures { λ r. ⌜ r ≡ reportPlace b ⌝ }
+{
+    match b {
+        Busy::Busy => 0,
+        Busy::Tentative => 1,
+        Busy::Unavailable => 2,
+        Busy::Free => 3,
+    }
 }
