@@ -1,0 +1,5 @@
+pub mod Searches
+pub mod Lines
+pub mod Properly
+pub mod InRange
+pub mod Parts

@@ -1,0 +1,58 @@
+-- No period so far touches the range, so those that are left decide.
+use Prim.Native.Nat.{_-_}
+use lib.ListN.{length}
+use Rattle.calendar.proofs.Listed.{next-period-at, no-period-at}
+use Rattle.filter.proofs.InRange.{Touching, touching-start, touching-next, touching-found, touching-end}
+use native.Mathlib.Omega.{arith}
+use borrow.Author.Needs.{needs}
+use Rattle.filter.proofs.ranges.value_in.Statement.{statement}
+use Rattle.filter.proofs.ranges.value_in.Tie as tie
+
+abbrev Inv-loop : tie.InvT-loop
+Inv-loop v a b at₀ at = Touching a b v at
+
+abbrev μ-loop : tie.MeasureT-loop
+μ-loop v a b at₀ at = length v - at
+
+loop-holds : tie.Need-loop-holds Inv-loop μ-loop
+loop-holds c = touching-start _ _ _
+
+next-period-requires : tie.Need-next-period-requires Inv-loop μ-loop
+next-period-requires c κs = search needs
+
+enum-known-p : tie.Need-enum-known-p Inv-loop μ-loop
+enum-known-p c = search needs
+
+touches-requires : tie.Need-touches-requires Inv-loop μ-loop
+touches-requires c κs = search needs
+
+returns : tie.Need-returns Inv-loop μ-loop
+returns c = touching-found (c .before .before .before .before .before .before .loop .inv) (next-period-at _ _ (c .before .before .before .before .before .next-period .ensures) (c .before .before .before .p .given .1)) (c .before .touches .ensures) (c .if1 .taken)
+
+loop-less : tie.Need-loop-less Inv-loop μ-loop
+loop-less c = let h = next-period-at _ _ (c .before .before .before .before .before .next-period .ensures) (c .before .before .before .p .given .1) in omega (arith, h .onward, h .within)
+
+loop-again : tie.Need-loop-again Inv-loop μ-loop
+loop-again c = touching-next (c .before .before .before .before .before .before .loop .inv) (next-period-at _ _ (c .before .before .before .before .before .next-period .ensures) (c .before .before .before .p .given .1)) (c .before .touches .ensures) (c .if1 .left)
+
+enum-told : tie.Need-enum-told Inv-loop μ-loop
+enum-told c = search needs
+
+returns-2 : tie.Need-returns-2 Inv-loop μ-loop
+returns-2 c = touching-end (c .before .before .before .loop .inv) (no-period-at (c .before .before .next-period .ensures) (c .enum-told .given .1))
+
+pub value-in-spec : {M : Type 1} → statement M
+value-in-spec =
+    tie.close
+    (tie.spec
+    Inv-loop
+    μ-loop
+    loop-holds
+    next-period-requires
+    enum-known-p
+    touches-requires
+    returns
+    loop-less
+    loop-again
+    enum-told
+    returns-2)

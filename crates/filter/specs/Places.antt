@@ -1,0 +1,75 @@
+-- The same by places in the bytes of a file: what stands in the component whose items begin at a place.
+use Prim.Native.Nat.{ℕ, zero, suc}
+use mathlib.Core.Path.{_≡_}
+use mathlib.Core.Bool.{Bool, true, false, _||_}
+use mathlib.Core.List.{List, [], _∷_}
+use Rattle.line.specs.Grammar.{ContentLine}
+use Rattle.nesting.specs.Components.{Numbered, itemsOf, propertiesIn}
+use Rattle.nesting.specs.Passing.{linesFrom}
+use Rattle.values.specs.Said.{sayingOf}
+use Rattle.values.specs.declared.times.Context.{Context}
+use Rattle.values.specs.declared.said.Scope.{Scope}
+use Rattle.values.specs.declared.said.Saying.{Saying}
+use Rattle.values.specs.declared.period.Period.{Period}
+use Rattle.calendar.specs.Meaning.{periodsBy, blockPeriods}
+use Rattle.calendar.specs.Places.{eventAt, blockAt}
+use Rattle.calendar.specs.declared.Event.{Event}
+use Rattle.calendar.specs.declared.EventRead.{EventRead}
+use Rattle.calendar.specs.declared.BlockRead.{BlockRead}
+use Rattle.busy.specs.Sizes.{Small}
+use Rattle.busy.specs.TimeRange.{touches, periodsTouch, blockIn}
+use Rattle.query.specs.Records.{rangeStart, rangeEnd}
+use Rattle.query.specs.declared.Sections.{Sections}
+use Rattle.filter.specs.Tests.{eventIn}
+
+-- the lines directly in it; by which number they begin plays no part in a test
+unfoldable pub propertiesAt : List ℕ → ℕ → List Numbered
+propertiesAt s at = propertiesIn (itemsOf 0 (linesFrom s at 1))
+
+-- ---- the time range
+
+-- some period of a value touches the range
+unfoldable pub somePeriodIn : ℕ → ℕ → List Period → Bool
+somePeriodIn a b [] = false
+somePeriodIn a b (p ∷ ps) = touches a b (p .start) (p .end) || somePeriodIn a b ps
+
+-- a line that gives periods
+unfoldable pub saysPeriods : Saying → Bool
+saysPeriods Saying.Nothing = false
+saysPeriods Saying.Unsupported = false
+saysPeriods Saying.Bad = false
+saysPeriods (Saying.Start t) = false
+saysPeriods (Saying.End t) = false
+saysPeriods (Saying.Lasts d) = false
+saysPeriods (Saying.Repeats r) = false
+saysPeriods (Saying.HasStatus s) = false
+saysPeriods (Saying.Transparent t) = false
+saysPeriods (Saying.HasPeriods b) = true
+
+-- some period of a line touches the range
+unfoldable pub lineIn : Context → ℕ → ℕ → ContentLine → Bool
+lineIn c a b x = periodsTouch a b (periodsBy (sayingOf c Scope.FreeBusy x) x)
+
+-- some period of these lines does
+unfoldable pub linesIn : Context → ℕ → ℕ → List Numbered → Bool
+linesIn c a b xs = periodsTouch a b (blockPeriods c xs)
+
+-- is a block of these lines in the range?
+unfoldable pub blockLinesIn : Context → BlockRead → List Numbered → ℕ → ℕ → Bool
+blockLinesIn c (BlockRead.Of k) xs a b = blockIn k (blockPeriods c xs) a b
+blockLinesIn c BlockRead.Broken xs a b = false
+
+-- the event whose items begin at a place has the sizes that its sums and products want
+pub record SmallAt (c : Context) (s : List ℕ) (at : ℕ) : Type 0 where
+  pub small : (e : Event) → eventAt c s at ≡ EventRead.Of e → Small e
+
+-- is the component whose items begin at a place in the range?
+unfoldable pub inAt : Context → Scope → List ℕ → ℕ → ℕ → ℕ → Bool
+inAt c Scope.Event s at a b = eventIn (eventAt c s at) a b
+inAt c Scope.FreeBusy s at a b = blockLinesIn c (blockAt c s at) (propertiesAt s at) a b
+inAt c Scope.Other s at a b = false
+
+-- the record's range, 0 for none, on the component of this scope whose items begin at a place
+unfoldable pub rangeAt : Context → List ℕ → Sections → ℕ → Scope → List ℕ → ℕ → Bool
+rangeAt c p q zero o s at = true
+rangeAt c p q (suc r) o s at = inAt c o s at (rangeStart p q r) (rangeEnd p q r)
