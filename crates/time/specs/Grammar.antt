@@ -29,7 +29,7 @@ pub record Counted (letter n : ℕ) (l k : List ℕ) : Type 0 where
 abbrev pub lasting : ℕ → ℕ → Bool → Duration
 lasting d c x = record { days = d; seconds = c; timed = x }
 
--- dur-second = 1*DIGIT "S"
+-- seconds (dur-second): a number and S
 pub data DurSecond : List ℕ → ℕ → Type 0 where
   second : {n : ℕ} {l : List ℕ} → Counted 83 n l [] → DurSecond l n
 
@@ -38,28 +38,28 @@ pub data Followed (letter weight : ℕ) (Next : List ℕ → ℕ → Type 0) : L
   alone : {n : ℕ} {l : List ℕ} → Counted letter n l [] → Followed letter weight Next l (n * weight)
   followed : {n s : ℕ} {l k : List ℕ} → Counted letter n l k → Next k s → Followed letter weight Next l (n * weight + s)
 
--- dur-minute = 1*DIGIT "M" [dur-second]
+-- minutes (dur-minute): a number and M, then perhaps seconds
 abbrev pub DurMinute : List ℕ → ℕ → Type 0
 DurMinute = Followed 77 60 DurSecond
 
--- dur-hour = 1*DIGIT "H" [dur-minute]
+-- hours (dur-hour): a number and H, then perhaps minutes
 abbrev pub DurHour : List ℕ → ℕ → Type 0
 DurHour = Followed 72 3600 DurMinute
 
--- dur-time = "T" (dur-hour / dur-minute / dur-second)
+-- a time (dur-time): T, then hours, minutes or seconds
 pub data DurTime : List ℕ → ℕ → Type 0 where
   time-hour : {b s : ℕ} {l : List ℕ} → upper b ≡ 84 → DurHour l s → DurTime (b ∷ l) s
   time-minute : {b s : ℕ} {l : List ℕ} → upper b ≡ 84 → DurMinute l s → DurTime (b ∷ l) s
   time-second : {b s : ℕ} {l : List ℕ} → upper b ≡ 84 → DurSecond l s → DurTime (b ∷ l) s
 
--- dur-date / dur-time / dur-week, where dur-date = dur-day [dur-time]
+-- the body: days, perhaps with a time behind them (dur-date), or a time, or weeks (dur-week)
 pub data DurBody : List ℕ → Duration → Type 0 where
   day : {n : ℕ} {l : List ℕ} → Counted 68 n l [] → DurBody l (lasting n 0 false)
   day-time : {n s : ℕ} {l k : List ℕ} → Counted 68 n l k → DurTime k s → DurBody l (lasting n s true)
   time : {s : ℕ} {l : List ℕ} → DurTime l s → DurBody l (lasting 0 s true)
   week : {n : ℕ} {l : List ℕ} → Counted 87 n l [] → DurBody l (lasting (n * 7) 0 false)
 
--- dur-value = ["+"] "P" (dur-date / dur-time / dur-week)
+-- the whole (dur-value): perhaps +, then P, then the body
 pub data DurationGrammar : List ℕ → Duration → Type 0 where
   plain : {b : ℕ} {l : List ℕ} {d : Duration} → upper b ≡ 80 → DurBody l d → DurationGrammar (b ∷ l) d
   signed : {b : ℕ} {l : List ℕ} {d : Duration} → upper b ≡ 80 → DurBody l d → DurationGrammar (43 ∷ b ∷ l) d
