@@ -1,0 +1,4 @@
+pub mod Standing
+pub mod Composing
+pub mod Lengths
+pub mod Examples

@@ -1,0 +1,48 @@
+-- The lines of the three types stand one behind the other, each where the last one ended.
+use Rattle.report.proofs.Composing.{busy-room, tentative-room, unavailable-room, put-types}
+use Rattle.report.specs.Bytes.{periodHead}
+use native.Mathlib.Omega.{arith}
+use borrow.Author.Needs.{needs}
+use Rattle.report.proofs.lines.put_types.Statement.{statement}
+use Rattle.report.proofs.lines.put_types.Tie as tie
+
+slice-aggregate-put-table : tie.Need-slice-aggregate-put-table
+slice-aggregate-put-table c = search needs
+
+put-table-requires : tie.Need-put-table-requires
+unfolding periodHead
+put-table-requires c κs = (c .before .before .before .pre .0 .0, (c .before .before .before .pre .1 .0 .0, busy-room _ _ _ _ _ (c .before .before .before .pre .1 .1)))
+
+slice-aggregate-put-table-2 : tie.Need-slice-aggregate-put-table-2
+slice-aggregate-put-table-2 c = search needs
+
+put-table-requires-2 : tie.Need-put-table-requires-2
+unfolding periodHead
+put-table-requires-2 c κs = (c .before .before .before .before .before .before .before .before .pre .0 .1, (c .before .before .before .before .before .before .before .before .pre .1 .0 .1, omega (arith, tentative-room _ _ _ _ _ (c .before .before .before .before .before .before .before .before .pre .1 .1) (c .before .before .before .before .put-table .ensures))))
+
+slice-aggregate-put-table-3 : tie.Need-slice-aggregate-put-table-3
+slice-aggregate-put-table-3 c = search needs
+
+put-table-requires-3 : tie.Need-put-table-requires-3
+unfolding periodHead
+put-table-requires-3 c κs = (c .before .before .before .before .before .before .before .before .before .before .before .before .before .pre .0 .2, (c .before .before .before .before .before .before .before .before .before .before .before .before .before .pre .1 .0 .2, omega (arith, unavailable-room _ _ _ _ _ (c .before .before .before .before .before .before .before .before .before .before .before .before .before .pre .1 .1) (c .before .before .before .before .before .before .before .before .before .put-table .ensures) (c .before .before .before .before .put-table2 .ensures))))
+
+same-length : tie.Need-same-length
+same-length c = search needs
+
+returns : tie.Need-returns
+unfolding periodHead
+returns c = put-types _ _ _ (c .before .before .before .before .before .before .before .before .before .before .before .before .put-table .ensures) (c .before .before .before .before .before .before .before .put-table2 .ensures) (c .before .before .put-table3 .ensures)
+
+pub put-types-spec : {M : Type 1} → statement M
+put-types-spec =
+    tie.close
+    (tie.spec
+    slice-aggregate-put-table
+    put-table-requires
+    slice-aggregate-put-table-2
+    put-table-requires-2
+    slice-aggregate-put-table-3
+    put-table-requires-3
+    same-length
+    returns)

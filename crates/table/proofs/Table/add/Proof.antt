@@ -1,0 +1,47 @@
+-- The three steps make the definition: rows that end before, the widened stretch, the rows behind it.
+use Rattle.table.proofs.Columns.{ends-within}
+use Rattle.table.proofs.Tables.{added}
+use Rattle.table.specs.Tables.{Sound}
+use borrow.Author.Needs.{needs}
+use Rattle.table.proofs.Table.add.Statement.{statement}
+use Rattle.table.proofs.Table.add.Tie as tie
+
+sound : (c : tie.Start) → Sound (c .args .t1)
+sound c = search needs
+
+skip-requires : tie.Need-skip-requires
+skip-requires c κs = search needs
+
+take-in-requires : tie.Need-take-in-requires
+take-in-requires c κs = (rw (c .before .before .before .before .before .skip .ensures) (ends-within _ _ _), search needs, search needs)
+
+splice-requires : tie.Need-splice-requires
+splice-requires c κs = search needs
+
+splice-requires-2 : tie.Need-splice-requires-2
+splice-requires-2 c κs = search needs
+
+add-self : tie.Need-add-self
+add-self c = search needs
+
+sub-self : tie.Need-sub-self
+sub-self c = search needs
+
+add-self-2 : tie.Need-add-self-2
+add-self-2 c = search needs
+
+returns : tie.Need-returns
+returns c = added _ (sound (c .before .before .before .before .before .before .before .before .before .before .before .before .before .before)) (search needs) (c .before .before .before .before .before .before .before .before .before .before .skip .ensures) (c .before .before .before .before .take-in .ensures) (c .before .before .splice .ensures) (c .splice2 .ensures)
+
+pub add-spec : {M : Type 1} → statement M
+add-spec =
+    tie.close
+    (tie.spec
+    skip-requires
+    take-in-requires
+    splice-requires
+    splice-requires-2
+    add-self
+    sub-self
+    add-self-2
+    returns)

@@ -1,0 +1,63 @@
+-- The elements moved are at their new place, and those still to move stand where they stood.
+use Rattle.table.proofs.Moving.{MovingLeft, left-start, left-more, left-end}
+use Prim.Native.Nat.{_-_, _≤_}
+use native.Mathlib.Omega.{arith}
+use Rattle.table.proofs.move_left.Statement.{statement}
+use Rattle.table.proofs.move_left.Tie as tie
+
+abbrev Inv-loop : tie.InvT-loop
+Inv-loop column₀ to from many m₀ column m = (m ≤ many) × MovingLeft column₀ column to from m
+
+abbrev μ-loop : tie.MeasureT-loop
+μ-loop column₀ to from many m₀ column m = many - m
+
+loop-holds : tie.Need-loop-holds Inv-loop μ-loop
+loop-holds c = (omega arith, left-start _ _ _)
+
+add-column : tie.Need-add-column Inv-loop μ-loop
+add-column c = omega arith
+
+mul-column : tie.Need-mul-column Inv-loop μ-loop
+mul-column c = omega arith
+
+element-copy-out-column : tie.Need-element-copy-out-column Inv-loop μ-loop
+element-copy-out-column c = omega arith
+
+add-column-2 : tie.Need-add-column-2 Inv-loop μ-loop
+add-column-2 c = omega arith
+
+mul-column-2 : tie.Need-mul-column-2 Inv-loop μ-loop
+mul-column-2 c = omega arith
+
+element-write-column : tie.Need-element-write-column Inv-loop μ-loop
+element-write-column c = omega arith
+
+add-m : tie.Need-add-m Inv-loop μ-loop
+add-m c = omega arith
+
+loop-less : tie.Need-loop-less Inv-loop μ-loop
+loop-less c = omega arith
+
+loop-again : tie.Need-loop-again Inv-loop μ-loop
+loop-again c = (omega arith, left-more (c .before .before .loop .inv .1) (omega arith) (omega arith))
+
+returns : tie.Need-returns Inv-loop μ-loop
+returns c = left-end (c .before .loop .inv .1) (omega arith)
+
+pub move-left-spec : {M : Type 1} → statement M
+move-left-spec =
+    tie.close
+    (tie.spec
+    Inv-loop
+    μ-loop
+    loop-holds
+    add-column
+    mul-column
+    element-copy-out-column
+    add-column-2
+    mul-column-2
+    element-write-column
+    add-m
+    loop-less
+    loop-again
+    returns)

@@ -1,0 +1,4 @@
+pub mod Runs
+pub mod Inserting
+pub mod Tables
+pub mod Columns

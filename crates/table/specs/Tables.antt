@@ -1,0 +1,40 @@
+-- The period table of one busy type: how the columns are a list of periods.
+use Prim.Native.Nat.{ℕ, _+_, _≤_}
+use mathlib.Core.Path.{_≡_}
+use mathlib.Core.List.{List, [], _∷_}
+use lib.ListN.{length, take, drop}
+use Rattle.values.specs.declared.period.Period.{Period}
+use Rattle.table.specs.Runs.{period}
+use Rattle.table.specs.Inserting.{inserted}
+use Rattle.table.specs.declared.Table.{Table}
+
+-- the periods of two columns, row by row
+unfoldable pub rows : List ℕ → List ℕ → List Period
+rows [] es = []
+rows (s ∷ ss) [] = []
+rows (s ∷ ss) (e ∷ es) = period s e ∷ rows ss es
+
+unfoldable pub listed : Table → List Period
+listed t = take (t .count) (rows (t .starts) (t .ends))
+
+-- a table is what it is meant to be: at most 512 periods, and columns that long
+pub record Sound (t : Table) : Type 0 where
+  pub few : t .count ≤ 512
+  pub starts-long : length (t .starts) ≡ 512
+  pub ends-long : length (t .ends) ≡ 512
+
+-- no period
+pub record Empty (r : Table) : Type 0 where
+  pub list : listed r ≡ []
+  pub count : r .count ≡ 0
+  pub sound : Sound r
+
+-- a stretch was added: the list says so, and it has one period more at most
+pub record Added (t : Table) (a b : ℕ) (r : Table) : Type 0 where
+  pub list : listed r ≡ inserted a b (listed t)
+  pub count : r .count ≤ t .count + 1
+  pub sound : Sound r
+
+-- row i of a table is a period: it stands first in what is left from i on
+pub record RowAt (t : Table) (i : ℕ) (p : Period) : Type 0 where
+  pub left : drop i (listed t) ≡ p ∷ drop (i + 1) (listed t)
