@@ -4,7 +4,6 @@ use mathlib.Core.Path.{_≡_, refl}
 use mathlib.Core.Bool.{Bool, true, false}
 use native.Mathlib.Omega.{arith}
 use lib.Dec.{ltb}
-use borrow.Author.Count.{below-more}
 use borrow.Author.Tests.{ltb-true, ltb-false}
 use Rattle.ascii.proofs.Bools.{and-right, clash, not-so}
 use Rattle.calendar.specs.declared.Event.{Event}
@@ -38,18 +37,6 @@ first-is-candidate {e} {a} h p =
 pub few-before : {e : Event} {b k : ℕ} → Small e → b ≤ 4102444799 → startsBefore e b k ≡ true → k ≤ 47482
 unfolding startsBefore
 few-before {e} {b} {k} h p q = omega (arith, starts-long k h, ltb-true (startOf e k) b (and-right (isInstance e k) _ q))
-
--- none before k is in range
-pub record Searched (e : Event) (a b k : ℕ) : Type 0 where
-  pub few : k ≤ 47483
-  pub none : (j : ℕ) → j < k → instanceIn e a b j ≡ false
-
-pub search-starts : {e : Event} {a k : ℕ} (b : ℕ) → FirstCandidate e a k → Searched e a b k
-search-starts b f = record { few = omega (arith, f .few); none = f .none-before b }
-
--- k is not in range: on to the next
-pub search-more : {e : Event} {a b k : ℕ} → k ≤ 47482 → Searched e a b k → instanceIn e a b k ≡ false → Searched e a b (k + 1)
-search-more {e} {a} {b} {k} p s q = record { few = omega arith; none = below-more _ _ (s .none) q }
 
 pub search-finds : {e : Event} {a b : ℕ} (k : ℕ) → instanceIn e a b k ≡ true → Decides true (EventIn e a b)
 search-finds k q = record { holds = λ _. record { number = k; passes = q }; fails = λ z _. clash refl z }

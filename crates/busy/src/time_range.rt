@@ -1,10 +1,10 @@
-// The time range test: is an event, or a block with both ends, in the range from a up to, but not including, b?
+// The time range test: is an instance of an event, or a block with both ends, in the range from a up to, but not including, b?
 use crate::instance;
 use calendar::Event;
 ghost use mathlib.Core.Path.{_≡_};
-ghost use Prim.Native.Nat.{_+_, _≤_, _<_};
+ghost use Prim.Native.Nat.{_≤_};
 ghost use Rattle.busy.specs.Sizes.{Small};
-ghost use Rattle.busy.specs.TimeRange.{touches, instanceIn, EventIn, betweenIn, Decides};
+ghost use Rattle.busy.specs.TimeRange.{touches, instanceIn, betweenIn};
 ghost use Rattle.busy.specs.Candidates.{firstAt, spanOf, FirstCandidate, startsBefore};
 
 // What stands from s to t, against the range.
@@ -72,21 +72,4 @@ pub fn starts_before(e: Event, b: u64, k: u64) -> bool
     ensures { λ r. ⌜ r ≡ startsBefore e b k ⌝ }
 {
     instance::is_instance(e, k) & (instance::start_of(e, k) < b)
-}
-
-// Is some instance in range? Those before the first candidate, and those after the last start, are not.
-pub fn event_in(e: Event, a: u64, b: u64) -> bool
-    requires { ⌜ Small e ⌝ }
-    requires { ⌜ a < b ⌝ }
-    requires { ⌜ b ≤ 4102444799 ⌝ }
-    ensures { λ r. ⌜ Decides r (EventIn e a b) ⌝ }
-{
-    let mut k = first_candidate(e, a);
-    while starts_before(e, b, k) {
-        if instance_in(e, a, b, k) {
-            return true;
-        }
-        k += 1;
-    }
-    false
 }

@@ -18,23 +18,21 @@ use Rattle.values.specs.declared.said.Busy.{Busy}
 use Rattle.values.specs.declared.period.Period.{Period}
 use Rattle.calendar.specs.Meaning.{BusyPeriod, typed, periodsBy, blockPeriods}
 use Rattle.calendar.specs.Periods.{periodsFrom, NextPeriod, NoPeriod}
-use Rattle.calendar.specs.Places.{eventAt, blockAt}
 use Rattle.calendar.specs.declared.Event.{Event}
-use Rattle.calendar.specs.declared.EventRead.{EventRead}
 use Rattle.calendar.specs.declared.Block.{Block}
 use Rattle.calendar.specs.declared.BlockRead.{BlockRead}
 use Rattle.calendar.specs.declared.Bound.{Bound}
 use Rattle.calendar.proofs.Listed.{periods-all}
-use Rattle.calendar.proofs.Steps.{eventOf-at, blockOf-at, periods-number}
+use Rattle.calendar.proofs.Steps.{periods-number}
 use Rattle.busy.specs.Sizes.{Small}
 use Rattle.busy.specs.TimeRange.{touches, instanceIn, EventIn, betweenIn, periodsTouch, boundsIn, blockIn, Decides}
-use Rattle.busy.proofs.Searching.{decided-once, few-before}
+use Rattle.busy.proofs.Searching.{few-before}
 use Rattle.busy.proofs.Starts.{in-range-starts}
 use Rattle.busy.proofs.PeriodLists.{periods-append}
 use Rattle.query.specs.WellFormed.{someBelow}
 use Rattle.query.proofs.Counting.{none-at}
-use Rattle.filter.specs.Tests.{eventIn, blockRangeIn, componentIn, instancesAtMost}
-use Rattle.filter.specs.Places.{propertiesAt, SmallAt, somePeriodIn, saysPeriods, lineIn, linesIn, blockLinesIn, inAt}
+use Rattle.filter.specs.Tests.{blockRangeIn, instancesAtMost}
+use Rattle.filter.specs.Places.{propertiesAt, somePeriodIn, saysPeriods, lineIn, linesIn, blockLinesIn}
 use Rattle.filter.proofs.Lines.{SomeOf}
 
 -- ---- the periods of a value: none before `at` touches the range
@@ -148,11 +146,7 @@ module _ (c : Context) (a b : ℕ) where
 
 -- ---- an event
 
--- the event read at a place is small
-pub event-at-small : (c : Context) (s : List ℕ) (at : ℕ) (e : Event) {r : EventRead} → SmallAt c s at → r ≡ eventAt c s at → r ≡ EventRead.Of e → Small e
-event-at-small c s at e h p q = h .small e (sym p ∙ q)
-
-some-at : (e : Event) (a b n : ℕ) → someBelow n (instanceIn e a b) ≡ true → EventIn e a b
+pub some-at : (e : Event) (a b n : ℕ) → someBelow n (instanceIn e a b) ≡ true → EventIn e a b
 unfolding someBelow
 some-at e a b zero h = clash h refl
 some-at e a b (suc n) h = go (instanceIn e a b n) refl (some-at e a b n)
@@ -163,7 +157,7 @@ some-at e a b (suc n) h = go (instanceIn e a b n) refl (some-at e a b n)
         below (sym (ap (λ (t : Bool). someBelow n (instanceIn e a b) || t) q ∙ or-false (someBelow n (instanceIn e a b))) ∙ h)
 
 -- so few instances decide
-some-decides : {e : Event} (a b : ℕ) → Small e → b ≤ 4102444799 → Decides (someBelow instancesAtMost (instanceIn e a b)) (EventIn e a b)
+pub some-decides : {e : Event} (a b : ℕ) → Small e → b ≤ 4102444799 → Decides (someBelow instancesAtMost (instanceIn e a b)) (EventIn e a b)
 some-decides {e} a b h p = go (someBelow instancesAtMost (instanceIn e a b)) refl
   where
     few : (k : ℕ) → instanceIn e a b k ≡ true → k < instancesAtMost
@@ -173,43 +167,11 @@ some-decides {e} a b h p = go (someBelow instancesAtMost (instanceIn e a b)) ref
     go true q = record { holds = λ z. some-at e a b instancesAtMost q; fails = λ z i. clash refl z }
     go false q = record { holds = λ z. clash z refl; fails = λ z i. clash (i .passes) (none-at (instanceIn e a b) instancesAtMost (i .number) (few (i .number) (i .passes)) q) }
 
-pub event-of : (y : EventRead) (e : Event) (a b : ℕ) {r : EventRead} {t : Bool} → Small e → b ≤ 4102444799 → r ≡ y → r ≡ EventRead.Of e
-    → Decides t (EventIn e a b) → t ≡ eventIn y a b
-unfolding eventIn
-event-of y e a b {r} {t} h p x q d =
-    decided-once t _ d (some-decides a b h p) ∙ ap (λ (w : EventRead). eventIn w a b) (sym q ∙ x)
+-- ---- a block of the tree, by its place
 
-pub event-broken : (y : EventRead) (a b : ℕ) {r : EventRead} → r ≡ y → r ≡ EventRead.Broken → false ≡ eventIn y a b
-unfolding eventIn
-event-broken y a b x q = ap (λ (w : EventRead). eventIn w a b) (sym q ∙ x)
-
--- ---- a component of the tree, by its place
-
-range-at : (c : Context) (k : Component) (s : List ℕ) (at i a b : ℕ) → k .items ≡ itemsOf 0 (linesFrom s at i) → (y : BlockRead)
+pub range-at : (c : Context) (k : Component) (s : List ℕ) (at i a b : ℕ) → k .items ≡ itemsOf 0 (linesFrom s at i) → (y : BlockRead)
     → blockRangeIn c k y a b ≡ blockLinesIn c y (propertiesAt s at) a b
 unfolding blockRangeIn blockLinesIn propertiesAt
 range-at c k s at i a b e (BlockRead.Of x) =
     ap (λ (ps : List BusyPeriod). blockIn x ps a b) (ap (λ (w : Items). blockPeriods c (propertiesIn w)) e ∙ periods-number c s at 0 i 1)
 range-at c k s at i a b e BlockRead.Broken = refl
-
-pub component-in-at : (c : Context) (o : Scope) (k : Component) (s : List ℕ) (at i a b : ℕ) → k .items ≡ itemsOf 0 (linesFrom s at i)
-    → componentIn c o k a b ≡ inAt c o s at a b
-unfolding componentIn inAt
-component-in-at c Scope.Event k s at i a b e = ap (λ (w : EventRead). eventIn w a b) (eventOf-at c k s at i e)
-component-in-at c Scope.FreeBusy k s at i a b e =
-    ap (λ (w : BlockRead). blockRangeIn c k w a b) (blockOf-at c k s at i e) ∙ range-at c k s at i a b e (blockAt c s at)
-component-in-at c Scope.Other k s at i a b e = refl
-
--- a component by its scope
-pub in-event : (c : Context) (s : List ℕ) (at a b : ℕ) (o : Scope) {t : Bool} → o ≡ Scope.Event → t ≡ eventIn (eventAt c s at) a b → t ≡ inAt c o s at a b
-unfolding inAt
-in-event c s at a b o q e = e ∙ ap (λ (w : Scope). inAt c w s at a b) (sym q)
-
-pub in-block : (c : Context) (s : List ℕ) (at a b : ℕ) (o : Scope) {t : Bool} → o ≡ Scope.FreeBusy
-    → t ≡ blockLinesIn c (blockAt c s at) (propertiesAt s at) a b → t ≡ inAt c o s at a b
-unfolding inAt
-in-block c s at a b o q e = e ∙ ap (λ (w : Scope). inAt c w s at a b) (sym q)
-
-pub in-other : (c : Context) (s : List ℕ) (at a b : ℕ) (o : Scope) → o ≡ Scope.Other → false ≡ inAt c o s at a b
-unfolding inAt
-in-other c s at a b o q = ap (λ (w : Scope). inAt c w s at a b) (sym q)

@@ -3,3 +3,6 @@ pub mod Lines
 pub mod Properly
 pub mod InRange
 pub mod Parts
+pub mod Trying
+pub mod Descending
+pub mod Sentences

@@ -1,2 +1,4 @@
 pub mod Tests
 pub mod Places
+pub mod Trials
+pub mod Paper

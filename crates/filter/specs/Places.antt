@@ -1,6 +1,5 @@
 -- The same by places in the bytes of a file: what stands in the component whose items begin at a place.
-use Prim.Native.Nat.{ℕ, zero, suc}
-use mathlib.Core.Path.{_≡_}
+use Prim.Native.Nat.{ℕ}
 use mathlib.Core.Bool.{Bool, true, false, _||_}
 use mathlib.Core.List.{List, [], _∷_}
 use Rattle.line.specs.Grammar.{ContentLine}
@@ -12,15 +11,8 @@ use Rattle.values.specs.declared.said.Scope.{Scope}
 use Rattle.values.specs.declared.said.Saying.{Saying}
 use Rattle.values.specs.declared.period.Period.{Period}
 use Rattle.calendar.specs.Meaning.{periodsBy, blockPeriods}
-use Rattle.calendar.specs.Places.{eventAt, blockAt}
-use Rattle.calendar.specs.declared.Event.{Event}
-use Rattle.calendar.specs.declared.EventRead.{EventRead}
 use Rattle.calendar.specs.declared.BlockRead.{BlockRead}
-use Rattle.busy.specs.Sizes.{Small}
 use Rattle.busy.specs.TimeRange.{touches, periodsTouch, blockIn}
-use Rattle.query.specs.Records.{rangeStart, rangeEnd}
-use Rattle.query.specs.declared.Sections.{Sections}
-use Rattle.filter.specs.Tests.{eventIn}
 
 -- the lines directly in it; by which number they begin plays no part in a test
 unfoldable pub propertiesAt : List ℕ → ℕ → List Numbered
@@ -58,18 +50,3 @@ linesIn c a b xs = periodsTouch a b (blockPeriods c xs)
 unfoldable pub blockLinesIn : Context → BlockRead → List Numbered → ℕ → ℕ → Bool
 blockLinesIn c (BlockRead.Of k) xs a b = blockIn k (blockPeriods c xs) a b
 blockLinesIn c BlockRead.Broken xs a b = false
-
--- the event whose items begin at a place has the sizes that its sums and products want
-pub record SmallAt (c : Context) (s : List ℕ) (at : ℕ) : Type 0 where
-  pub small : (e : Event) → eventAt c s at ≡ EventRead.Of e → Small e
-
--- is the component whose items begin at a place in the range?
-unfoldable pub inAt : Context → Scope → List ℕ → ℕ → ℕ → ℕ → Bool
-inAt c Scope.Event s at a b = eventIn (eventAt c s at) a b
-inAt c Scope.FreeBusy s at a b = blockLinesIn c (blockAt c s at) (propertiesAt s at) a b
-inAt c Scope.Other s at a b = false
-
--- the record's range, 0 for none, on the component of this scope whose items begin at a place
-unfoldable pub rangeAt : Context → List ℕ → Sections → ℕ → Scope → List ℕ → ℕ → Bool
-rangeAt c p q zero o s at = true
-rangeAt c p q (suc r) o s at = inAt c o s at (rangeStart p q r) (rangeEnd p q r)

@@ -128,7 +128,11 @@ childrenHold c s q (suc n) p i =
     i)
     && childrenHold c s q n p i
 
+-- component record j among these items; its children are tests of records of higher numbers
+unfoldable pub componentTest : Context → List ℕ → Sections → ℕ → Items → Bool
+componentTest c s q j i =
+    componentHolds c s q j (componentAt s q j) (λ inner. childrenHold c s q (q .components .count - suc j) j inner) i
+
 -- the query on a file: component record 0 among what stands outside every component
 unfoldable pub queryHolds : Context → List ℕ → Sections → Items → Bool
-queryHolds c s q tree =
-    componentHolds c s q 0 (componentAt s q 0) (λ inner. childrenHold c s q (q .components .count - 1) 0 inner) tree
+queryHolds c s q tree = componentTest c s q 0 tree

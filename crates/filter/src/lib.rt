@@ -5,3 +5,4 @@ pub mod parameters;
 pub mod properties;
 pub mod ranges;
 pub mod texts;
+pub mod trials;

@@ -10,7 +10,6 @@ ghost use mathlib.Core.Bool.{true};
 ghost use Prim.Native.Nat.{_≤_, _<_};
 ghost use Rattle.line.specs.Reading.{valuesOf, valuesNamed, lineOf};
 ghost use Rattle.query.specs.Fits.{Fits};
-ghost use Rattle.query.specs.Records.{textOf};
 ghost use Rattle.query.specs.WellFormed.{recordsGood};
 ghost use Rattle.filter.specs.Tests.{someValue, parameterHolds, parameterPasses, parametersHold};
 

@@ -1,9 +1,8 @@
-// Is a component in a time range, from a up to, but not including, b?
+// Is a block in a time range, from a up to, but not including, b?
 use busy::time_range;
 use calendar::Block;
 use calendar::BlockRead;
 use calendar::Bound;
-use calendar::EventRead;
 use calendar::periods;
 use calendar::periods::PeriodStep;
 use calendar::places;
@@ -15,14 +14,13 @@ use values::said::Saying;
 use values::said::Scope;
 use values::times::Context;
 ghost use mathlib.Core.Path.{_≡_};
-ghost use Prim.Native.Nat.{_≤_, _<_};
+ghost use Prim.Native.Nat.{_≤_};
 ghost use Rattle.line.specs.Reading.{lineOf};
 ghost use Rattle.calendar.specs.Meaning.{blockPeriods};
 ghost use Rattle.calendar.specs.Periods.{periodsFrom};
-ghost use Rattle.calendar.specs.Places.{eventAt, blockAt};
+ghost use Rattle.calendar.specs.Places.{blockAt};
 ghost use Rattle.busy.specs.TimeRange.{blockIn};
-ghost use Rattle.filter.specs.Tests.{eventIn};
-ghost use Rattle.filter.specs.Places.{propertiesAt, SmallAt, somePeriodIn, saysPeriods, lineIn, linesIn, blockLinesIn, inAt};
+ghost use Rattle.filter.specs.Places.{propertiesAt, somePeriodIn, saysPeriods, lineIn, linesIn, blockLinesIn};
 
 // Does some period of a value touch the range?
 fn value_in(v: &[u8], a: u64, b: u64) -> bool
@@ -119,34 +117,5 @@ pub fn block_in_at(s: &[u8], at: usize, c: Context, a: u64, b: u64) -> bool
     match places::block_at(s, at, c) {
         BlockRead::Of(k) => bounds_in(k, s, at, c, a, b),
         BlockRead::Broken => false,
-    }
-}
-
-// Is the event whose items begin here in the range?
-pub fn event_in_at(s: &[u8], at: usize, c: Context, a: u64, b: u64) -> bool
-    requires { ⌜ c .shift ≤ 100800 ⌝ }
-    requires { ⌜ SmallAt c (now s) at ⌝ }
-    requires { ⌜ a < b ⌝ }
-    requires { ⌜ b ≤ 4102444799 ⌝ }
-    ensures { λ r. ⌜ r ≡ eventIn (eventAt c (now (s .entry)) at) a b ⌝ }
-{
-    match places::event_at(s, at, c) {
-        EventRead::Of(e) => time_range::event_in(e, a, b),
-        EventRead::Broken => false,
-    }
-}
-
-// Is the component of this scope, whose items begin here, in the range?
-pub fn in_at(s: &[u8], at: usize, c: Context, scope: Scope, a: u64, b: u64) -> bool
-    requires { ⌜ c .shift ≤ 100800 ⌝ }
-    requires { ⌜ SmallAt c (now s) at ⌝ }
-    requires { ⌜ a < b ⌝ }
-    requires { ⌜ b ≤ 4102444799 ⌝ }
-    ensures { λ r. ⌜ r ≡ inAt c scope (now (s .entry)) at a b ⌝ }
-{
-    match scope {
-        Scope::Event => event_in_at(s, at, c, a, b),
-        Scope::FreeBusy => block_in_at(s, at, c, a, b),
-        Scope::Other => false,
     }
 }
