@@ -1,0 +1,121 @@
+-- Whole match calls at the edges: one table, one statement, computed from the definitions.
+use Prim.Native.Nat.{ℕ}
+use mathlib.Core.Path.{_≡_, refl}
+use mathlib.Core.Bool.{true, false}
+use mathlib.Core.List.{List, [], _∷_, _++_}
+use Prim.Native.String.{String}
+use lib.IntN.{ℤ, pos, negsuc}
+use Rattle.ascii.specs.Words.{ascii}
+use Rattle.engine.specs.Answers.{Outcome, verdict, refusal}
+use Rattle.engine.specs.Refusals.{lowest, lineRow, nestingRow, unsupportedRow, badValueRow, ruleRow, calendarRows}
+use Rattle.engine.specs.Offsets.{offsetGood}
+use Rattle.engine.specs.Matching.{MatchCall, sizeRows, misplacedIn, queryRows, matchRows, verdictBy, verdictOf, unlessRefused, matchOutcome}
+use Rattle.ascii.specs.Bytes.{isDigit, isLetter, isNameByte, isControl, upper}
+use Rattle.ascii.specs.Names.{sameName, isName}
+use Rattle.text.specs.Lines.{cut, contentLines}
+use Rattle.text.specs.Unfolding.{isBreak, isBlank, isFold, unfolded}
+use Rattle.query.specs.Records.{textPlace, textFrom, textOf, componentAt}
+use Rattle.query.specs.Sections.{byteAt, countFits, within, behindRecords, behindText, behindTexts, behindTextSection, sectionsOf}
+use Rattle.query.specs.WellFormed.{everyBelow, someBelow, nameGood, hasChildComponent, hasProperty, standsGood, componentGood, rangesGood, componentsGood, propertiesGood, parametersGood, recordsGood, sectionsGood, queryGood, componentMisplaced, componentsMisplaced, propertiesMisplaced, rangeMisplaced}
+use Rattle.line.specs.Pieces.{firstOutside, before, after, pieces}
+use Rattle.line.specs.Reading.{headOf, valueOf, nameOf, parameterTexts, lineOf, parametersNamed, someList, hasParameter, hasTwice, hasList}
+use Rattle.line.specs.Scanner.{step, isEnding, scan, isWellFormed}
+use Rattle.line.specs.WellFormed.{lineCheckFrom, lineCheck}
+use Rattle.nesting.specs.Components.{markedFrom, itemsOf, treeOf, componentsIn, propertiesIn, itemsBelow}
+use Rattle.nesting.specs.Marks.{markOf}
+use Rattle.nesting.specs.Nesting.{isCalendar, isEvent, mayBegin, afterBegin, afterEnd, afterProperty, walk, outcome, nestingOf}
+use Rattle.nesting.specs.Passing.{treeIn}
+use Rattle.filter.specs.Tests.{propertiesHold, rangeHolds, someComponentNamed, someComponent, componentHolds, childrenHold, componentTest, queryHolds}
+use Rattle.calendar.specs.Events.{endingBy, repeatBy, eventMade, eventWith, eventFrom, eventBy}
+use Rattle.calendar.specs.Gathered.{nothingGathered, timeGiven, durationGiven, ruleGiven, statusGiven, transparencyGiven, gatheredWith, gather}
+use Rattle.calendar.specs.Meaning.{scopeOf, componentScope, sayingsIn, faultOr, faultIn, valueFault, eventOf, isBroken, brokenOr, ruleFault, fileLines, componentsOf}
+use Rattle.values.specs.Said.{isUnsupported, timesOr, eventProperty, propertyOf, timeIn, startBy, unlessZoned, saidBy, sayingOf}
+use Rattle.values.specs.Times.{atSecond, timeBy, readTime, formOf, timeOf}
+use Rattle.time.specs.DateTime.{digitPair, pairAt, joined, yearAt, checkedDay, three, dateAt, checkedTime, timeAt, clockOf, clockAt, readDateTime}
+use Rattle.time.specs.Days.{isLeap, yearDays, daysBeforeYear, monthLengths, lengthIn, beforeIn, monthDays, daysBeforeMonth, dayNumber, isDay}
+use Rattle.time.specs.Limits.{epoch, lastSecond, since, utcSecond}
+
+-- ---- the papers and the calendars
+
+-- each line with its CR LF
+abbrev file : List String → List ℕ
+file [] = []
+file (l ∷ ls) = ascii l ++ (13 ∷ 10 ∷ file ls)
+
+-- a calendar with nothing in it, and one with a line in an event
+abbrev empty : List ℕ
+empty = file ("BEGIN:VCALENDAR" ∷ "END:VCALENDAR" ∷ [])
+
+abbrev event : String → List ℕ
+event l = file ("BEGIN:VCALENDAR" ∷ "BEGIN:VEVENT" ∷ l ∷ "END:VEVENT" ∷ "END:VCALENDAR" ∷ [])
+
+-- a fold inside a name
+abbrev folded : List ℕ
+folded = ascii "BEGIN:VCAL" ++ (13 ∷ 10 ∷ 32 ∷ file ("ENDAR" ∷ "END:VCALENDAR" ∷ []))
+
+-- two texts, then the records
+abbrev paper : List ℕ → List ℕ
+paper r = 0 ∷ 2 ∷ 9 ∷ ascii "VCALENDAR" ++ (6 ∷ ascii "VEVENT" ++ r)
+
+-- a calendar; a calendar with an event; a calendar without; a badly formed paper
+abbrev any : List ℕ
+any = paper (1 ∷ 0 ∷ 0 ∷ 0 ∷ 0 ∷ 0 ∷ 0 ∷ [])
+
+abbrev some : List ℕ
+some = paper (2 ∷ 0 ∷ 0 ∷ 0 ∷ 0 ∷ 0 ∷ 1 ∷ 0 ∷ 0 ∷ 0 ∷ 0 ∷ [])
+
+abbrev none : List ℕ
+none = paper (2 ∷ 0 ∷ 0 ∷ 0 ∷ 0 ∷ 0 ∷ 1 ∷ 0 ∷ 1 ∷ 0 ∷ 0 ∷ [])
+
+abbrev bad : List ℕ
+bad = []
+
+-- ---- the table
+
+pub record Example : Type 0 where
+  pub calendar : List ℕ
+  pub query : List ℕ
+  pub offset : ℤ
+  pub said : Outcome
+
+abbrev room : List ℕ
+room = ascii "a work buffer that has at least as many bytes as any of the calendars of this table, and some more besides"
+
+abbrev pub callOf : Example → MatchCall
+callOf x = record { calendar = x .calendar; query = x .query; offset = x .offset; work = room }
+
+abbrev pub AllHold : List Example → Type 0
+AllHold [] = Unit {0}
+AllHold (x ∷ xs) = (matchOutcome (callOf x) ≡ x .said) × AllHold xs
+
+abbrev row : List ℕ → List ℕ → ℤ → Outcome → Example
+row c q o n = record { calendar = c; query = q; offset = o; said = n }
+
+abbrev pub table : List Example
+table =
+    row empty any (pos 0) (verdict true)
+    ∷ row folded any (pos 0) (verdict true)
+    ∷ row empty some (pos 0) (verdict false)
+    ∷ row empty none (pos 0) (verdict true)
+    -- the first and the last offset, and those beyond
+    ∷ row empty any (pos 50400) (verdict true)
+    ∷ row empty any (pos 50401) (refusal 1)
+    ∷ row empty any (negsuc 50399) (verdict true)
+    ∷ row empty any (negsuc 50400) (refusal 1)
+    -- 1 goes before 4, and 4 before 7
+    ∷ row empty bad (pos 50401) (refusal 1)
+    ∷ row [] bad (pos 0) (refusal 4)
+    -- a line without CR LF, and no line
+    ∷ row (ascii "BEGIN:VCALENDAR") any (pos 0) (refusal 6)
+    ∷ row [] any (pos 0) (refusal 7)
+    -- an event: good, with an unsupported line, with a bad value, with no start
+    ∷ row (event "DTSTART:20240311T080000Z") some (pos 0) (verdict true)
+    ∷ row (event "DTSTART:20240311T080000Z") none (pos 0) (verdict false)
+    ∷ row (event "RDATE:20240311T080000Z") any (pos 0) (refusal 8)
+    ∷ row (event "DTSTART:20010229T000000Z") any (pos 0) (refusal 9)
+    ∷ row (event "SUMMARY:late shift") any (pos 0) (refusal 10)
+    ∷ []
+
+pub edges : AllHold table
+unfolding matchOutcome unlessRefused lowest matchRows offsetGood sizeRows queryRows queryGood sectionsGood sectionsOf behindRecords countFits byteAt within behindTextSection behindTexts behindText recordsGood rangesGood everyBelow componentsGood componentGood nameGood componentAt isName textOf textFrom textPlace isNameByte isLetter standsGood sameName upper propertiesGood parametersGood misplacedIn rangeMisplaced componentsMisplaced someBelow componentMisplaced propertiesMisplaced calendarRows lineRow lineCheck lineCheckFrom cut unfolded isFold isBreak isBlank isWellFormed scan isEnding step isDigit isControl nestingRow nestingOf outcome walk fileLines contentLines markOf lineOf nameOf before firstOutside headOf parameterTexts pieces valueOf after afterEnd afterBegin isCalendar unsupportedRow valueFault componentsOf componentsIn itemsBelow treeOf itemsOf markedFrom badValueRow ruleRow ruleFault verdictOf verdictBy queryHolds componentTest componentHolds someComponent treeIn rangeHolds propertiesHold childrenHold hasChildComponent hasProperty someComponentNamed afterProperty mayBegin faultIn propertiesIn faultOr sayingOf saidBy propertyOf componentScope scopeOf isEvent timesOr unlessZoned hasParameter parametersNamed startBy timeIn timeOf readTime formOf hasTwice hasList someList timeBy readDateTime clockAt clockOf dateAt three yearAt joined pairAt digitPair checkedDay isDay monthDays lengthIn monthLengths timeAt checkedTime atSecond utcSecond since epoch dayNumber daysBeforeYear endingBy repeatBy eventMade eventWith eventFrom eventBy nothingGathered timeGiven durationGiven ruleGiven statusGiven transparencyGiven gatheredWith gather sayingsIn eventOf isBroken brokenOr isUnsupported eventProperty isLeap yearDays beforeIn daysBeforeMonth lastSecond
+edges = (refl, (refl, (refl, (refl, (refl, (refl, (refl, (refl, (refl, (refl, (refl, (refl, (refl, (refl, (refl, (refl, (refl, tt)))))))))))))))))

@@ -1,0 +1,147 @@
+// Runs cases of the public calls: one a line on standard input, a line with its answer on standard output.
+// A case: match or report, calendar in hex, query in hex or -, start, end, offset, stamp, work length, output length, a tab between two;
+// an empty byte string is a dot. Both buffers are filled with 0xA5 before the call. The answer: its kind, its number, a line (0),
+// Adler-32 of the whole work buffer, and of the whole output buffer.
+mod adler;
+mod case;
+mod out;
+
+use case::Case;
+use case::Offset;
+use engine::Answer;
+use out::print;
+use out::print_number;
+
+fn print_answer(a: Answer) {
+    match a {
+        Answer::Verdict(yes) => {
+            print(b"verdict\t");
+            print_number(yes as u64);
+        }
+        Answer::Length(n) => {
+            print(b"length\t");
+            print_number(n as u64);
+        }
+        Answer::Refused(n) => {
+            print(b"refusal\t");
+            print_number(n as u64);
+        }
+    }
+}
+
+// The two checksums, and the end of the line.
+fn print_sums(work: &[u8], out: &[u8]) {
+    print(b"\t0\t");
+    print_number(adler::adler(work));
+    print(b"\t");
+    print_number(adler::adler(out));
+    print(b"\n");
+}
+
+fn print_unreadable(line: u64) {
+    print(b"line ");
+    print_number(line);
+    print(b" cannot be read\n");
+}
+
+// Makes the call.
+fn call(line: u64, offset: Offset, cal: &[u8], query: &[u8], work: &mut [u8], out: &mut [u8]) {
+    match offset {
+        Offset::Of(seconds) => {
+            adler::fill(work);
+            adler::fill(out);
+            print_answer(engine::matches(cal, query, seconds, work));
+            print_sums(work, out);
+        }
+        Offset::Bad => print_unreadable(line),
+    }
+}
+
+// Cuts the buffers to the case's lengths.
+fn with_buffers(c: Case, cal: &[u8], query: &[u8], work: &mut [u8], out: &mut [u8]) {
+    let w = c.work;
+    let o = c.out;
+    let line = c.line;
+    let offset = case::offset_of(c.offset, c.below);
+    if w <= work.len() {
+        if o <= out.len() {
+            call(line, offset, cal, query, &mut work[..w], &mut out[..o]);
+            return;
+        }
+    }
+    print_unreadable(line);
+}
+
+// Answers a line that has been read whole.
+fn answer(c: Case, cal: &[u8], query: &[u8], work: &mut [u8], out: &mut [u8]) {
+    let n = c.cal;
+    let m = c.query;
+    let line = c.line;
+    if c.bad | (c.field != 9) {
+        print_unreadable(line);
+        return;
+    }
+    if n <= cal.len() {
+        if m <= query.len() {
+            with_buffers(c, &cal[..n], &query[..m], work, out);
+            return;
+        }
+    }
+    print_unreadable(line);
+}
+
+// One byte of the input; a line that is empty is passed over.
+fn step(cal: &mut [u8], query: &mut [u8], work: &mut [u8], out: &mut [u8], c: Case, b: u8) -> Case {
+    match b {
+        9 => case::end_field(c),
+        10 => {
+            if c.field == 0 && !c.begun {
+                return case::begin(c.line);
+            }
+            answer(case::end_field(c), cal, query, work, out);
+            case::begin(std::num::wrapping_add_u64(c.line, 1))
+        }
+        _ => case::feed(cal, query, c, b),
+    }
+}
+
+// One block of the input.
+fn run_block(
+    block: &[u8],
+    cal: &mut [u8],
+    query: &mut [u8],
+    work: &mut [u8],
+    out: &mut [u8],
+    c: Case,
+) -> Case {
+    let mut now = c;
+    let mut i: usize = 0;
+    while i < block.len() {
+        now = step(cal, query, work, out, now, block[i]);
+        i += 1;
+    }
+    now
+}
+
+// Block after block, as many as can be.
+fn run(block: &mut [u8], cal: &mut [u8], query: &mut [u8], work: &mut [u8], out: &mut [u8]) {
+    let mut now = case::begin(1);
+    let mut left: u64 = 1000000000;
+    while 0 < left {
+        let n = io::read_full(libc::STDIN_FILENO, block);
+        if n == 0 {
+            return;
+        }
+        now = run_block(&block[..n], cal, query, work, out, now);
+        left -= 1;
+    }
+}
+
+fn main() {
+    let mut block = io::large_buffer();
+    let mut cal = [0u8; 131072];
+    let mut query = [0u8; 16384];
+    let mut work = [0u8; 131072];
+    let mut out = [0u8; 131072];
+    run(&mut block, &mut cal, &mut query, &mut work, &mut out);
+}

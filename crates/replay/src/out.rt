@@ -1,0 +1,10 @@
+// Printing.
+use libc::STDOUT_FILENO;
+
+pub fn print(s: &[u8]) {
+    io::write_all(STDOUT_FILENO, s);
+}
+
+pub fn print_number(n: u64) {
+    io::print_decimal(STDOUT_FILENO, n);
+}
