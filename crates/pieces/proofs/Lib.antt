@@ -1,0 +1,5 @@
+pub mod Adding
+pub mod Clipping
+pub mod Covering
+pub mod Events
+pub mod Leaving

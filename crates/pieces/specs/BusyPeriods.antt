@@ -1,0 +1,33 @@
+-- The busy periods of a calendar (document 01, Busy type): every instance that stands of each event, and every FREEBUSY period, each with its type, in file order.
+use Prim.Native.Nat.{ℕ, zero, suc}
+use mathlib.Core.Bool.{true, false}
+use mathlib.Core.List.{List, [], _∷_, _++_}
+use Rattle.calendar.specs.Meaning.{BusyPeriod, Entry, event, block}
+use Rattle.calendar.specs.declared.Event.{Event}
+use Rattle.busy.specs.Instances.{startOf, endOf, stands}
+use Rattle.table.specs.Runs.{period}
+
+-- the lists of 0, 1, .., n - 1 after each other
+unfoldable pub listBelow : ℕ → (ℕ → List BusyPeriod) → List BusyPeriod
+listBelow zero f = []
+listBelow (suc n) f = listBelow n f ++ f n
+
+-- starts are a day or more apart, so that instances below this number are all that start by the last second
+abbrev pub instancesAtMost : ℕ
+instancesAtMost = 50000
+
+-- instance k, where it stands
+unfoldable pub instancePeriod : Event → ℕ → List BusyPeriod
+instancePeriod e k = elim (stands e k) [ true ↦ record { busy = e .busy; period = period (startOf e k) (endOf e k) } ∷ [] | false ↦ [] ]
+
+unfoldable pub eventPeriods : Event → List BusyPeriod
+eventPeriods e = listBelow instancesAtMost (instancePeriod e)
+
+-- a block's own ends are no busy time and do not clip its periods
+unfoldable pub entryPeriods : Entry → List BusyPeriod
+entryPeriods (event e) = eventPeriods e
+entryPeriods (block k ps) = ps
+
+unfoldable pub busyPeriods : List Entry → List BusyPeriod
+busyPeriods [] = []
+busyPeriods (x ∷ xs) = entryPeriods x ++ busyPeriods xs

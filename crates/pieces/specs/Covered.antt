@@ -1,0 +1,33 @@
+-- The covered seconds of a busy type (document 01, Busy type): by the calendar and its offset alone.
+use Prim.Native.Nat.{ℕ, _≤_, _<_}
+use mathlib.Core.Path.{_≡_}
+use mathlib.Core.Bool.{Bool, true, false}
+use mathlib.Core.List.{List, [], _∷_, List·Memᴰ}
+use Rattle.values.specs.declared.period.Period.{Period}
+use Rattle.values.specs.declared.said.Busy.{Busy}
+use Rattle.calendar.specs.BusyTypes.{sameBusy}
+use Rattle.calendar.specs.Meaning.{BusyPeriod, Entry, event, block}
+use Rattle.calendar.specs.declared.Event.{Event}
+use Rattle.calendar.specs.declared.Block.{Block}
+use Rattle.busy.specs.Instances.{startOf, endOf, stands}
+use Rattle.table.specs.Runs.{covers}
+use Rattle.pieces.specs.BusyPeriods.{busyPeriods}
+
+-- the periods of one type
+unfoldable pub ofType : Busy → List BusyPeriod → List Period
+ofType b [] = []
+ofType b (p ∷ ps) = elim (sameBusy b (p .busy)) [ true ↦ p .period ∷ ofType b ps | false ↦ ofType b ps ]
+
+-- does a period of the type cover the second?
+unfoldable pub coveredBy : Busy → List BusyPeriod → ℕ → Bool
+coveredBy b ps x = covers (ofType b ps) x
+
+-- is the second covered under the type?
+unfoldable pub covered : Busy → List Entry → ℕ → Bool
+covered b es x = coveredBy b (busyPeriods es) x
+
+-- the same for the reader: some instance that stands, or some FREEBUSY period, of that type covers the second
+pub data Covers (es : List Entry) (b : Busy) (x : ℕ) : Type 0 where
+  by-instance : (e : Event) → List·Memᴰ (event e) es → e .busy ≡ b → (k : ℕ) → stands e k ≡ true → startOf e k ≤ x → x < endOf e k → Covers es b x
+  by-period : (k : Block) (ps : List BusyPeriod) → List·Memᴰ (block k ps) es → (p : BusyPeriod) → List·Memᴰ p ps → p .busy ≡ b → p .period .start ≤ x
+      → x < p .period .end → Covers es b x

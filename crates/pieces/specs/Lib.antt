@@ -1,0 +1,5 @@
+pub mod BusyPeriods
+pub mod Covered
+pub mod Pieces
+pub mod Columns
+pub mod Walks

@@ -1,0 +1,25 @@
+-- The period table of one busy type, from the busy pieces that were noted (document 01, The report's bytes).
+use Prim.Native.Nat.{ℕ, zero, suc, _≤_}
+use mathlib.Core.Path.{_≡_}
+use mathlib.Core.Bool.{true, false}
+use mathlib.Core.List.{List, [], _∷_}
+use lib.Dec.{eqb}
+use Rattle.values.specs.declared.period.Period.{Period}
+use Rattle.table.specs.Runs.{period}
+use Rattle.table.specs.Inserting.{gathered}
+use Rattle.table.specs.Tables.{listed, Sound}
+use Rattle.table.specs.declared.Table.{Table}
+
+-- of the first n pieces in a column, three numbers each, the periods of the type of this place
+unfoldable pub periodsAt : ℕ → ℕ → List ℕ → List Period
+periodsAt k zero c = []
+periodsAt k (suc n) [] = []
+periodsAt k (suc n) (a ∷ []) = []
+periodsAt k (suc n) (a ∷ b ∷ []) = []
+periodsAt k (suc n) (a ∷ b ∷ j ∷ c) = elim (eqb j k) [ true ↦ period a b ∷ periodsAt k n c | false ↦ periodsAt k n c ]
+
+-- the table of that type: each period added in turn
+pub record Built (c : List ℕ) (n k : ℕ) (r : Table) : Type 0 where
+  pub list : listed r ≡ gathered [] (periodsAt k n c)
+  pub count : r .count ≤ n
+  pub sound : Sound r
