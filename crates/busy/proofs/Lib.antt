@@ -3,4 +3,3 @@ pub mod EventSizes
 pub mod Starts
 pub mod Searching
 pub mod PeriodLists
-pub mod Examples

@@ -24,7 +24,7 @@ use Rattle.engine.specs.Demands.{NoneApplies, AnswersOrRefuses, MatchesW
 use Rattle.engine.specs.declared.Answer.{Answer}
 use Rattle.engine.proofs.Tables.{none-iff, lowest-iff}
 use Rattle.engine.proofs.Passing.{rises, sizes-rising, query-rising, calendar-rising}
-use Rattle.engine.proofs.Outcomes.{refused, let-through}
+use Rattle.engine.proofs.Outcomes.{refused, let-through, verdict-apart, refusal-found, answer-found}
 
 -- ---- the table of a match call
 
@@ -36,19 +36,8 @@ match-rising m =
 
 -- ---- Demand 1
 
-not-refusal : {A : Type 0} {o : Outcome} {b : Bool} {n : ℕ} → o ≡ verdict b → o ≡ refusal n → A
-not-refusal e k = let z : _≡_ {A = ℕ} 0 1 = cc in absurd (omega arith)
-
--- an outcome that is a refusal names the lowest row; one that is a verdict has none
-refusal-found : {k : ℕ} (b : Bool) (f : Fault) → unlessRefused f (verdict b) ≡ refusal k → (i : ℕ) × (f ≡ Fault.At k i)
-unfolding unlessRefused
-refusal-found b Fault.None e = not-refusal refl e
-refusal-found {k} b (Fault.At n i) e = let z : n ≡ k = cc in (i, ap (λ (j : ℕ). Fault.At j i) z)
-
 verdict-found : {t : Bool} (b : Bool) (f : Fault) → unlessRefused f (verdict b) ≡ verdict t → (f ≡ Fault.None) × (b ≡ t)
-unfolding unlessRefused
-verdict-found b Fault.None e = (refl, cc)
-verdict-found b (Fault.At n i) e = not-refusal e refl
+verdict-found {t} b f e = let w = answer-found (verdict b) (verdict-apart t) f e in let same = w .1 in (w .0, cc)
 
 module _ {m : MatchCall} {a : Answer} {left : List ℕ} (p : Matched m a left) where
   pub answers-or-refuses : AnswersOrRefuses m a
@@ -58,7 +47,7 @@ module _ {m : MatchCall} {a : Answer} {left : List ℕ} (p : Matched m a left) w
         refused-when =
             λ k.
             let n = lowest-iff (matchRows m) k (match-rising m) in
-            (λ e. n .0 (refusal-found (verdictOf m) (lowest (matchRows m)) (sym (p .answered) ∙ e)), λ l. p .answered ∙ refused _ (n .1 l .1));
+            (λ e. n .0 (refusal-found (verdict (verdictOf m)) (verdict-apart (verdictOf m)) (lowest (matchRows m)) (sym (p .answered) ∙ e)), λ l. p .answered ∙ refused _ (n .1 l .1));
         verdict-when = λ h. (verdictOf m, p .answered ∙ let-through _ (none-iff (matchRows m) .1 h));
       }
 

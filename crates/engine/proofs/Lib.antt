@@ -2,6 +2,17 @@ pub mod Offsets
 pub mod Tables
 pub mod Passing
 pub mod Outcomes
+pub mod CollectTables
+pub mod CollectCalls
 pub mod Demands
 pub mod Frauds
 pub mod Examples
+pub mod Reports
+pub mod Written
+pub mod Saying
+pub mod Meanings
+pub mod Returning
+pub mod ReportFrauds
+pub mod ReportStages
+pub mod ReportWriting
+pub mod TwiceCalls

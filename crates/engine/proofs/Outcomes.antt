@@ -3,6 +3,7 @@ use Prim.Native.Nat.{ℕ}
 use mathlib.Core.Path.{_≡_, refl, sym, ap, _∙_}
 use mathlib.Core.Bool.{Bool, true, false, not}
 use mathlib.Core.List.{List, [], _++_}
+use native.Mathlib.Omega.{arith}
 use lib.Dec.{leb}
 use lib.IntN.{ℤ}
 use lib.ListN.{length, take, drop}
@@ -17,7 +18,7 @@ use Rattle.query.specs.declared.Sections.{Sections}
 use Rattle.query.specs.declared.SectionsRead.{SectionsRead}
 use Rattle.query.specs.declared.QueryRead.{QueryRead}
 use Rattle.filter.specs.Tests.{queryHolds}
-use Rattle.engine.specs.Answers.{Outcome, verdict, refusal, outcomeOf, refusedEarly, workAfter}
+use Rattle.engine.specs.Answers.{Outcome, verdict, report, refusal, outcomeOf, refusedEarly, workAfter}
 use Rattle.engine.specs.Refusals.{lowest, calendarRows}
 use Rattle.engine.specs.Offsets.{contextOf, offsetRead}
 use Rattle.engine.specs.Matching.{MatchCall, sizeRows, queryRows, matchRows, verdictBy, verdictOf, unlessRefused, matchOutcome, Matched}
@@ -38,6 +39,24 @@ refused o e = rw e
 pub let-through : {f : Fault} (o : Outcome) → f ≡ Fault.None → unlessRefused f o ≡ o
 unfolding unlessRefused
 let-through o e = rw e
+
+-- a verdict and a report are no refusals
+pub verdict-apart : (b : Bool) (k : ℕ) → verdict b ≡ refusal k → ⊥
+verdict-apart b k e = let z : _≡_ {A = ℕ} 0 1 = cc in absurd (omega arith)
+
+pub report-apart : (n k : ℕ) → report n ≡ refusal k → ⊥
+report-apart n k e = let z : _≡_ {A = ℕ} 0 1 = cc in absurd (omega arith)
+
+-- an outcome that is a refusal names the lowest row; one that is none has no row
+pub refusal-found : {k : ℕ} (o : Outcome) → ((n : ℕ) → o ≡ refusal n → ⊥) → (f : Fault) → unlessRefused f o ≡ refusal k → (i : ℕ) × (f ≡ Fault.At k i)
+unfolding unlessRefused
+refusal-found {k} o h Fault.None e = absurd (h k e)
+refusal-found {k} o h (Fault.At n i) e = let z : n ≡ k = cc in (i, ap (λ (j : ℕ). Fault.At j i) z)
+
+pub answer-found : {p : Outcome} (o : Outcome) → ((n : ℕ) → p ≡ refusal n → ⊥) → (f : Fault) → unlessRefused f o ≡ p → (f ≡ Fault.None) × (o ≡ p)
+unfolding unlessRefused
+answer-found o h Fault.None e = (refl, e)
+answer-found o h (Fault.At n i) e = absurd (h n (sym e))
 
 module _ (cal work : List ℕ) where
   pub work-by : {t : Bool} (o : Outcome) → refusedEarly o ≡ t

@@ -4,3 +4,10 @@ pub mod Offsets
 pub mod Matching
 pub mod Demands
 pub mod Stages
+pub mod Reporting
+pub mod Meanings
+pub mod ReportAnswers
+pub mod Collecting
+pub mod CollectStages
+pub mod ReportWriting
+pub mod Twice

@@ -1,12 +1,16 @@
-// The public calls: does a calendar match a query?
+// The public calls: does a calendar match a query, and what is its report over a range?
 // No call has a `requires`, and each contract fixes the answer and every byte lent for writing.
+pub mod collecting;
 pub mod matching;
+pub mod reporting;
 pub mod stages;
+pub mod twice;
 
 use calendar::Fault;
 use stages::OffsetRead;
 use values::times::Context;
 ghost use Rattle.engine.specs.Matching.{Matched};
+ghost use Rattle.engine.specs.Reporting.{Reported};
 
 // What a public call answers.
 pub enum Answer {
@@ -28,5 +32,33 @@ pub fn matches(cal: &[u8], query: &[u8], offset: i64, work: &mut [u8]) -> Answer
             Fault::At(n, line) => Answer::Refused(n),
             Fault::None => matching::match_query(work, cal, query, Context { shift: shift }),
         },
+    }
+}
+
+// The report of the calendar over a range. On any refusal the output is unchanged; otherwise the report stands first in it.
+pub fn report(
+    cal: &[u8],
+    start: u64,
+    end: u64,
+    offset: i64,
+    stamp: u64,
+    work: &mut [u8],
+    out: &mut [u8],
+) -> Answer
+    ensures { λ r. ⌜ Reported (record { calendar = now (cal .entry); start = start; end = end; offset = offset; stamp = stamp; work = now (work .entry); output = now (out .entry) }) r (now (work .exit)) (now (out .exit)) ⌝ }
+{
+    let c = collecting::collect(cal, start, end, offset, stamp, work);
+    let f = c.fault;
+    match f {
+        Fault::At(n, line) => Answer::Refused(n),
+        Fault::None => reporting::write_report(
+            out,
+            start,
+            end,
+            stamp,
+            c.busy,
+            c.tentative,
+            c.unavailable,
+        ),
     }
 }

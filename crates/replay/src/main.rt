@@ -44,16 +44,24 @@ fn print_unreadable(line: u64) {
     print(b" cannot be read\n");
 }
 
+// The call that the case asks for.
+fn ask(c: Case, offset: i64, cal: &[u8], query: &[u8], work: &mut [u8], out: &mut [u8]) -> Answer {
+    if c.is_match {
+        return engine::matches(cal, query, offset, work);
+    }
+    engine::report(cal, c.start, c.end, offset, c.stamp, work, out)
+}
+
 // Makes the call.
-fn call(line: u64, offset: Offset, cal: &[u8], query: &[u8], work: &mut [u8], out: &mut [u8]) {
+fn call(c: Case, offset: Offset, cal: &[u8], query: &[u8], work: &mut [u8], out: &mut [u8]) {
     match offset {
         Offset::Of(seconds) => {
             adler::fill(work);
             adler::fill(out);
-            print_answer(engine::matches(cal, query, seconds, work));
+            print_answer(ask(c, seconds, cal, query, work, out));
             print_sums(work, out);
         }
-        Offset::Bad => print_unreadable(line),
+        Offset::Bad => print_unreadable(c.line),
     }
 }
 
@@ -65,7 +73,7 @@ fn with_buffers(c: Case, cal: &[u8], query: &[u8], work: &mut [u8], out: &mut [u
     let offset = case::offset_of(c.offset, c.below);
     if w <= work.len() {
         if o <= out.len() {
-            call(line, offset, cal, query, &mut work[..w], &mut out[..o]);
+            call(c, offset, cal, query, &mut work[..w], &mut out[..o]);
             return;
         }
     }

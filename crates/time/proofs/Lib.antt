@@ -7,5 +7,4 @@ pub mod Durations
 pub mod Calendar
 pub mod Putting
 pub mod Written
-pub mod Examples
 pub mod Grammar

@@ -1,0 +1,74 @@
+-- Demand 3: two calls over one range with one stamp report the same bytes exactly when their calendars cover the same seconds.
+use Prim.Native.Nat.{ℕ, _+_, _-_, _≤_, _<_}
+use mathlib.Core.Path.{_≡_, sym, ap, _∙_}
+use mathlib.Core.Bool.{true}
+use mathlib.Core.List.{List}
+use mathlib.Core.Logic.{_↔_}
+use native.Mathlib.Omega.{arith}
+use lib.IntN.{pos}
+use lib.ListN.{length, take}
+use Rattle.values.specs.declared.said.Busy.{Busy}
+use Rattle.calendar.specs.BusyTypes.{isBusy}
+use Rattle.table.proofs.Runs.{runs-same}
+use Rattle.report.specs.Bytes.{reportBytes}
+use Rattle.engine.specs.Reporting.{ReportCall, coveredIn, reportFor, Reported}
+use Rattle.engine.specs.Meanings.{NoRefusal, IsReport, SameRange, SameSeconds, OneMeaning}
+use Rattle.engine.specs.declared.Answer.{Answer}
+use Rattle.engine.proofs.Reports.{reports-or-refuses, report-stands}
+use Rattle.engine.proofs.Written.{range-good, stamp-good, equal-bytes}
+use Rattle.engine.proofs.Saying.{read-covers}
+
+-- ---- same seconds, same bytes
+
+-- a second counted from a start lies before the end
+before-end : (a e t : ℕ) → a ≤ t → t < a + (e - a) → t < e
+before-end a e t h k = omega arith
+
+module _ {x y : ReportCall} (r : SameRange x y) where
+  pub same-periods : SameSeconds x y → (b : Busy) → isBusy b ≡ true → reportFor x .periods b ≡ reportFor y .periods b
+  unfolding SameSeconds reportFor
+  same-periods s b u =
+      let g = coveredIn (y .calendar) (y .offset) b in
+      runs-same (coveredIn (x .calendar) (x .offset) b) g (x .start) (x .end - x .start) (λ t h k. s b u t h (before-end (x .start) (x .end) t h k))
+      ∙ rw (r .same-start, r .same-end)
+
+  pub same-bytes : SameSeconds x y → reportBytes (reportFor x) ≡ reportBytes (reportFor y)
+  unfolding reportFor
+  same-bytes s = equal-bytes (reportFor x) (reportFor y) (r .same-start) (r .same-end) (r .same-stamp) (same-periods s)
+
+-- ---- same bytes, same seconds
+
+-- a second of both ranges is covered in both calendars or in neither, whatever else the calls are
+pub same-second : (x y : ReportCall) → NoRefusal x → NoRefusal y → reportBytes (reportFor x) ≡ reportBytes (reportFor y)
+    → (b : Busy) → isBusy b ≡ true → (t : ℕ) → x .start ≤ t → t < x .end → y .start ≤ t → t < y .end
+    → coveredIn (x .calendar) (x .offset) b t ≡ coveredIn (y .calendar) (y .offset) b t
+same-second x y f g e b u t h k i j =
+    sym (read-covers x (range-good x f) (stamp-good x f) (pos 0) b u t h k)
+    ∙ ap (λ (c : List ℕ). coveredIn c (pos 0) b t) e
+    ∙ read-covers y (range-good y g) (stamp-good y g) (pos 0) b u t i j
+
+-- ---- Demand 3
+
+module _ {x y : ReportCall} {a b : Answer} {work-x out-x work-y out-y : List ℕ} (r : SameRange x y) (p : Reported x a work-x out-x)
+    (q : Reported y b work-y out-y) where
+  same-report : (n k : ℕ) → IsReport a n → IsReport b k → ((n ≡ k) × (take n out-x ≡ take k out-y)) ↔ SameSeconds x y
+  unfolding SameSeconds
+  same-report n k e f =
+      let v = report-stands p e in
+      let w = report-stands q f in (
+        λ z d u t h l.
+            same-second x y (v .none-applies) (w .none-applies) (sym (v .its-bytes) ∙ z .1 ∙ w .its-bytes) d u t h l (rw (← r .same-start) h) (rw (← r .same-end) l),
+        λ s.
+            let z = same-bytes r s in
+            (v .its-length ∙ ap length z ∙ sym (w .its-length), v .its-bytes ∙ z ∙ sym (w .its-bytes)),
+      )
+
+  pub one-meaning : OneMeaning x a out-x y b out-y
+  one-meaning =
+      record {
+        both-report = (
+          λ z. (report-stands p (z .2 .0) .none-applies, report-stands q (z .2 .1) .none-applies),
+          λ h. (length (reportBytes (reportFor x)), length (reportBytes (reportFor y)), (reports-or-refuses p .report-when (h .0), reports-or-refuses q .report-when (h .1))),
+        );
+        same-report = same-report;
+      }

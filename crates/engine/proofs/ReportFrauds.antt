@@ -1,0 +1,107 @@
+-- Answers and outputs that keep no report call's promise (document 01, How far the contracts reach).
+use Prim.Native.Nat.{ℕ, _≤_, _<_}
+use mathlib.Core.Path.{_≡_, refl, sym, ap, _∙_}
+use mathlib.Core.Bool.{Bool, true, false}
+use mathlib.Core.List.{List, [], _∷_}
+use native.Mathlib.Omega.{arith}
+use lib.ListN.{length, take}
+use Rattle.ascii.proofs.Bools.{clash}
+use Rattle.values.specs.declared.period.Period.{Period}
+use Rattle.values.specs.declared.said.Busy.{Busy}
+use Rattle.calendar.specs.BusyTypes.{reportPlace, isBusy}
+use Rattle.calendar.specs.declared.Fault.{Fault}
+use Rattle.table.specs.Runs.{covers}
+use Rattle.report.specs.Bytes.{Report, reportBytes, reportLength}
+use Rattle.report.proofs.Lengths.{report-length}
+use Rattle.engine.specs.Answers.{Outcome, verdict, report, outcomeOf}
+use Rattle.engine.specs.Refusals.{lowest}
+use Rattle.engine.specs.Matching.{unlessRefused}
+use Rattle.engine.specs.Reporting.{ReportCall, coveredIn, reportFor, reportRows, reportOutcome, outputAfter, Reported}
+use Rattle.engine.specs.Meanings.{NoRefusal, IsReport}
+use Rattle.engine.specs.declared.Answer.{Answer}
+use Rattle.engine.proofs.Reports.{reports-or-refuses, report-stands}
+use Rattle.engine.proofs.Written.{range-good, periods-cover}
+use Rattle.engine.proofs.Meanings.{same-second}
+
+-- ---- one report for calendars that differ
+
+-- a second of a call's range, covered under a type or not
+pub record SecondIs (m : ReportCall) (b : Busy) (t : ℕ) (c : Bool) : Type 0 where
+  pub from : m .start ≤ t
+  pub to : t < m .end
+  pub is-covered : coveredIn (m .calendar) (m .offset) b t ≡ c
+
+-- two calls that differ in a covered second have not the same report
+pub reports-differ : (x y : ReportCall) → NoRefusal x → NoRefusal y → (b : Busy) → isBusy b ≡ true → (t : ℕ) → SecondIs x b t true → SecondIs y b t false
+    → reportBytes (reportFor x) ≡ reportBytes (reportFor y)
+    → ⊥
+reports-differ x y f g b u t h k e =
+    clash (sym (same-second x y f g e b u t (h .from) (h .to) (k .from) (k .to)) ∙ h .is-covered) (k .is-covered)
+
+-- a report that stays the same
+pub constant-report : {x y : ReportCall} {a c : Answer} {work-x out-x work-y out-y : List ℕ} → Reported x a work-x out-x → Reported y c work-y out-y
+    → (n k : ℕ) → IsReport a n → IsReport c k → take n out-x ≡ take k out-y
+    → (b : Busy) → isBusy b ≡ true → (t : ℕ) → SecondIs x b t true → SecondIs y b t false
+    → ⊥
+constant-report {x} {y} p q n k i j e b u t h l =
+    let v = report-stands p i in
+    let w = report-stands q j in
+    reports-differ x y (v .none-applies) (w .none-applies) b u t h l (sym (v .its-bytes) ∙ e ∙ w .its-bytes)
+
+-- ---- a report of nothing
+
+none-cover : (ps : List Period) (t : ℕ) → length ps ≡ 0 → covers ps t ≡ false
+unfolding covers
+none-cover [] t e = refl
+none-cover (p ∷ ps) t e = absurd (omega arith)
+
+-- a report of 190 bytes lists no period
+empty-periods : (r : Report) → length (reportBytes r) ≡ 190 → (b : Busy) → isBusy b ≡ true → length (r .periods b) ≡ 0
+unfolding reportLength isBusy reportPlace
+empty-periods r e Busy.Busy u = omega (arith, report-length r)
+empty-periods r e Busy.Tentative u = omega (arith, report-length r)
+empty-periods r e Busy.Unavailable u = omega (arith, report-length r)
+empty-periods r e Busy.Free u = clash u refl
+
+pub empty-report : {m : ReportCall} {work-left out-left : List ℕ} → Reported m (Answer.Length 190) work-left out-left
+    → (b : Busy) → isBusy b ≡ true → (t : ℕ) → SecondIs m b t true
+    → ⊥
+unfolding IsReport outcomeOf
+empty-report {m} p b u t h =
+    let z = report-stands p refl in
+    clash (periods-cover m (range-good m (z .none-applies)) b t (h .from) (h .to) ∙ h .is-covered)
+    (none-cover (reportFor m .periods b) t (empty-periods (reportFor m) (sym (z .its-length)) b u))
+
+-- ---- other answers
+
+no-verdict : (f : Fault) (t : Bool) (n : ℕ) → verdict t ≡ unlessRefused f (report n) → ⊥
+unfolding unlessRefused
+no-verdict Fault.None t n e = let z : _≡_ {A = ℕ} 0 1 = cc in absurd (omega arith)
+no-verdict (Fault.At k i) t n e = let z : _≡_ {A = ℕ} 0 1 = cc in absurd (omega arith)
+
+module _ {m : ReportCall} {work-left out-left : List ℕ} where
+  -- a refusal where nothing refuses
+  pub refuses-report : {n : ℕ} → NoRefusal m → Reported m (Answer.Refused n) work-left out-left → ⊥
+  unfolding NoRefusal outcomeOf
+  refuses-report {n} h p = h n (reports-or-refuses p .refused-when n .0 refl .applies)
+
+  -- a length that is not the report's
+  pub made-up-length : {n : ℕ} → (n ≡ length (reportBytes (reportFor m)) → ⊥) → Reported m (Answer.Length n) work-left out-left → ⊥
+  unfolding IsReport outcomeOf
+  made-up-length h p = h (report-stands p refl .its-length)
+
+  -- a verdict for a report
+  pub verdict-given : {t : Bool} → Reported m (Answer.Verdict t) work-left out-left → ⊥
+  unfolding reportOutcome outcomeOf
+  verdict-given {t} p = no-verdict (lowest (reportRows m)) t (length (reportBytes (reportFor m))) (p .answered)
+
+  -- any refusal leaves the output as it was
+  pub output-kept : {n : ℕ} → Reported m (Answer.Refused n) work-left out-left → out-left ≡ m .output
+  unfolding outcomeOf outputAfter
+  output-kept p = p .output-left-is ∙ ap (λ (o : Outcome). outputAfter o (reportBytes (reportFor m)) (m .output)) (sym (p .answered))
+
+-- an output left as it was: only where the report stood in it before
+pub output-unwritten : {m : ReportCall} {n : ℕ} {work-left : List ℕ} → Reported m (Answer.Length n) work-left (m .output)
+    → take n (m .output) ≡ reportBytes (reportFor m)
+unfolding IsReport outcomeOf
+output-unwritten p = report-stands p refl .its-bytes

@@ -1,0 +1,63 @@
+-- Demands 2 and 3 of the report call, each as a statement over any results that keep the call's promise.
+use Prim.Native.Nat.{ℕ, _≤_, _<_}
+use mathlib.Core.Path.{_≡_}
+use mathlib.Core.Bool.{true}
+use mathlib.Core.List.{List}
+use mathlib.Core.Logic.{_↔_}
+use lib.ListN.{length, take}
+use lib.IntN.{ℤ}
+use Rattle.values.specs.declared.said.Busy.{Busy}
+use Rattle.calendar.specs.BusyTypes.{isBusy}
+use Rattle.pieces.specs.Covered.{Covers}
+use Rattle.engine.specs.Answers.{report, outcomeOf}
+use Rattle.engine.specs.Refusals.{RowApplies}
+use Rattle.engine.specs.Offsets.{offsetGood}
+use Rattle.engine.specs.Reporting.{ReportCall, entriesIn, coveredIn, reportRows}
+use Rattle.engine.specs.declared.Answer.{Answer}
+
+-- no numbered refusal applies to the call
+unfoldable pub NoRefusal : ReportCall → Type 0
+NoRefusal m = (k : ℕ) → RowApplies (reportRows m) k → ⊥
+
+-- the call answered with a report of n bytes
+unfoldable pub IsReport : Answer → ℕ → Type 0
+IsReport a n = outcomeOf a ≡ report n
+
+-- Demand 2: a second stands under a busy type in the report where the report's bytes, read as a calendar at any offset, cover it
+unfoldable pub StandsUnder : List ℕ → Busy → ℕ → Type 0
+StandsUnder bytes b x = (o : ℤ) → offsetGood o ≡ true → coveredIn bytes o b x ≡ true
+
+-- a second of the range stands there exactly when a non-free instance or period of that type covers it
+pub record SaysCovered (m : ReportCall) (a : Answer) (out-left : List ℕ) : Type 0 where
+  pub stands-when : (n : ℕ) → IsReport a n → (b : Busy) → isBusy b ≡ true → (x : ℕ) → m .start ≤ x → x < m .end
+      → StandsUnder (take n out-left) b x ↔ Covers (entriesIn (m .calendar) (m .offset)) b x
+
+-- a call on the report that the first one left, over the same range with the same stamp
+pub record OnReport (m : ReportCall) (n : ℕ) (out-left : List ℕ) (again : ReportCall) : Type 0 where
+  pub its-bytes : again .calendar ≡ take n out-left
+  pub same-start : again .start ≡ m .start
+  pub same-end : again .end ≡ m .end
+  pub same-stamp : again .stamp ≡ m .stamp
+  pub offset-good : offsetGood (again .offset) ≡ true
+  pub work-long : n ≤ length (again .work)
+  pub output-long : n ≤ length (again .output)
+
+-- the report read back yields its own bytes
+pub record ReadsBack (m : ReportCall) (a : Answer) (out-left : List ℕ) (again : ReportCall) (b : Answer) (out-again : List ℕ) : Type 0 where
+  pub same-bytes : (n : ℕ) → IsReport a n → OnReport m n out-left again → IsReport b n × (take n out-again ≡ take n out-left)
+
+-- Demand 3: two calls over one range with one stamp
+pub record SameRange (x y : ReportCall) : Type 0 where
+  pub same-start : x .start ≡ y .start
+  pub same-end : x .end ≡ y .end
+  pub same-stamp : x .stamp ≡ y .stamp
+
+-- the covered seconds of the two calendars are the same seconds, for each of the three busy types
+unfoldable pub SameSeconds : ReportCall → ReportCall → Type 0
+SameSeconds x y = (b : Busy) → isBusy b ≡ true → (t : ℕ) → x .start ≤ t → t < x .end
+    → coveredIn (x .calendar) (x .offset) b t ≡ coveredIn (y .calendar) (y .offset) b t
+
+-- both answer with a report exactly when no numbered refusal applies to either; where both do, same length and same bytes exactly when same seconds
+pub record OneMeaning (x : ReportCall) (a : Answer) (out-x : List ℕ) (y : ReportCall) (b : Answer) (out-y : List ℕ) : Type 0 where
+  pub both-report : ((n : ℕ) × (k : ℕ) × (IsReport a n × IsReport b k)) ↔ (NoRefusal x × NoRefusal y)
+  pub same-report : (n k : ℕ) → IsReport a n → IsReport b k → ((n ≡ k) × (take n out-x ≡ take k out-y)) ↔ SameSeconds x y

@@ -1,0 +1,20 @@
+-- The last stage of a report: refusal 12, or the bytes written.
+use mathlib.Core.Path.{_≡_}
+use Prim.Native.Nat.{ℕ}
+use mathlib.Core.List.{List, [], _∷_}
+use lib.Dec.{ltb}
+use lib.ListN.{length}
+use Rattle.engine.specs.Answers.{Outcome, report, outcomeOf}
+use Rattle.engine.specs.Refusals.{row, lowest}
+use Rattle.engine.specs.Matching.{unlessRefused}
+use Rattle.engine.specs.Reporting.{outputAfter}
+use Rattle.engine.specs.declared.Answer.{Answer}
+
+-- what row 12 alone lets through: the bytes' length
+unfoldable pub writeOutcome : List ℕ → List ℕ → Outcome
+writeOutcome bytes out = unlessRefused (lowest (row 12 0 (ltb (length out) (length bytes)) ∷ [])) (report (length bytes))
+
+-- the bytes stand first in the output, or it is too short for them and unchanged
+pub record Wrote (bytes out : List ℕ) (a : Answer) (out-left : List ℕ) : Type 0 where
+  pub answered : outcomeOf a ≡ writeOutcome bytes out
+  pub output-left-is : out-left ≡ outputAfter (writeOutcome bytes out) bytes out

@@ -1,0 +1,2 @@
+pub mod NoPieces
+pub mod Examples

@@ -1,0 +1,1 @@
+// The examples of the rules, proved of the definitions that the contracts cite: definitions and laws, no code.

@@ -1,0 +1,16 @@
+-- A report read as a calendar (document 01, The report's bytes; demand 2): what its one block is, and its periods with their types.
+use mathlib.Core.List.{List, [], _∷_, _++_}
+use Rattle.values.specs.declared.said.Busy.{Busy}
+use Rattle.calendar.specs.Meaning.{BusyPeriod, typed, block, Meaning, calendar}
+use Rattle.calendar.specs.declared.Bound.{Bound}
+use Rattle.report.specs.Bytes.{Report}
+
+-- its periods in file order, each with its type
+unfoldable pub reportPeriods : Report → List BusyPeriod
+reportPeriods r =
+    typed Busy.Busy (r .periods Busy.Busy)
+    ++ (typed Busy.Tentative (r .periods Busy.Tentative) ++ typed Busy.Unavailable (r .periods Busy.Unavailable))
+
+-- one block over the range, with these periods
+unfoldable pub reportMeaning : Report → Meaning
+reportMeaning r = calendar (block (record { start = Bound.At (r .start); end = Bound.At (r .end) }) (reportPeriods r) ∷ [])
