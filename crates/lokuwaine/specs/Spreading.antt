@@ -1,0 +1,46 @@
+-- An answer spread over three numbers: its kind, its value and its line.
+use Prim.Native.Nat.{ℕ}
+use mathlib.Core.Path.{_≡_}
+use mathlib.Core.Bool.{Bool, true, false}
+use mathlib.Core.List.{List}
+use Rattle.engine.specs.Answers.{Outcome, verdict, report, refusal, outcomeOf, workAfter}
+use Rattle.report.specs.Bytes.{reportBytes}
+use Rattle.engine.specs.Matching.{MatchCall, matchOutcome}
+use Rattle.engine.specs.Reporting.{ReportCall, reportFor, reportOutcome, outputAfter}
+use Rattle.engine.specs.declared.Answer.{Answer}
+use Rattle.lokuwaine.specs.declared.Spread.{Spread}
+
+-- 0 for a verdict, 1 for a report's length, 2 for a refusal
+unfoldable pub kindOf : Outcome → ℕ
+kindOf (verdict b) = 0
+kindOf (report n) = 1
+kindOf (refusal n) = 2
+
+unfoldable pub verdictValue : Bool → ℕ
+verdictValue true = 1
+verdictValue false = 0
+
+-- 1 for yes and 0 for no; the length; the refusal's number
+unfoldable pub valueOf : Outcome → ℕ
+valueOf (verdict b) = verdictValue b
+valueOf (report n) = n
+valueOf (refusal n) = n
+
+-- the same of the answer as the code has it
+unfoldable pub spreadOf : Answer → Spread
+spreadOf a = record { kind = kindOf (outcomeOf a); value = valueOf (outcomeOf a) }
+
+-- kind, value and line of a match, and its work buffer; no refusal has a line yet
+pub record MatchSpread (m : MatchCall) (kind value line : ℕ) (left : List ℕ) : Type 0 where
+  pub kind-is : kind ≡ kindOf (matchOutcome m)
+  pub value-is : value ≡ valueOf (matchOutcome m)
+  pub line-is : line ≡ 0
+  pub work-left-is : left ≡ workAfter (matchOutcome m) (m .calendar) (m .work)
+
+-- the same of a report, and its output
+pub record ReportSpread (m : ReportCall) (kind value line : ℕ) (work-left out-left : List ℕ) : Type 0 where
+  pub kind-is : kind ≡ kindOf (reportOutcome m)
+  pub value-is : value ≡ valueOf (reportOutcome m)
+  pub line-is : line ≡ 0
+  pub work-left-is : work-left ≡ workAfter (reportOutcome m) (m .calendar) (m .work)
+  pub output-left-is : out-left ≡ outputAfter (reportOutcome m) (reportBytes (reportFor m)) (m .output)

@@ -1,0 +1,317 @@
+//! Events and free-busy blocks: reading them from their lines, the component rules,
+//! the instances of an event and the time range test.
+
+use std::ops::Range;
+
+use crate::lines::Line;
+use crate::nesting::{children, own_lines, Component};
+use crate::time::{Context, Kind, Time, DAY};
+use crate::values::{self, BusyType, Duration, Fault, Limit, Rule};
+
+/// What a component means for time.
+#[derive(Clone, Debug)]
+pub enum Meaning {
+    /// A VEVENT.
+    Event(Event),
+    /// A VFREEBUSY.
+    Block(Block),
+    /// Any other component.
+    Other,
+}
+
+/// How an event ends.
+#[derive(Clone, Copy, Debug)]
+pub enum Ending {
+    /// By a stated end.
+    End(i64),
+    /// By a stated duration.
+    Duration(i64),
+    /// By nothing; the length is then the kind's.
+    Unstated(Kind),
+}
+
+/// A VEVENT that keeps the rules.
+#[derive(Clone, Debug)]
+pub struct Event {
+    start: i64,
+    ending: Ending,
+    rule: Rule,
+    /// The type of its busy time, nothing if it is free.
+    pub busy: Option<BusyType>,
+}
+
+/// A period of a FREEBUSY line.
+#[derive(Clone, Copy, Debug)]
+pub struct Period {
+    /// Its first second.
+    pub start: i64,
+    /// The second behind its last.
+    pub end: i64,
+    /// Its type, nothing if it is free.
+    pub busy: Option<BusyType>,
+}
+
+/// A VFREEBUSY that keeps the rules.
+#[derive(Clone, Debug)]
+pub struct Block {
+    span: Option<Range<i64>>,
+    /// All its periods in file order.
+    pub periods: Vec<Period>,
+}
+
+impl Event {
+    /// The length of every instance.
+    pub fn length(&self) -> i64 {
+        match self.ending {
+            Ending::End(end) => end - self.start,
+            Ending::Duration(seconds) => seconds,
+            Ending::Unstated(Kind::Date) => DAY,
+            Ending::Unstated(_) => 0,
+        }
+    }
+
+    /// The second at which instance `k` starts.
+    pub fn instance(&self, k: i64) -> i64 {
+        self.start + k * self.rule.step
+    }
+
+    /// The numbers of the instances that are in the range. Length 0 is tested as length 1:
+    /// start < s + 1 is start ≤ s.
+    pub fn instances_in(&self, range: &Range<i64>) -> Range<i64> {
+        let first = self.first_from(range.start - self.length().max(1) + 1);
+        let behind = self.first_from(range.end);
+        let limit = match self.rule.limit {
+            Limit::Count(count) => count,
+            Limit::Until(until) => self.first_from(until.second + 1),
+            Limit::Endless => behind,
+        };
+        first..behind.min(limit)
+    }
+
+    /// The number of the first instance, limits apart, that starts at `second` or later.
+    fn first_from(&self, second: i64) -> i64 {
+        let step = self.rule.step;
+        ((second - self.start).max(0) + step - 1) / step
+    }
+
+    fn in_range(&self, range: &Range<i64>) -> bool {
+        !self.instances_in(range).is_empty()
+    }
+}
+
+impl Block {
+    fn in_range(&self, range: &Range<i64>) -> bool {
+        match &self.span {
+            Some(span) => overlap(span, range),
+            None => self.periods.iter().any(|p| overlap(&(p.start..p.end), range)),
+        }
+    }
+}
+
+impl Meaning {
+    /// The time range test.
+    pub fn in_range(&self, range: &Range<i64>) -> bool {
+        match self {
+            Meaning::Event(event) => event.in_range(range),
+            Meaning::Block(block) => block.in_range(range),
+            Meaning::Other => false,
+        }
+    }
+}
+
+/// Whether two ranges, neither of them empty, have a second in common.
+fn overlap(a: &Range<i64>, b: &Range<i64>) -> bool {
+    a.start < b.end && b.start < a.end
+}
+
+/// Reads what each component means, in the order of the components, or gives refusal 8, 9
+/// or 10. Only lines directly in VEVENT and VFREEBUSY are read, which stand directly in
+/// VCALENDAR, so going through these in order is going through the lines in file order.
+pub fn read(text: &[u8], lines: &[Line], components: &[Component], context: &Context) -> Result<Vec<Meaning>, u8> {
+    let mut meanings = vec![Meaning::Other; components.len()];
+    let mut broken = false;
+    for number in children(components, 0) {
+        let name = components[number].name(text, lines);
+        let own = own_lines(lines, components, number);
+        let meaning = if name.eq_ignore_ascii_case(b"VEVENT") {
+            EventLines::read(text, own, context).map(|e| e.event().map(Meaning::Event))
+        } else if name.eq_ignore_ascii_case(b"VFREEBUSY") {
+            BlockLines::read(text, own, context).map(|b| b.block().map(Meaning::Block))
+        } else {
+            continue;
+        };
+        match meaning.map_err(Fault::refusal)? {
+            Some(meaning) => meanings[number] = meaning,
+            None => broken = true,
+        }
+    }
+    if broken {
+        Err(10)
+    } else {
+        Ok(meanings)
+    }
+}
+
+/// A property of which a component has at most one line.
+struct Once<T> {
+    value: Option<T>,
+    surplus: bool,
+}
+
+impl<T> Once<T> {
+    fn new() -> Self {
+        Once { value: None, surplus: false }
+    }
+
+    fn put(&mut self, value: T) {
+        self.surplus |= self.value.replace(value).is_some();
+    }
+
+    /// The value if there is one; nothing at all if there are more.
+    fn at_most_one(self) -> Option<Option<T>> {
+        (!self.surplus).then_some(self.value)
+    }
+}
+
+/// The values of an event's lines before the component rules are asked.
+struct EventLines<'a> {
+    start: Once<Time>,
+    end: Once<Time>,
+    duration: Once<Duration>,
+    rule: Once<Rule>,
+    status: Once<&'a [u8]>,
+    transparency: Once<&'a [u8]>,
+}
+
+impl<'a> EventLines<'a> {
+    fn read<'l>(text: &'a [u8], own: impl Iterator<Item = &'l Line>, context: &Context) -> Result<Self, Fault> {
+        let mut read = EventLines {
+            start: Once::new(),
+            end: Once::new(),
+            duration: Once::new(),
+            rule: Once::new(),
+            status: Once::new(),
+            transparency: Once::new(),
+        };
+        for line in own {
+            match EventProperty::named(line.name(text)) {
+                EventProperty::Start => read.start.put(values::event_time(text, line, context)?),
+                EventProperty::End => read.end.put(values::event_time(text, line, context)?),
+                EventProperty::Duration => {
+                    read.duration.put(values::duration(line.value(text)).ok_or(Fault::BadValue)?);
+                }
+                EventProperty::Rule => read.rule.put(values::rule(line.value(text), context)?),
+                EventProperty::Status => read.status.put(line.value(text)),
+                EventProperty::Transparency => read.transparency.put(line.value(text)),
+                EventProperty::Unsupported => return Err(Fault::Unsupported),
+                EventProperty::Unread => {}
+            }
+        }
+        Ok(read)
+    }
+
+    /// The event, or nothing if a component rule is broken.
+    fn event(self) -> Option<Event> {
+        let start = self.start.at_most_one()??;
+        let status = self.status.at_most_one()?;
+        let transparency = self.transparency.at_most_one()?;
+        let ending = match (self.end.at_most_one()?, self.duration.at_most_one()?) {
+            (Some(_), Some(_)) => return None,
+            (Some(end), None) if end.kind == start.kind && end.second > start.second => Ending::End(end.second),
+            (Some(_), None) => return None,
+            (None, Some(duration)) if start.kind == Kind::Date && duration.timed => return None,
+            (None, Some(duration)) => Ending::Duration(duration.seconds),
+            (None, None) => Ending::Unstated(start.kind),
+        };
+        let rule = match self.rule.at_most_one()? {
+            None => Rule { step: DAY, limit: Limit::Count(1) },
+            Some(rule) => rule,
+        };
+        if let Limit::Until(until) = rule.limit {
+            if until.kind != start.kind || until.second < start.second {
+                return None;
+            }
+        }
+        Some(Event { start: start.second, ending, rule, busy: event_busy(status, transparency) })
+    }
+}
+
+/// The type of an event's busy time.
+fn event_busy(status: Option<&[u8]>, transparency: Option<&[u8]>) -> Option<BusyType> {
+    let is = |value: Option<&[u8]>, word: &[u8]| value.is_some_and(|v| v.eq_ignore_ascii_case(word));
+    if is(transparency, b"TRANSPARENT") || is(status, b"CANCELLED") {
+        None
+    } else if is(status, b"TENTATIVE") {
+        Some(BusyType::Tentative)
+    } else {
+        Some(BusyType::Busy)
+    }
+}
+
+/// The properties of an event that matter.
+enum EventProperty {
+    Start,
+    End,
+    Duration,
+    Rule,
+    Status,
+    Transparency,
+    Unsupported,
+    Unread,
+}
+
+impl EventProperty {
+    /// Sorts by length first: most lines are of no name that matters.
+    fn named(name: &[u8]) -> Self {
+        let is = |word: &[u8]| name.eq_ignore_ascii_case(word);
+        match name.len() {
+            5 if is(b"DTEND") => Self::End,
+            5 if is(b"RRULE") => Self::Rule,
+            5 if is(b"RDATE") => Self::Unsupported,
+            6 if is(b"STATUS") => Self::Status,
+            6 if is(b"TRANSP") => Self::Transparency,
+            6 if is(b"EXDATE") || is(b"EXRULE") => Self::Unsupported,
+            7 if is(b"DTSTART") => Self::Start,
+            8 if is(b"DURATION") => Self::Duration,
+            13 if is(b"RECURRENCE-ID") => Self::Unsupported,
+            _ => Self::Unread,
+        }
+    }
+}
+
+/// The values of a block's lines before the component rules are asked.
+struct BlockLines {
+    start: Once<i64>,
+    end: Once<i64>,
+    periods: Vec<Period>,
+}
+
+impl BlockLines {
+    fn read<'l>(text: &[u8], own: impl Iterator<Item = &'l Line>, context: &Context) -> Result<Self, Fault> {
+        let mut read = BlockLines { start: Once::new(), end: Once::new(), periods: Vec::new() };
+        for line in own {
+            let name = line.name(text);
+            if name.eq_ignore_ascii_case(b"DTSTART") {
+                read.start.put(values::block_time(text, line, context)?);
+            } else if name.eq_ignore_ascii_case(b"DTEND") {
+                read.end.put(values::block_time(text, line, context)?);
+            } else if name.eq_ignore_ascii_case(b"FREEBUSY") {
+                let before = read.periods.len();
+                let take = |start, end| read.periods.push(Period { start, end, busy: None });
+                let busy = values::free_busy(text, line, context, take)?;
+                read.periods[before..].iter_mut().for_each(|p| p.busy = busy);
+            }
+        }
+        Ok(read)
+    }
+
+    /// The block, or nothing if a component rule is broken.
+    fn block(self) -> Option<Block> {
+        let span = match (self.start.at_most_one()?, self.end.at_most_one()?) {
+            (Some(start), Some(end)) if start < end => Some(start..end),
+            (Some(_), Some(_)) => return None,
+            _ => None,
+        };
+        Some(Block { span, periods: self.periods })
+    }
+}

@@ -1,0 +1,100 @@
+//! Answers the two questions of document 01, match and report, in plain Rust.
+//! The stages run in the order of its table of refusals; each has its own module.
+
+#![forbid(unsafe_code)]
+#![warn(missing_docs)]
+
+mod events;
+mod filter;
+mod lines;
+mod nesting;
+mod report;
+mod time;
+mod values;
+
+use filter::Query;
+use lines::Line;
+use nesting::Component;
+use time::{Context, LAST_SECOND};
+
+/// The longest calendar, in bytes as they come.
+const LONGEST_CALENDAR: usize = 65_536;
+
+/// What a call answers: one of three kinds.
+#[derive(Clone, Copy, Debug, PartialEq, Eq)]
+pub enum Answer {
+    /// A match's yes or no.
+    Verdict(bool),
+    /// The number of bytes of a report that was written.
+    Length(usize),
+    /// The number of the refusal, 1 to 12.
+    Refused(u8),
+}
+
+/// Does the calendar match the query? On refusals 1 to 5 `work` is unchanged,
+/// otherwise it starts with the unfolded calendar.
+pub fn matches(cal: &[u8], query: &[u8], offset: i64, work: &mut [u8]) -> Answer {
+    try_match(cal, query, offset, work).map_or_else(Answer::Refused, Answer::Verdict)
+}
+
+/// Writes the calendar's busy time from `start` to `end` into `out`. `work` is as for
+/// [`matches`]; `out` is unchanged on any refusal and behind the report.
+pub fn report(cal: &[u8], start: u64, end: u64, offset: i64, stamp: u64, work: &mut [u8], out: &mut [u8]) -> Answer {
+    try_report(cal, (start, end), offset, stamp, work, out).map_or_else(Answer::Refused, Answer::Length)
+}
+
+fn try_match(cal: &[u8], query: &[u8], offset: i64, work: &mut [u8]) -> Result<bool, u8> {
+    let context = Context::new(offset).ok_or(1)?;
+    check_buffer(cal, work)?;
+    let query = Query::read(query)?;
+    let text = unfolded(cal, work);
+    let (lines, components) = structure(text)?;
+    let meanings = events::read(text, &lines, &components, &context)?;
+    Ok(query.holds(text, &lines, &components, &meanings))
+}
+
+fn try_report(
+    cal: &[u8],
+    (start, end): (u64, u64),
+    offset: i64,
+    stamp: u64,
+    work: &mut [u8],
+    out: &mut [u8],
+) -> Result<usize, u8> {
+    let range = time::range(start, end).ok_or(1)?;
+    let stamp = i64::try_from(stamp).ok().filter(|&s| s <= LAST_SECOND).ok_or(1)?;
+    let context = Context::new(offset).ok_or(1)?;
+    check_buffer(cal, work)?;
+    let text = unfolded(cal, work);
+    let (lines, components) = structure(text)?;
+    let meanings = events::read(text, &lines, &components, &context)?;
+    let pieces = report::pieces(&meanings, &range).ok_or(11)?;
+    report::write(&report::merged(pieces), &range, stamp, out).ok_or(12)
+}
+
+/// Refusals 2 and 3.
+fn check_buffer(cal: &[u8], work: &[u8]) -> Result<(), u8> {
+    if cal.len() > LONGEST_CALENDAR {
+        Err(2)
+    } else if work.len() < cal.len() {
+        Err(3)
+    } else {
+        Ok(())
+    }
+}
+
+/// Unfolds the calendar into the work buffer and lends the unfolded part.
+fn unfolded<'a>(cal: &[u8], work: &'a mut [u8]) -> &'a [u8] {
+    let length = lines::unfold(cal, work);
+    &work[..length]
+}
+
+/// Refusals 6 and 7: the lines and the components that they make.
+fn structure(text: &[u8]) -> Result<(Vec<Line>, Vec<Component>), u8> {
+    let lines = lines::cut(text).ok_or(6)?;
+    let components = nesting::read(text, &lines).ok_or(7)?;
+    Ok((lines, components))
+}
+
+#[cfg(test)]
+mod tests;

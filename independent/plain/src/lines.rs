@@ -1,0 +1,200 @@
+//! Content lines: unfolding, cutting into well formed lines, and a line's parts.
+//! Everything here works on slices of the unfolded text; nothing is copied but by `unfold`.
+
+/// The longest line without its CR LF.
+const LONGEST_LINE: usize = 1_024;
+
+/// A well formed line: where it starts in the text, and its parts counted from there.
+#[derive(Clone, Copy, Debug)]
+pub struct Line {
+    start: u32,
+    name_end: u16,
+    colon: u16,
+    end: u16,
+}
+
+impl Line {
+    /// The property's name.
+    pub fn name<'a>(&self, text: &'a [u8]) -> &'a [u8] {
+        self.part(text, 0, self.name_end)
+    }
+
+    /// The property's value: all that stands behind the colon.
+    pub fn value<'a>(&self, text: &'a [u8]) -> &'a [u8] {
+        self.part(text, self.colon + 1, self.end)
+    }
+
+    /// The parameters in their order.
+    pub fn parameters<'a>(&self, text: &'a [u8]) -> Parameters<'a> {
+        Parameters { rest: self.part(text, self.name_end, self.colon) }
+    }
+
+    /// Whether there is any parameter.
+    pub fn has_parameters(&self) -> bool {
+        self.name_end != self.colon
+    }
+
+    fn part<'a>(&self, text: &'a [u8], from: u16, to: u16) -> &'a [u8] {
+        let start = self.start as usize;
+        &text[start + from as usize..start + to as usize]
+    }
+}
+
+/// The parameters of a line, each as its name and its values.
+pub struct Parameters<'a> {
+    /// Empty, or `;name=value,value..` and so on.
+    rest: &'a [u8],
+}
+
+impl<'a> Iterator for Parameters<'a> {
+    type Item = (&'a [u8], ParameterValues<'a>);
+
+    fn next(&mut self) -> Option<Self::Item> {
+        let body = self.rest.strip_prefix(b";")?;
+        let equals = body.iter().position(|&b| b == b'=')?;
+        let (name, values) = (&body[..equals], &body[equals + 1..]);
+        let end = position_unquoted(values, b';');
+        self.rest = &values[end..];
+        Some((name, ParameterValues { rest: Some(&values[..end]) }))
+    }
+}
+
+/// The values of one parameter, quotes taken off.
+#[derive(Clone)]
+pub struct ParameterValues<'a> {
+    rest: Option<&'a [u8]>,
+}
+
+impl<'a> Iterator for ParameterValues<'a> {
+    type Item = &'a [u8];
+
+    fn next(&mut self) -> Option<Self::Item> {
+        let list = self.rest?;
+        let end = position_unquoted(list, b',');
+        self.rest = list.get(end + 1..);
+        let value = &list[..end];
+        Some(value.strip_prefix(b"\"").and_then(|v| v.strip_suffix(b"\"")).unwrap_or(value))
+    }
+}
+
+/// The first place of `wanted` outside double quotes, or the length.
+fn position_unquoted(bytes: &[u8], wanted: u8) -> usize {
+    let mut quoted = false;
+    let found = bytes.iter().position(|&b| {
+        quoted ^= b == b'"';
+        b == wanted && !quoted
+    });
+    found.unwrap_or(bytes.len())
+}
+
+/// Copies the calendar into `work` without its folds and gives the length. `work` must be
+/// at least as long as the calendar.
+pub fn unfold(cal: &[u8], work: &mut [u8]) -> usize {
+    let mut filled = 0;
+    let mut kept_from = 0;
+    let mut at = 0;
+    let mut keep = |piece: &[u8]| {
+        work[filled..filled + piece.len()].copy_from_slice(piece);
+        filled += piece.len();
+    };
+    while let Some(step) = find(&cal[at..], |b| b == b'\r') {
+        at += step;
+        if let [_, b'\n', b' ' | b'\t', ..] = cal[at..] {
+            keep(&cal[kept_from..at]);
+            at += 3;
+            kept_from = at;
+        } else {
+            at += 1;
+        }
+    }
+    keep(&cal[kept_from..]);
+    filled
+}
+
+/// Cuts the unfolded text into lines, or nothing if some line is badly formed.
+pub fn cut(text: &[u8]) -> Option<Vec<Line>> {
+    let mut lines = Vec::with_capacity(text.len() / 24 + 2);
+    let mut start = 0;
+    while start < text.len() {
+        let line = read_line(text, start)?;
+        start += usize::from(line.end) + 2;
+        lines.push(line);
+    }
+    Some(lines)
+}
+
+/// Reads the line that starts there. Every control is bad but the CR LF behind the value,
+/// so the first control after the colon is where the line ends.
+fn read_line(text: &[u8], start: usize) -> Option<Line> {
+    let bytes = &text[start..];
+    let name_end = name_length(bytes);
+    if name_end == 0 {
+        return None;
+    }
+    let mut colon = name_end;
+    while bytes.get(colon) == Some(&b';') {
+        colon = parameter_end(bytes, colon + 1)?;
+    }
+    if bytes.get(colon) != Some(&b':') {
+        return None;
+    }
+    let end = colon + find(&bytes[colon..], is_control)?;
+    if end > LONGEST_LINE || !bytes[end..].starts_with(b"\r\n") {
+        return None;
+    }
+    Some(Line { start: start as u32, name_end: name_end as u16, colon: colon as u16, end: end as u16 })
+}
+
+/// Where the parameter whose name starts at `from` ends.
+fn parameter_end(bytes: &[u8], from: usize) -> Option<usize> {
+    let mut at = from + name_length(&bytes[from..]);
+    if at == from || bytes.get(at) != Some(&b'=') {
+        return None;
+    }
+    loop {
+        at += 1;
+        if bytes.get(at) == Some(&b'"') {
+            at += 1;
+            at += bytes[at..].iter().position(|&b| b == b'"' || is_control(b))?;
+            if bytes[at] != b'"' {
+                return None;
+            }
+            at += 1;
+        } else {
+            at += bytes[at..].iter().position(|&b| matches!(b, b'"' | b';' | b':' | b',') || is_control(b))?;
+        }
+        match bytes.get(at)? {
+            b',' => {}
+            b';' | b':' => return Some(at),
+            _ => return None,
+        }
+    }
+}
+
+/// How many name bytes stand first.
+fn name_length(bytes: &[u8]) -> usize {
+    bytes.iter().position(|&b| !is_name_byte(b)).unwrap_or(bytes.len())
+}
+
+/// Whether the bytes are a name: one or more letters, digits or hyphens.
+pub fn is_name(bytes: &[u8]) -> bool {
+    !bytes.is_empty() && bytes.iter().all(|&b| is_name_byte(b))
+}
+
+/// The first place of a byte that passes the test. Asks whole chunks first, without a
+/// branch on each byte, since most bytes do not pass.
+fn find(bytes: &[u8], test: impl Fn(u8) -> bool) -> Option<usize> {
+    const CHUNK: usize = 16;
+    let passes = |chunk: &[u8]| chunk.iter().fold(false, |any, &b| any | test(b));
+    let skipped = CHUNK * bytes.chunks_exact(CHUNK).take_while(|chunk| !passes(chunk)).count();
+    let place = bytes[skipped..].iter().position(|&b| test(b))?;
+    Some(skipped + place)
+}
+
+fn is_name_byte(b: u8) -> bool {
+    b.is_ascii_alphanumeric() || b == b'-'
+}
+
+fn is_control(b: u8) -> bool {
+    (b < 32 && b != b'\t') || b == 127
+}
