@@ -1,9 +1,11 @@
 //! Makes cases, answers them by the plain implementation, and compares it with another.
-//! Usage: compare gen SEED COUNT | answers | count SEED COUNT | time SEED COUNT | run SEED COUNT
+//! Usage: compare gen SEED COUNT | answers | count SEED COUNT | time SEED COUNT | run SEED COUNT | bench COUNT
 
 mod calendars;
 mod case;
 mod cases;
+#[cfg(feature = "proved")]
+mod clinic;
 mod damage;
 #[cfg(feature = "proved")]
 mod proved;
@@ -31,8 +33,10 @@ fn main() -> ExitCode {
         ["time", seed, count] => numbers(seed, count).and_then(|(seed, count)| time(seed, count)),
         #[cfg(feature = "proved")]
         ["run", seed, count] => numbers(seed, count).and_then(|(seed, count)| compare(seed, count)),
-        _ => Err("usage: compare gen SEED COUNT | answers | count SEED COUNT | time SEED COUNT | run SEED COUNT\n\
-                  (`run` only in a build with the feature `proved`)"
+        #[cfg(feature = "proved")]
+        ["bench", count] => numbers("1", count).and_then(|(seed, count)| bench(seed, count)),
+        _ => Err("usage: compare gen SEED COUNT | answers | count SEED COUNT | time SEED COUNT | run SEED COUNT | bench COUNT\n\
+                  (`run` and `bench` only in a build with the feature `proved`)"
             .to_string()),
     };
     match done {
@@ -127,5 +131,35 @@ fn compare(seed: u64, count: u64) -> Result<(), String> {
     }
     print!("{table}");
     println!("{count} cases of seed {seed}: no difference");
+    Ok(())
+}
+
+/// How many rounds a benchmark has.
+#[cfg(feature = "proved")]
+const ROUNDS: usize = 5;
+
+/// Measures both implementations on clinic calendars, call by call, and prints the ratio of each round.
+/// The buffers of each call were just filled, so they are warm.
+#[cfg(feature = "proved")]
+fn bench(seed: u64, count: u64) -> Result<(), String> {
+    let cases: Vec<[Case; 2]> = (0..count).map(|number| clinic::questions(seed, number)).collect();
+    let bytes: usize = cases.iter().map(|case| case[0].calendar.len()).sum();
+    println!("{count} calendars, {bytes} bytes, {ROUNDS} rounds; buffers filled before each call");
+    for (which, question) in ["report", "match"].iter().enumerate() {
+        let answered = cases.iter().filter(|case| !matches!(case[which].plain().answer, plain::Answer::Refused(_))).count();
+        let mut ratios = Vec::new();
+        for round in 1..=ROUNDS {
+            let (mut plain, mut proved) = (Duration::ZERO, Duration::ZERO);
+            for case in &cases {
+                plain += case[which].plain_time();
+                proved += proved::ask(&case[which]).spent;
+            }
+            let ratio = proved.as_secs_f64() / plain.as_secs_f64();
+            println!("{question:6} round {round}: plain {plain:?}, proved {proved:?}, ratio {ratio:.2}");
+            ratios.push(ratio);
+        }
+        ratios.sort_by(f64::total_cmp);
+        println!("{question:6} ({answered} answered): ratio {:.2}, from {:.2} to {:.2}", ratios[ROUNDS / 2], ratios[0], ratios[ROUNDS - 1]);
+    }
     Ok(())
 }
