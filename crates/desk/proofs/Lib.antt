@@ -1,0 +1,4 @@
+pub mod Reading
+pub mod Decoding
+pub mod Saying
+pub mod Summing

@@ -1,0 +1,4 @@
+pub mod Arguments
+pub mod Hex
+pub mod Words
+pub mod Sums

@@ -1,0 +1,5 @@
+// What the program's arguments mean, and which words it says: each function against one definition of specs/.
+pub mod arguments;
+pub mod hex;
+pub mod sums;
+pub mod words;

@@ -1,0 +1,2 @@
+// The ledger of a batch: a line for each calendar, and the counts.
+pub mod batch;
