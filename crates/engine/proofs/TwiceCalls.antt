@@ -50,6 +50,11 @@ heads-stand {a = a} {o = o} p e n i =
     let x = ap (λ (j : ℕ). take j o) (e ∙ length-is a i) ∙ z .its-bytes in
     and-both (ap opensReport x ∙ report-opens _) (ap closesReport x ∙ report-closes _)
 
+-- whether they stand, by the length of the answer
+heads-at : (a : Answer) (o : List ℕ) {n : ℕ} {s t : Bool} → n ≡ lengthOf a → s ≡ opensReport (take n o) → t ≡ closesReport (take n o)
+    → (s && t) ≡ (opensReport (take (lengthOf a) o) && closesReport (take (lengthOf a) o))
+heads-at a o e f g = rw (f, g) (ap (λ (k : ℕ). opensReport (take k o) && closesReport (take k o)) e)
+
 -- ---- both calls
 
 module _ {cal work out w o work₂ out₂ w₂ o₂ : List ℕ} {start end stamp : ℕ} {x y : ℤ} {a b : Answer} where
@@ -71,6 +76,7 @@ module _ {cal work out w o work₂ out₂ w₂ o₂ : List ℕ} {start end stamp
         second-call = v;
         says-covered = says-covered p;
         reads-back = reads-back p v;
+        heads-are = heads-at a o e f g;
         heads-stand = λ k i. rw (f, g) (heads-stand p e k i);
       }
 

@@ -1,9 +1,10 @@
 -- Two report calls made by one function: a report read back, and the reports of two calendars.
 use Prim.Native.Nat.{ℕ}
 use mathlib.Core.Path.{_≡_}
-use mathlib.Core.Bool.{true}
+use mathlib.Core.Bool.{true, _&&_}
 use mathlib.Core.List.{List}
 use lib.ListN.{take}
+use Rattle.report.specs.Heads.{opensReport, closesReport}
 use Rattle.engine.specs.Reporting.{ReportCall, Reported}
 use Rattle.engine.specs.Meanings.{IsReport, SaysCovered, ReadsBack, OneMeaning}
 use Rattle.engine.specs.declared.Answer.{Answer}
@@ -30,6 +31,7 @@ pub record ReadTwice (m again : ReportCall) (r : Twice) (w o w₂ o₂ : List �
   pub second-call : Reported again (r .second) w₂ o₂
   pub says-covered : SaysCovered m (r .first) o
   pub reads-back : ReadsBack m (r .first) o again (r .second) o₂
+  pub heads-are : r .heads ≡ (opensReport (take (lengthOf (r .first)) o) && closesReport (take (lengthOf (r .first)) o))
   pub heads-stand : (n : ℕ) → IsReport (r .first) n → r .heads ≡ true
 
 -- demand 3 of running code: the whole promise of both calls, and the claim
