@@ -68,3 +68,11 @@ pub isName-some : (s : List ℕ) → (length s ≡ 0 → ⊥) → every isNameBy
 unfolding isName
 isName-some [] h = absurd (h refl)
 isName-some (b ∷ s) h = refl
+
+-- other first bytes, other names
+pub sameName-first : (s t : List ℕ) → (upper (getD s 0 0) ≡ upper (getD t 0 0) → ⊥) → sameName s t ≡ false
+unfolding sameName
+sameName-first [] [] h = absurd (h refl)
+sameName-first [] (b ∷ t) h = refl
+sameName-first (a ∷ s) [] h = refl
+sameName-first (a ∷ s) (b ∷ t) h = rw (ne-eqb _ _ h)

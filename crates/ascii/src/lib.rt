@@ -1,6 +1,7 @@
 // Kinds of bytes, ASCII case, and names compared without regard to case.
 // Everything above reads bytes through these leaves.
 ghost use mathlib.Core.Path.{_≡_};
+ghost use lib.Dec.{eqb};
 ghost use Rattle.ascii.specs.Bytes.{isDigit, isLetter, isNameByte, isControl, upper};
 ghost use Rattle.ascii.specs.Names.{sameName, isName};
 
@@ -19,6 +20,9 @@ pub fn is_letter(b: u8) -> bool
 pub fn is_name_byte(b: u8) -> bool
     ensures { λ r. ⌜ r ≡ isNameByte b ⌝ }
 {
+    if (65 <= b) & (b <= 90) {
+        return true;
+    }
     is_letter(b) | is_digit(b) | (b == 45)
 }
 
@@ -41,6 +45,16 @@ pub fn upper(b: u8) -> u8
     b - 32
 }
 
+// Are the two the same byte, ASCII case disregarded? Mostly they are so as they stand.
+fn same_byte(a: u8, b: u8) -> bool
+    ensures { λ r. ⌜ r ≡ eqb (upper a) (upper b) ⌝ }
+{
+    if a == b {
+        return true;
+    }
+    upper(a) == upper(b)
+}
+
 // Are the two the same bytes, ASCII case disregarded?
 pub fn same_name(a: &[u8], b: &[u8]) -> bool
     ensures { λ r. ⌜ r ≡ sameName (now (a .entry)) (now (b .entry)) ⌝ }
@@ -50,7 +64,7 @@ pub fn same_name(a: &[u8], b: &[u8]) -> bool
     }
     let mut i = 0;
     while i < a.len() {
-        if upper(a[i]) != upper(b[i]) {
+        if !same_byte(a[i], b[i]) {
             return false;
         }
         i += 1;

@@ -1,7 +1,7 @@
 -- The loops over the items of a component: what is left at a place decides as the whole does.
 use Prim.Native.Nat.{ℕ, _+_, _≤_}
 use mathlib.Core.Path.{_≡_, refl, sym, ap, _∙_, subst}
-use mathlib.Core.Bool.{Bool, true, false}
+use mathlib.Core.Bool.{Bool}
 use mathlib.Core.List.{List, [], _∷_, _++_}
 use native.Mathlib.Omega.{arith}
 use lib.ListN.{length}
@@ -16,12 +16,11 @@ use Rattle.values.specs.declared.times.Context.{Context}
 use Rattle.values.specs.declared.said.Scope.{Scope}
 use Rattle.values.specs.declared.said.Saying.{Saying}
 use Rattle.calendar.specs.Gathered.{nothingGathered, gatheredWith, gather}
-use Rattle.calendar.specs.Meaning.{Entry, entriesOf, scopeOf, componentScope, faultOr, faultIn, valueFault, brokenOr, ruleFault, fileLines, componentsOf}
+use Rattle.calendar.specs.Meaning.{Entry, entriesOf, scopeOf, componentScope, faultIn, valueFault, brokenOr, ruleFault, fileLines, componentsOf}
 use Rattle.calendar.specs.Places.{entryAt, sayingsAt, gatheredAt, brokenAt, faultAt, faultElse, componentsFrom, componentAt, BelowAt, NoneBelow, BelowIs}
-use Rattle.calendar.proofs.Steps.{entryOf-at, sayings-property, sayings-inner, sayings-none, fault-property, fault-inner, fault-none, components-property, components-first, components-skip, components-none, faultOr-else, faultIn-else, isBroken-at}
+use Rattle.calendar.proofs.Steps.{entryOf-at, sayings-property, sayings-inner, sayings-none, components-property, components-first, components-skip, components-none, faultIn-else, isBroken-at}
 use Rattle.calendar.specs.declared.Gathered.{Gathered}
 use Rattle.calendar.specs.declared.ValueCheck.{ValueCheck}
-use Rattle.calendar.specs.declared.RuleCheck.{RuleCheck}
 use Rattle.calendar.specs.declared.places.Below.{Below}
 
 -- ---- what the lines say together
@@ -51,50 +50,6 @@ module _ {c : Context} {o : Scope} {s : List ℕ} {from : ℕ} {g : Gathered} {a
   pub gathering-end : NoItemAt s at → g ≡ gatheredAt c o s from
   unfolding gather
   gathering-end h = ap (gather g) (sym (sayings-none c o h)) ∙ r .rest
-
--- ---- the first fault in the lines of a component
-
-pub record Faulting (c : Context) (o : Scope) (s : List ℕ) (from first at number : ℕ) : Type 0 where
-  pub within : at ≤ length s
-  pub counted : number ≤ at + 1
-  pub rest : faultAt c o s at number ≡ faultAt c o s from first
-
-pub faulting-start : (c : Context) (o : Scope) (s : List ℕ) (from first : ℕ) → from ≤ length s → first ≤ from + 1 → Faulting c o s from first from first
-faulting-start c o s from first h n = record { within = h; counted = n; rest = refl }
-
-module _ {c : Context} {o : Scope} {s : List ℕ} {from first at number : ℕ} (r : Faulting c o s from first at number) where
-  -- the line at the place has the fault f, or where it is good the rest decides
-  module _ {e next : ℕ} {x : Saying} {f : ValueCheck} (h : PropertyAt s at e next) (q : x ≡ sayingOf c o (lineOf (part s at e)))
-      (w : f ≡ faultOr number x ValueCheck.Good) where
-    fault-here : faultElse f (faultAt c o s next (number + 1)) ≡ faultAt c o s from first
-    fault-here =
-        ap (λ (y : ValueCheck). faultElse y (faultAt c o s next (number + 1))) (w ∙ ap (λ (y : Saying). faultOr number y ValueCheck.Good) q)
-        ∙ sym (faultOr-else number (sayingOf c o (lineOf (part s at e))) (faultAt c o s next (number + 1)))
-        ∙ sym (fault-property c o number h)
-        ∙ r .rest
-
-    pub faulting-property : f ≡ ValueCheck.Good → Faulting c o s from first next (number + 1)
-    unfolding faultElse
-    faulting-property z =
-        record {
-          within = h .line .inside;
-          counted = omega (arith, r .counted, h .line .goes-on);
-          rest = ap (λ (y : ValueCheck). faultElse y (faultAt c o s next (number + 1))) (sym z) ∙ fault-here;
-        }
-
-    pub faulting-unsupported : (n : ℕ) → f ≡ ValueCheck.Unsupported n → ValueCheck.Unsupported n ≡ faultAt c o s from first
-    unfolding faultElse
-    faulting-unsupported n z = ap (λ (y : ValueCheck). faultElse y (faultAt c o s next (number + 1))) (sym z) ∙ fault-here
-
-    pub faulting-bad : (n : ℕ) → f ≡ ValueCheck.Bad n → ValueCheck.Bad n ≡ faultAt c o s from first
-    unfolding faultElse
-    faulting-bad n z = ap (λ (y : ValueCheck). faultElse y (faultAt c o s next (number + 1))) (sym z) ∙ fault-here
-
-  pub faulting-inner : {e next : ℕ} {p : Place} → InnerAt s at e next → SkipsTo s next (number + 1) p → Faulting c o s from first (p .at) (p .number)
-  faulting-inner h k = record { within = k .within; counted = k .counted; rest = sym (fault-inner c o number h k) ∙ r .rest }
-
-  pub faulting-end : NoItemAt s at → ValueCheck.Good ≡ faultAt c o s from first
-  faulting-end h = sym (fault-none c o number h) ∙ r .rest
 
 -- ---- the components that stand side by side
 
@@ -143,7 +98,7 @@ module _ {A : Type 0} {f : List Component → A} {s : List ℕ} {from first at n
 -- what the component at a place decides: of its values
 module _ (c : Context) (i : ℕ) {s : List ℕ} {at e next : ℕ} (h : InnerAt s at e next) {v : List ℕ} {o : Scope} {f : ValueCheck}
     (q : v ≡ valueOf (part s at e)) (w : o ≡ scopeOf v) (y : f ≡ faultAt c o s next (i + 1)) where
-  value-here : (ks : List Component) → valueFault c (componentAt s at e next i ∷ ks) ≡ faultElse f (valueFault c ks)
+  pub value-here : (ks : List Component) → valueFault c (componentAt s at e next i ∷ ks) ≡ faultElse f (valueFault c ks)
   unfolding valueFault componentScope componentAt faultAt lineOf
   value-here ks =
       faultIn-else c (scopeOf (valueOf (part s at e))) (propertiesIn (itemsOf 0 (linesFrom s next (i + 1)))) (valueFault c ks)
@@ -152,37 +107,16 @@ module _ (c : Context) (i : ℕ) {s : List ℕ} {at e next : ℕ} (h : InnerAt s
       (ap scopeOf (sym q) ∙ sym w)
       ∙ ap (λ (x : ValueCheck). faultElse x (valueFault c ks)) (sym y)
 
-  pub value-good : f ≡ ValueCheck.Good → (ks : List Component) → valueFault c (componentAt s at e next i ∷ ks) ≡ valueFault c ks
-  unfolding faultElse
-  value-good z ks = value-here ks ∙ ap (λ (x : ValueCheck). faultElse x (valueFault c ks)) z
-
-  pub value-unsupported : (n : ℕ) → f ≡ ValueCheck.Unsupported n → (ks : List Component)
-      → valueFault c (componentAt s at e next i ∷ ks) ≡ ValueCheck.Unsupported n
-  unfolding faultElse
-  value-unsupported n z ks = value-here ks ∙ ap (λ (x : ValueCheck). faultElse x (valueFault c ks)) z
-
-  pub value-bad : (n : ℕ) → f ≡ ValueCheck.Bad n → (ks : List Component) → valueFault c (componentAt s at e next i ∷ ks) ≡ ValueCheck.Bad n
-  unfolding faultElse
-  value-bad n z ks = value-here ks ∙ ap (λ (x : ValueCheck). faultElse x (valueFault c ks)) z
-
 -- of its rules
 module _ (c : Context) (i : ℕ) {s : List ℕ} {at e next : ℕ} (h : InnerAt s at e next) {v : List ℕ} {o : Scope} {b : Bool}
     (q : v ≡ valueOf (part s at e)) (w : o ≡ scopeOf v) (y : b ≡ brokenAt c o s next) where
-  rule-here : (ks : List Component) → ruleFault c (componentAt s at e next i ∷ ks) ≡ brokenOr b i (ruleFault c ks)
+  pub rule-here : (ks : List Component) → ruleFault c (componentAt s at e next i ∷ ks) ≡ brokenOr b i (ruleFault c ks)
   unfolding ruleFault componentScope componentAt lineOf
   rule-here ks =
       ap (λ (x : Bool). brokenOr x i (ruleFault c ks))
       (isBroken-at c (scopeOf (valueOf (part s at e))) (componentAt s at e next i) s next (i + 1) refl
       ∙ ap (λ (x : Scope). brokenAt c x s next) (ap scopeOf (sym q) ∙ sym w)
       ∙ sym y)
-
-  pub rule-kept : b ≡ false → (ks : List Component) → ruleFault c (componentAt s at e next i ∷ ks) ≡ ruleFault c ks
-  unfolding brokenOr
-  rule-kept z ks = rule-here ks ∙ ap (λ (x : Bool). brokenOr x i (ruleFault c ks)) z
-
-  pub rule-broken : b ≡ true → (ks : List Component) → ruleFault c (componentAt s at e next i ∷ ks) ≡ RuleCheck.Broken i
-  unfolding brokenOr
-  rule-broken z ks = rule-here ks ∙ ap (λ (x : Bool). brokenOr x i (ruleFault c ks)) z
 
 -- of the meaning
 pub entry-here : (c : Context) (i : ℕ) {s : List ℕ} {at e next : ℕ} → InnerAt s at e next → {v : List ℕ} {o : Scope} → v ≡ valueOf (part s at e)

@@ -208,7 +208,7 @@ components-skip k = ap componentsIn (k .items 0)
 
 -- ---- a fault, or what the rest has
 
-fault-else-twice : (a b r : ValueCheck) → faultElse (faultElse a b) r ≡ faultElse a (faultElse b r)
+pub fault-else-twice : (a b r : ValueCheck) → faultElse (faultElse a b) r ≡ faultElse a (faultElse b r)
 unfolding faultElse
 fault-else-twice ValueCheck.Good b r = refl
 fault-else-twice (ValueCheck.Unsupported n) b r = refl

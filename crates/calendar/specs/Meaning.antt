@@ -187,3 +187,7 @@ meaningOf c u = byLines (lineCheck u) (byNesting (nestingOf (fileLines u)) (cont
 unfoldable pub faultOf : Meaning → Fault
 faultOf (fault n i) = Fault.At n i
 faultOf (calendar es) = Fault.None
+
+-- the lowest of refusals 6 and 7 that applies
+unfoldable pub structureFault : List ℕ → Fault
+structureFault u = faultOf (byLines (lineCheck u) (byNesting (nestingOf (fileLines u)) (calendar [])))

@@ -7,18 +7,20 @@ use lib.ListN.{length}
 use Rattle.text.specs.Lines.{part}
 use Rattle.line.specs.Reading.{lineOf}
 use Rattle.nesting.specs.Components.{Component, none, endOf, itemsOf, treeOf, itemsBelow, componentsIn, propertiesIn}
-use Rattle.nesting.specs.Passing.{linesFrom, numbered}
+use Rattle.nesting.specs.Passing.{linesFrom, numbered, SkipsTo}
 use Rattle.values.specs.declared.times.Context.{Context}
 use Rattle.values.specs.declared.said.Scope.{Scope}
 use Rattle.values.specs.declared.said.Saying.{Saying}
 use Rattle.calendar.specs.Gathered.{nothingGathered, gather}
 use Rattle.calendar.specs.Events.{eventBy, blockBy}
-use Rattle.calendar.specs.Meaning.{sayingsIn, faultIn, eventBroken, blockBroken, fileLines, BusyPeriod, blockPeriods, Entry, eventEntry, blockEntry}
+use Rattle.calendar.specs.Meaning.{sayingsIn, faultIn, valueFault, ruleFault, eventBroken, blockBroken, fileLines, BusyPeriod, blockPeriods, Entry, eventEntry, blockEntry}
 use Rattle.calendar.specs.declared.Gathered.{Gathered}
 use Rattle.calendar.specs.declared.EventRead.{EventRead}
 use Rattle.calendar.specs.declared.BlockRead.{BlockRead}
 use Rattle.calendar.specs.declared.ValueCheck.{ValueCheck}
 use Rattle.calendar.specs.declared.places.Below.{Below}
+use Rattle.calendar.specs.declared.component.ComponentRead.{ComponentRead}
+use Rattle.calendar.specs.declared.contents.ContentsCheck.{ContentsCheck}
 
 -- what each line directly in it says; by which number the lines begin plays no part
 unfoldable pub sayingsAt : Context → Scope → List ℕ → ℕ → List Saying
@@ -83,3 +85,14 @@ pub record NoneBelow (s : List ℕ) : Type 0 where
 unfoldable pub BelowIs : List ℕ → Below → Type 0
 BelowIs s (Below.At at i) = BelowAt s at i
 BelowIs s Below.None = NoneBelow s
+
+-- what one walk over it answers
+pub record ReadsComponent (c : Context) (o : Scope) (s : List ℕ) (at i : ℕ) (r : ComponentRead) : Type 0 where
+  pub first-fault : r .fault ≡ faultAt c o s at i
+  pub together : r .gathered ≡ gatheredAt c o s at
+  pub ends : SkipsTo s at i (r .behind)
+
+-- what one walk over the components from a place on answers; rules are told where no value is at fault
+pub record ChecksFrom (c : Context) (s : List ℕ) (from first : ℕ) (r : ContentsCheck) : Type 0 where
+  pub first-fault : r .values ≡ valueFault c (componentsFrom s from first)
+  pub first-broken : r .values ≡ ValueCheck.Good → r .rules ≡ ruleFault c (componentsFrom s from first)

@@ -2,35 +2,31 @@
 use Prim.Native.Nat.{ℕ, _≤_, _<_}
 use mathlib.Core.Path.{_≡_, sym, ap, _∙_, refl, subst}
 use mathlib.Core.Bool.{Bool, true, false, not, _&&_}
-use mathlib.Core.List.{List, [], _∷_, _++_}
+use mathlib.Core.List.{List, [], _++_}
 use native.Mathlib.Omega.{arith}
 use lib.Dec.{ltb, leb}
 use lib.IntN.{ℤ}
 use lib.ListN.{length, take, drop}
-use borrow.Author.Tests.{ltb-true, leb-true}
+use borrow.Author.Tests.{ltb-true, leb-true, lt-leb}
 use Rattle.ascii.proofs.Bools.{and-left, and-right}
-use Rattle.text.specs.Unfolding.{unfolded}
+use Rattle.text.specs.Unfolding.{unfolded, Unfolded}
 use Rattle.text.proofs.Unfolding.{unfolded-front}
 use Rattle.values.specs.declared.period.Period.{Period}
 use Rattle.values.specs.declared.said.Busy.{Busy}
 use Rattle.values.specs.declared.times.Context.{Context}
-use Rattle.calendar.specs.Meaning.{Entry, entriesOf, componentsOf}
+use Rattle.calendar.specs.Meaning.{structureFault}
 use Rattle.calendar.specs.declared.Fault.{Fault}
-use Rattle.pieces.specs.Pieces.{busyPieces}
-use Rattle.engine.specs.Refusals.{Row, row, lowest}
-use Rattle.engine.specs.Matching.{sizeRows}
+use Rattle.engine.specs.Refusals.{Row, lowest, Rising, ends, sizeRows}
 use Rattle.engine.specs.Offsets.{offsetGood, contextOf, offsetRead}
 use Rattle.engine.specs.Reporting.{ReportCall, rangeGood, stampGood, entriesIn, coveredIn, piecesFor, reportFor, collectRows}
 use Rattle.engine.specs.Collecting.{earlyFault, workBy, periodsBy, Collects}
-use Rattle.engine.specs.Stages.{sizeFault, CalendarRead}
-use Rattle.engine.specs.CollectStages.{callRead, Refuses, unlessFault, Tabled, pieceRows, periodsIn, Gathered, laterRows, laterPeriods}
+use Rattle.engine.specs.Stages.{sizeFault}
+use Rattle.engine.specs.CollectStages.{callRead, Refuses, unlessFault, Tabled, pieceRows, periodsIn, ContentsTabled, Gathered, laterRows, laterPeriods}
 use Rattle.engine.specs.declared.stages.OffsetRead.{OffsetRead}
-use Rattle.engine.specs.declared.stages.Reading.{Reading}
 use Rattle.engine.specs.declared.collecting.Collected.{Collected}
 use Rattle.engine.proofs.Offsets.{read-good, read-out, shift-bound, offset-given}
-use Rattle.engine.proofs.Tables.{row-applies, row-passed}
-use Rattle.engine.proofs.Passing.{sizes-early, sizes-passed, sizes-refused, calendar-late, calendar-passed, calendar-refused}
-use Rattle.engine.proofs.Outcomes.{lowest-fault}
+use Rattle.engine.proofs.Tables.{row-applies, row-passed, lowest-above}
+use Rattle.engine.proofs.Passing.{rises, sizes-early, sizes-passed, sizes-refused, structure-passed, structure-refused, calendar-rising}
 use Rattle.engine.proofs.CollectTables.{tabled-refused, tabled-passed}
 
 -- ---- range, stamp and offset
@@ -98,33 +94,38 @@ module _ (cal work : List ℕ) where
 
 -- ---- from the calendar on
 
-pieces-late : (a e : ℕ) (es : List Entry) → earlyFault (lowest (pieceRows a e es)) ≡ false
-unfolding pieceRows lowest earlyFault
-pieces-late a e es = go (ltb 512 (length (busyPieces a e es)))
+late-above : (rows : List Row) → Rising 5 rows → earlyFault (lowest rows) ≡ false
+unfolding earlyFault
+late-above rows g = go (lowest rows) refl
   where
-    go : (y : Bool) → earlyFault (lowest (row 11 0 y ∷ [])) ≡ false
-    go true = refl
-    go false = refl
+    go : (f : Fault) → lowest rows ≡ f → earlyFault f ≡ false
+    go Fault.None h = refl
+    go (Fault.At n i) h = lt-leb n 5 (lowest-above rows g h)
 
-module _ {cal work left : List ℕ} {c : Context} {x : Reading} (k : CalendarRead c cal work left x) (a e : ℕ) {r : Collected} where
-  pub calendar-refuses : {n i : ℕ} → x .fault ≡ Fault.At n i → Refuses (Fault.At n i) r
-      → Gathered (laterRows c cal a e) (laterPeriods c cal a e) cal work r left
-  unfolding laterRows earlyFault
-  calendar-refuses {n} {i} q w =
-      let f = lowest-fault cal work k ∙ q in
-      let l : lowest (laterRows c cal a e) ≡ Fault.At n i = calendar-refused c (unfolded cal) _ f in
-      gathered-late cal work (k .unfolds .bytes) (ap earlyFault l ∙ calendar-late c (unfolded cal) f) (tabled-refused l w)
+later-late : (c : Context) (cal : List ℕ) (a e : ℕ) → earlyFault (lowest (laterRows c cal a e)) ≡ false
+unfolding laterRows pieceRows
+later-late c cal a e = late-above (laterRows c cal a e) (calendar-rising c (unfolded cal) _ (rises 10 11 refl (omega arith) ends))
 
-  pub calendar-passes : x .fault ≡ Fault.None
-      → Tabled (pieceRows a e (entriesOf c (componentsOf (take (x .length) left)))) (periodsIn a e (entriesOf c (componentsOf (take (x .length) left)))) r
-      → Gathered (laterRows c cal a e) (laterPeriods c cal a e) cal work r left
-  unfolding laterRows laterPeriods
-  calendar-passes q t =
-      let l = calendar-passed c (unfolded cal) (pieceRows a e (entriesOf c (componentsOf (unfolded cal)))) (lowest-fault cal work k ∙ q) in
-      gathered-late cal work (k .unfolds .bytes) (ap earlyFault l ∙ pieces-late a e _)
-      (tabled-passed l
-      (subst (λ (u : List ℕ). Tabled (pieceRows a e (entriesOf c (componentsOf u))) (periodsIn a e (entriesOf c (componentsOf u))) r)
-      (unfolded-front (k .unfolds)) t))
+module _ {cal work left : List ℕ} {m : ℕ} (k : Unfolded cal work left m) {f : Fault} (q : f ≡ structureFault (take m left)) where
+  structure-found : structureFault (unfolded cal) ≡ f
+  structure-found = sym (q ∙ ap structureFault (unfolded-front k))
+
+  module _ (c : Context) (a e : ℕ) {r : Collected} where
+    calendar-gathered : Tabled (laterRows c cal a e) (laterPeriods c cal a e) r → Gathered (laterRows c cal a e) (laterPeriods c cal a e) cal work r left
+    calendar-gathered t = gathered-late cal work (k .bytes) (later-late c cal a e) t
+
+    pub calendar-refuses : {n i : ℕ} → f ≡ Fault.At n i → Refuses (Fault.At n i) r
+        → Gathered (laterRows c cal a e) (laterPeriods c cal a e) cal work r left
+    unfolding laterRows
+    calendar-refuses h w = calendar-gathered (tabled-refused (structure-refused c (unfolded cal) _ (structure-found ∙ h)) w)
+
+    pub calendar-passes : f ≡ Fault.None → ContentsTabled c (take m left) a e r
+        → Gathered (laterRows c cal a e) (laterPeriods c cal a e) cal work r left
+    unfolding laterRows laterPeriods
+    calendar-passes h t =
+        calendar-gathered
+        (tabled-passed (structure-passed c (unfolded cal) _ (structure-found ∙ h))
+        (subst (λ (u : List ℕ). ContentsTabled c u a e r) (unfolded-front k) t))
 
 -- ---- the whole call
 

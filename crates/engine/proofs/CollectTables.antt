@@ -11,8 +11,9 @@ use borrow.Author.Tests.{lt-ltb, le-ltb}
 use Rattle.ascii.proofs.Bools.{clash}
 use Rattle.values.specs.declared.period.Period.{Period}
 use Rattle.values.specs.declared.said.Busy.{Busy}
+use Rattle.values.specs.declared.times.Context.{Context}
 use Rattle.calendar.specs.BusyTypes.{reportPlace, isBusy}
-use Rattle.calendar.specs.Meaning.{BusyPeriod, Entry}
+use Rattle.calendar.specs.Meaning.{BusyPeriod, Entry, entriesOf, componentsOf}
 use Rattle.calendar.specs.declared.Fault.{Fault}
 use Rattle.table.specs.Runs.{runs, Lies}
 use Rattle.table.specs.Tables.{listed, Empty}
@@ -22,15 +23,18 @@ use Rattle.pieces.specs.BusyPeriods.{busyPeriods}
 use Rattle.pieces.specs.Columns.{flat, noted, Noted}
 use Rattle.pieces.specs.Covered.{coveredBy, covered}
 use Rattle.pieces.specs.Pieces.{busyPieces}
+use Rattle.pieces.specs.Walks.{NotesContents}
+use Rattle.pieces.specs.declared.walk.ContentsNoted.{ContentsNoted}
 use Rattle.pieces.proofs.Adding.{noted-all}
 use Rattle.pieces.proofs.Clipping.{within-holds, busyPieces-cover, pieces-inside}
 use Rattle.tables.specs.Building.{Built}
 use Rattle.tables.proofs.Built.{built-stored}
 use Rattle.report.specs.Writing.{byType}
 use Rattle.engine.specs.Refusals.{Row, row, lowest}
-use Rattle.engine.specs.CollectStages.{AllSound, Refuses, Typed, unlessFault, Tabled, pieceRows, periodsIn}
+use Rattle.engine.specs.CollectStages.{AllSound, Refuses, Typed, unlessFault, Tabled, pieceRows, periodsIn, ContentsTabled}
 use Rattle.engine.specs.declared.collecting.Collected.{Collected}
 use Rattle.engine.proofs.Tables.{row-applies, row-passed}
+use Rattle.engine.proofs.Passing.{contents-passed, contents-refused}
 
 -- ---- a refusal
 
@@ -112,7 +116,7 @@ module _ (a e : ℕ) (es : List Entry) where
       (λ x k l. busyPieces-cover b u a e x es ∙ ap (λ (t : Bool). t && covered b es x) (within-holds a e x k (omega (arith, range-end h))))
 
   module _ {o o′ : List ℕ} {n : ℕ} (h : Noted o 0 (busyPieces a e es) o′ n) where
-    pub noted-many : 512 < n → lowest (pieceRows a e es) ≡ Fault.At 11 0
+    noted-many : 512 < n → lowest (pieceRows a e es) ≡ Fault.At 11 0
     unfolding pieceRows noted
     noted-many k =
         row-applies _ _ (lt-ltb 512 (length (busyPieces a e es)) (omega (arith, h .count, take-least 513 (busyPieces a e es))))
@@ -131,7 +135,7 @@ module _ (a e : ℕ) (es : List Entry) where
       unfolding pieceRows lowest
       few-noted = row-passed (row 11 0 (ltb 512 (length (busyPieces a e es)))) [] (le-ltb 512 (length (busyPieces a e es)) (omega (arith, noted-count)))
 
-      pub tabled-noted : {r : Collected} → length o ≡ 1539 → a < e → Typed o′ n r → Tabled (pieceRows a e es) (periodsIn a e es) r
+      tabled-noted : {r : Collected} → length o ≡ 1539 → a < e → Typed o′ n r → Tabled (pieceRows a e es) (periodsIn a e es) r
       unfolding unlessFault
       tabled-noted l w t =
           record {
@@ -145,3 +149,19 @@ module _ (a e : ℕ) (es : List Entry) where
                 ∙ sym (ap (λ (f : Fault). unlessFault f (periodsIn a e es b)) few-noted);
             sound = typed-sound t;
           }
+
+-- ---- refusals 8 to 11, then the tables
+
+module _ {c : Context} {u : List ℕ} {a e : ℕ} {o o′ : List ℕ} {x : ContentsNoted} (k : NotesContents c u a e o o′ x) {r : Collected} where
+  pub contents-refuse : {n i : ℕ} → x .fault ≡ Fault.At n i → Refuses (Fault.At n i) r → ContentsTabled c u a e r
+  contents-refuse q w = tabled-refused (contents-refused c u _ (sym (k .fault-is) ∙ q)) w
+
+  module _ (q : x .fault ≡ Fault.None) where
+    contents-pass : Tabled (pieceRows a e (entriesOf c (componentsOf u))) (periodsIn a e (entriesOf c (componentsOf u))) r → ContentsTabled c u a e r
+    contents-pass t = tabled-passed (contents-passed c u _ (sym (k .fault-is) ∙ q)) t
+
+    pub contents-many : 512 < x .count → Refuses (Fault.At 11 0) r → ContentsTabled c u a e r
+    contents-many m w = contents-pass (tabled-refused (noted-many a e _ (k .noted q) m) w)
+
+    pub contents-few : x .count ≤ 512 → length o ≡ 1539 → a < e → Typed o′ (x .count) r → ContentsTabled c u a e r
+    contents-few m l w t = contents-pass (tabled-noted a e _ (k .noted q) m l w t)

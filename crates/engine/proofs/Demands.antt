@@ -17,9 +17,9 @@ use Rattle.filter.proofs.Sentences.{query-iff}
 use Rattle.filter.specs.Paper.{QueryPasses}
 use Rattle.filter.specs.Tests.{queryHolds}
 use Rattle.engine.specs.Answers.{Outcome, verdict, refusal}
-use Rattle.engine.specs.Refusals.{lowest, Rising, ends}
+use Rattle.engine.specs.Refusals.{lowest, unlessRefused, Rising, ends, sizeRows}
 use Rattle.engine.specs.Offsets.{offsetGood, contextOf}
-use Rattle.engine.specs.Matching.{MatchCall, sizeRows, queryRows, matchRows, verdictBy, verdictOf, unlessRefused, matchOutcome, Matched}
+use Rattle.engine.specs.Matching.{MatchCall, queryRows, matchRows, verdictBy, verdictOf, matchOutcome, Matched}
 use Rattle.engine.specs.Demands.{NoneApplies, AnswersOrRefuses, MatchesWhen}
 use Rattle.engine.specs.declared.Answer.{Answer}
 use Rattle.engine.proofs.Tables.{none-iff, lowest-iff}

@@ -7,9 +7,9 @@ use Prim.Native.String.{String}
 use lib.IntN.{ℤ, pos, negsuc}
 use Rattle.ascii.specs.Words.{ascii}
 use Rattle.engine.specs.Answers.{Outcome, verdict, refusal}
-use Rattle.engine.specs.Refusals.{lowest, lineRow, nestingRow, unsupportedRow, badValueRow, ruleRow, calendarRows}
+use Rattle.engine.specs.Refusals.{lowest, unlessRefused, sizeRows, lineRow, nestingRow, unsupportedRow, badValueRow, ruleRow, calendarRows}
 use Rattle.engine.specs.Offsets.{offsetGood}
-use Rattle.engine.specs.Matching.{MatchCall, sizeRows, misplacedIn, queryRows, matchRows, verdictBy, verdictOf, unlessRefused, matchOutcome}
+use Rattle.engine.specs.Matching.{MatchCall, misplacedIn, queryRows, matchRows, verdictBy, verdictOf, matchOutcome}
 use Rattle.ascii.specs.Bytes.{isDigit, isLetter, isNameByte, isControl, upper}
 use Rattle.ascii.specs.Names.{sameName, isName}
 use Rattle.text.specs.Lines.{cut, contentLines}

@@ -12,9 +12,9 @@ use Rattle.query.specs.Paper.{WellFormedQuery}
 use Rattle.filter.specs.Paper.{QueryPasses}
 use Rattle.calendar.specs.declared.Fault.{Fault}
 use Rattle.engine.specs.Answers.{verdict, report, outcomeOf, refusedEarly}
-use Rattle.engine.specs.Refusals.{lowest}
+use Rattle.engine.specs.Refusals.{lowest, unlessRefused}
 use Rattle.engine.specs.Offsets.{contextOf}
-use Rattle.engine.specs.Matching.{MatchCall, matchRows, verdictOf, unlessRefused, matchOutcome, Matched}
+use Rattle.engine.specs.Matching.{MatchCall, matchRows, verdictOf, matchOutcome, Matched}
 use Rattle.engine.specs.Demands.{NoneApplies}
 use Rattle.engine.specs.declared.Answer.{Answer}
 use Rattle.engine.proofs.Outcomes.{work-by}

@@ -19,9 +19,9 @@ use Rattle.query.specs.declared.SectionsRead.{SectionsRead}
 use Rattle.query.specs.declared.QueryRead.{QueryRead}
 use Rattle.filter.specs.Tests.{queryHolds}
 use Rattle.engine.specs.Answers.{Outcome, verdict, report, refusal, outcomeOf, refusedEarly, workAfter}
-use Rattle.engine.specs.Refusals.{lowest, calendarRows}
+use Rattle.engine.specs.Refusals.{lowest, unlessRefused, sizeRows, calendarRows}
 use Rattle.engine.specs.Offsets.{contextOf, offsetRead}
-use Rattle.engine.specs.Matching.{MatchCall, sizeRows, queryRows, matchRows, verdictBy, verdictOf, unlessRefused, matchOutcome, Matched}
+use Rattle.engine.specs.Matching.{MatchCall, queryRows, matchRows, verdictBy, verdictOf, matchOutcome, Matched}
 use Rattle.engine.specs.Stages.{sizeFault, CalendarRead, Answered, calendarOutcome, holdsBy, queryOutcome}
 use Rattle.engine.specs.declared.Answer.{Answer}
 use Rattle.engine.specs.declared.stages.OffsetRead.{OffsetRead}

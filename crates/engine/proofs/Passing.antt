@@ -15,7 +15,7 @@ use Rattle.line.specs.declared.check.LineCheck.{LineCheck}
 use Rattle.nesting.specs.Nesting.{nestingOf}
 use Rattle.nesting.specs.declared.Nesting.{Nesting}
 use Rattle.values.specs.declared.times.Context.{Context}
-use Rattle.calendar.specs.Meaning.{Entry, byRules, byValues, byNesting, byLines, fileLines, componentsOf, valueFault, ruleFault, entriesOf, contentsOf, meaningOf, faultOf}
+use Rattle.calendar.specs.Meaning.{Entry, calendar, byRules, byValues, byNesting, byLines, fileLines, componentsOf, valueFault, ruleFault, entriesOf, contentsOf, meaningOf, faultOf, structureFault}
 use Rattle.calendar.specs.declared.ValueCheck.{ValueCheck}
 use Rattle.calendar.specs.declared.RuleCheck.{RuleCheck}
 use Rattle.calendar.specs.declared.Fault.{Fault}
@@ -25,9 +25,10 @@ use Rattle.query.specs.declared.Sections.{Sections}
 use Rattle.query.specs.declared.SectionsRead.{SectionsRead}
 use Rattle.query.specs.declared.QueryRead.{QueryRead}
 use Rattle.query.proofs.Refusing.{read-says}
-use Rattle.engine.specs.Refusals.{Row, lowest, Rising, ends, goes-on, lineRow, nestingRow, unsupportedRow, badValueRow, ruleRow, calendarRows}
-use Rattle.engine.specs.Matching.{sizeRows, misplacedIn, queryRows}
+use Rattle.engine.specs.Refusals.{Row, lowest, Rising, ends, goes-on, sizeRows, lineRow, nestingRow, unsupportedRow, badValueRow, ruleRow, calendarRows}
+use Rattle.engine.specs.Matching.{misplacedIn, queryRows}
 use Rattle.engine.specs.Stages.{sizeFault, CalendarRead}
+use Rattle.engine.specs.CollectStages.{contentsRows}
 use Rattle.engine.proofs.Tables.{no-fault-here, same-number, stage-passed, stage-refused, lowest-above}
 
 -- ---- numbers that rise from stage to stage
@@ -108,16 +109,27 @@ module _ (s : List ℕ) (rows : List Row) where
 
 -- ---- 6 to 10: the calendar
 
+structure-fault : (l : LineCheck) (n : Nesting) → lowest (lineRow l ∷ nestingRow n ∷ []) ≡ faultOf (byLines l (byNesting n (calendar [])))
+unfolding lowest lineRow nestingRow faultOf byLines byNesting
+structure-fault (LineCheck.BadLine i) n = refl
+structure-fault LineCheck.Good (Nesting.BadLine i) = refl
+structure-fault LineCheck.Good Nesting.Good = refl
+
+contents-fault : (v : ValueCheck) (r : RuleCheck) (es : List Entry)
+    → lowest (unsupportedRow v ∷ badValueRow v ∷ ruleRow r ∷ []) ≡ faultOf (byValues v (byRules r es))
+unfolding lowest unsupportedRow badValueRow ruleRow faultOf byValues byRules
+contents-fault (ValueCheck.Unsupported i) r es = refl
+contents-fault (ValueCheck.Bad i) r es = refl
+contents-fault ValueCheck.Good (RuleCheck.Broken i) es = refl
+contents-fault ValueCheck.Good RuleCheck.Good es = refl
+
 rows-fault : (l : LineCheck) (n : Nesting) (v : ValueCheck) (r : RuleCheck) (es : List Entry)
     → lowest (lineRow l ∷ nestingRow n ∷ unsupportedRow v ∷ badValueRow v ∷ ruleRow r ∷ [])
     ≡ faultOf (byLines l (byNesting n (byValues v (byRules r es))))
-unfolding lowest lineRow nestingRow unsupportedRow badValueRow ruleRow faultOf byLines byNesting byValues byRules
+unfolding lowest lineRow nestingRow faultOf byLines byNesting
 rows-fault (LineCheck.BadLine i) n v r es = refl
 rows-fault LineCheck.Good (Nesting.BadLine i) v r es = refl
-rows-fault LineCheck.Good Nesting.Good (ValueCheck.Unsupported i) r es = refl
-rows-fault LineCheck.Good Nesting.Good (ValueCheck.Bad i) r es = refl
-rows-fault LineCheck.Good Nesting.Good ValueCheck.Good (RuleCheck.Broken i) es = refl
-rows-fault LineCheck.Good Nesting.Good ValueCheck.Good RuleCheck.Good es = refl
+rows-fault LineCheck.Good Nesting.Good v r es = contents-fault v r es
 
 line-numbered : (l : LineCheck) → lineRow l .number ≡ 6
 unfolding lineRow
@@ -168,10 +180,35 @@ module _ (c : Context) (u : List ℕ) where
   unfolding calendarRows
   calendar-passed rows e = stage-passed (calendarRows c u []) rows e
 
-  pub calendar-refused : {n i : ℕ} (rows : List Row) → lowest (calendarRows c u []) ≡ Fault.At n i
-      → lowest (calendarRows c u rows) ≡ Fault.At n i
-  unfolding calendarRows
-  calendar-refused rows e = stage-refused (calendarRows c u []) rows e
+-- its structure goes before its contents
+
+module _ (c : Context) (u : List ℕ) (rows : List Row) where
+  abbrev structure : List Row
+  structure = lineRow (lineCheck u) ∷ nestingRow (nestingOf (fileLines u)) ∷ []
+
+  structure-lowest : lowest structure ≡ structureFault u
+  unfolding structureFault
+  structure-lowest = structure-fault (lineCheck u) (nestingOf (fileLines u))
+
+  pub structure-passed : structureFault u ≡ Fault.None → lowest (calendarRows c u rows) ≡ lowest (contentsRows c u rows)
+  unfolding calendarRows contentsRows
+  structure-passed e = stage-passed structure (contentsRows c u rows) (structure-lowest ∙ e)
+
+  pub structure-refused : {n i : ℕ} → structureFault u ≡ Fault.At n i → lowest (calendarRows c u rows) ≡ Fault.At n i
+  unfolding calendarRows contentsRows
+  structure-refused e = stage-refused structure (contentsRows c u rows) (structure-lowest ∙ e)
+
+  contents-lowest : lowest (contentsRows c u []) ≡ faultOf (contentsOf c u)
+  unfolding contentsRows contentsOf
+  contents-lowest = contents-fault (valueFault c (componentsOf u)) (ruleFault c (componentsOf u)) (entriesOf c (componentsOf u))
+
+  pub contents-passed : faultOf (contentsOf c u) ≡ Fault.None → lowest (contentsRows c u rows) ≡ lowest rows
+  unfolding contentsRows
+  contents-passed e = stage-passed (contentsRows c u []) rows (contents-lowest ∙ e)
+
+  pub contents-refused : {n i : ℕ} → faultOf (contentsOf c u) ≡ Fault.At n i → lowest (contentsRows c u rows) ≡ Fault.At n i
+  unfolding contentsRows
+  contents-refused e = stage-refused (contentsRows c u []) rows (contents-lowest ∙ e)
 
 -- ---- the unfolded calendar in the work buffer
 

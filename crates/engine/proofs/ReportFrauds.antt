@@ -14,8 +14,7 @@ use Rattle.table.specs.Runs.{covers}
 use Rattle.report.specs.Bytes.{Report, reportBytes, reportLength}
 use Rattle.report.proofs.Lengths.{report-length}
 use Rattle.engine.specs.Answers.{Outcome, verdict, report, outcomeOf}
-use Rattle.engine.specs.Refusals.{lowest}
-use Rattle.engine.specs.Matching.{unlessRefused}
+use Rattle.engine.specs.Refusals.{lowest, unlessRefused}
 use Rattle.engine.specs.Reporting.{ReportCall, coveredIn, reportFor, reportRows, reportOutcome, outputAfter, Reported}
 use Rattle.engine.specs.Meanings.{NoRefusal, IsReport}
 use Rattle.engine.specs.declared.Answer.{Answer}

@@ -13,9 +13,8 @@ use Rattle.calendar.specs.declared.Fault.{Fault}
 use Rattle.report.specs.Bytes.{Report, reportBytes, GoodPeriods, Writable}
 use Rattle.report.specs.Writing.{byType, reportOf}
 use Rattle.engine.specs.Answers.{Outcome, report, refusal, outcomeOf, refusedEarly, workAfter}
-use Rattle.engine.specs.Refusals.{Row, lowest, calendarRows}
+use Rattle.engine.specs.Refusals.{Row, lowest, unlessRefused, sizeRows, calendarRows}
 use Rattle.engine.specs.Offsets.{offsetGood}
-use Rattle.engine.specs.Matching.{sizeRows, unlessRefused}
 use Rattle.engine.specs.Reporting.{ReportCall, rangeGood, stampGood, reportFor, collectRows, reportRows, reportOutcome, outputAfter, Reported}
 use Rattle.engine.specs.Collecting.{earlyFault, workBy, periodsBy, Collects}
 use Rattle.engine.specs.ReportWriting.{writeOutcome, Wrote}

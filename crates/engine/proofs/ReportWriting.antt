@@ -14,8 +14,7 @@ use Rattle.report.specs.Bytes.{reportBytes, reportLength}
 use Rattle.report.specs.Writing.{reportOf, Put}
 use Rattle.report.proofs.Lengths.{tables-length}
 use Rattle.engine.specs.Answers.{Outcome, report, refusal, outcomeOf, refusedEarly}
-use Rattle.engine.specs.Refusals.{lowest}
-use Rattle.engine.specs.Matching.{unlessRefused}
+use Rattle.engine.specs.Refusals.{lowest, unlessRefused}
 use Rattle.engine.specs.Reporting.{outputAfter}
 use Rattle.engine.specs.ReportWriting.{writeOutcome, Wrote}
 use Rattle.engine.specs.declared.Answer.{Answer}

@@ -11,9 +11,8 @@ use Rattle.text.specs.Unfolding.{unfolded}
 use Rattle.calendar.specs.declared.Fault.{Fault}
 use Rattle.report.specs.Bytes.{reportBytes}
 use Rattle.engine.specs.Answers.{Outcome, report, refusal}
-use Rattle.engine.specs.Refusals.{Row, lowest, Rising, ends, goes-on}
+use Rattle.engine.specs.Refusals.{Row, lowest, unlessRefused, Rising, ends, goes-on}
 use Rattle.engine.specs.Offsets.{contextOf}
-use Rattle.engine.specs.Matching.{unlessRefused}
 use Rattle.engine.specs.Reporting.{ReportCall, reportFor, collectRows, reportRows, reportOutcome, outputAfter, Reported}
 use Rattle.engine.specs.Meanings.{NoRefusal, IsReport}
 use Rattle.engine.specs.ReportAnswers.{ReportsOrRefuses, ReportStands}

@@ -23,9 +23,8 @@ use Rattle.pieces.specs.Covered.{ofType, coveredBy, covered}
 use Rattle.pieces.specs.Pieces.{busyPieces}
 use Rattle.pieces.proofs.Clipping.{within-holds, clipped-covers, pieces-inside, pieces-count}
 use Rattle.report.specs.Bytes.{Report, busyLines, reportLines, reportBytes, GoodPeriods, Writable, periodCount}
-use Rattle.engine.specs.Refusals.{calendarRows}
+use Rattle.engine.specs.Refusals.{sizeRows, calendarRows}
 use Rattle.engine.specs.Offsets.{offsetGood}
-use Rattle.engine.specs.Matching.{sizeRows}
 use Rattle.engine.specs.Reporting.{ReportCall, rangeGood, stampGood, entriesIn, coveredIn, piecesFor, reportFor, collectRows, reportRows}
 use Rattle.engine.specs.Meanings.{NoRefusal}
 use Rattle.engine.proofs.Reports.{not-applied}

@@ -11,7 +11,7 @@ use Rattle.values.specs.declared.period.Period.{Period}
 use Rattle.values.specs.declared.said.Busy.{Busy}
 use Rattle.values.specs.declared.times.Context.{Context}
 use Rattle.calendar.specs.BusyTypes.{isBusy}
-use Rattle.calendar.specs.Meaning.{Entry, entriesOf, componentsOf}
+use Rattle.calendar.specs.Meaning.{Entry, entriesOf, componentsOf, valueFault, ruleFault}
 use Rattle.calendar.specs.declared.Fault.{Fault}
 use Rattle.table.specs.Runs.{runs}
 use Rattle.table.specs.Tables.{Sound}
@@ -19,7 +19,7 @@ use Rattle.pieces.specs.Covered.{covered}
 use Rattle.pieces.specs.Pieces.{busyPieces}
 use Rattle.tables.specs.Building.{Built}
 use Rattle.report.specs.Writing.{byType}
-use Rattle.engine.specs.Refusals.{Row, row, lowest, calendarRows}
+use Rattle.engine.specs.Refusals.{Row, row, lowest, unsupportedRow, badValueRow, ruleRow, calendarRows}
 use Rattle.engine.specs.Offsets.{offsetRead}
 use Rattle.engine.specs.Reporting.{rangeGood, stampGood}
 use Rattle.engine.specs.Collecting.{workBy}
@@ -77,6 +77,16 @@ pieceRows a e es = row 11 0 (ltb 512 (length (busyPieces a e es))) ∷ []
 -- the covered seconds of the range as the fewest periods
 unfoldable pub periodsIn : ℕ → ℕ → List Entry → Busy → List Period
 periodsIn a e es b = runs (covered b es) a (e - a)
+
+-- 8 to 10, from the unfolded bytes, before others
+unfoldable pub contentsRows : Context → List ℕ → List Row → List Row
+contentsRows c u rows =
+    unsupportedRow (valueFault c (componentsOf u)) ∷ badValueRow (valueFault c (componentsOf u)) ∷ ruleRow (ruleFault c (componentsOf u)) ∷ rows
+
+-- the lowest of 8 to 11, and the tables where there is none
+abbrev pub ContentsTabled : Context → List ℕ → ℕ → ℕ → Collected → Type 0
+ContentsTabled c u a e r =
+    Tabled (contentsRows c u (pieceRows a e (entriesOf c (componentsOf u)))) (periodsIn a e (entriesOf c (componentsOf u))) r
 
 -- 6 to 11
 unfoldable pub laterRows : Context → List ℕ → ℕ → ℕ → List Row

@@ -3,18 +3,15 @@ use Prim.Native.Nat.{ℕ}
 use mathlib.Core.Path.{_≡_}
 use mathlib.Core.Bool.{Bool, false, not}
 use mathlib.Core.List.{List, [], _∷_}
-use lib.Dec.{ltb}
-use lib.ListN.{length}
 use lib.IntN.{ℤ}
 use Rattle.text.specs.Unfolding.{unfolded}
 use Rattle.nesting.specs.Passing.{treeIn}
-use Rattle.calendar.specs.declared.Fault.{Fault}
 use Rattle.query.specs.Sections.{sectionsOf}
 use Rattle.query.specs.WellFormed.{queryGood, rangeMisplaced}
 use Rattle.query.specs.declared.SectionsRead.{SectionsRead}
 use Rattle.filter.specs.Tests.{queryHolds}
-use Rattle.engine.specs.Answers.{Outcome, verdict, refusal, outcomeOf, workAfter}
-use Rattle.engine.specs.Refusals.{Row, row, lowest, calendarRows}
+use Rattle.engine.specs.Answers.{Outcome, verdict, outcomeOf, workAfter}
+use Rattle.engine.specs.Refusals.{Row, row, lowest, unlessRefused, sizeRows, calendarRows}
 use Rattle.engine.specs.Offsets.{offsetGood, contextOf}
 use Rattle.engine.specs.declared.Answer.{Answer}
 
@@ -24,10 +21,6 @@ pub record MatchCall : Type 0 where
   pub query : List ℕ
   pub offset : ℤ
   pub work : List ℕ
-
--- 2: calendar longer than 65,536 bytes; 3: work buffer shorter than the calendar
-unfoldable pub sizeRows : List ℕ → List ℕ → List Row → List Row
-sizeRows cal work rows = row 2 0 (ltb 65536 (length cal)) ∷ row 3 0 (ltb (length work) (length cal)) ∷ rows
 
 -- 4: query paper badly formed; 5: a time range where none can be
 unfoldable pub misplacedIn : List ℕ → SectionsRead → Bool
@@ -51,11 +44,7 @@ verdictBy m SectionsRead.Bad = false
 unfoldable pub verdictOf : MatchCall → Bool
 verdictOf m = verdictBy m (sectionsOf (m .query))
 
--- the lowest refusal that applies, else the answer
-unfoldable pub unlessRefused : Fault → Outcome → Outcome
-unlessRefused Fault.None o = o
-unlessRefused (Fault.At n i) o = refusal n
-
+-- the lowest refusal that applies, else the verdict
 unfoldable pub matchOutcome : MatchCall → Outcome
 matchOutcome m = unlessRefused (lowest (matchRows m)) (verdict (verdictOf m))
 

@@ -3,6 +3,8 @@ use Prim.Native.Nat.{ℕ, _<_}
 use mathlib.Core.Path.{_≡_}
 use mathlib.Core.Bool.{Bool, true, false}
 use mathlib.Core.List.{List, [], _∷_, List·Memᴰ}
+use lib.Dec.{ltb}
+use lib.ListN.{length}
 use Rattle.line.specs.WellFormed.{lineCheck}
 use Rattle.line.specs.declared.check.LineCheck.{LineCheck}
 use Rattle.nesting.specs.Nesting.{nestingOf}
@@ -12,6 +14,7 @@ use Rattle.calendar.specs.Meaning.{fileLines, componentsOf, valueFault, ruleFau
 use Rattle.calendar.specs.declared.ValueCheck.{ValueCheck}
 use Rattle.calendar.specs.declared.RuleCheck.{RuleCheck}
 use Rattle.calendar.specs.declared.Fault.{Fault}
+use Rattle.engine.specs.Answers.{Outcome, refusal}
 
 -- a row: its number, the line at fault (0 for none), and whether its condition holds of what was handed in
 pub record Row : Type 0 where
@@ -26,6 +29,11 @@ row n i t = record { number = n; line = i; applies = t }
 unfoldable pub lowest : List Row → Fault
 lowest [] = Fault.None
 lowest (r ∷ rs) = elim (r .applies) [ true ↦ Fault.At (r .number) (r .line) | false ↦ lowest rs ]
+
+-- the lowest refusal that applies, else the answer
+unfoldable pub unlessRefused : Fault → Outcome → Outcome
+unlessRefused Fault.None o = o
+unlessRefused (Fault.At n i) o = refusal n
 
 -- row k applies, whether or not a lower one does
 pub record RowApplies (rows : List Row) (k : ℕ) : Type 0 where
@@ -43,6 +51,12 @@ pub record Lowest (rows : List Row) (k : ℕ) : Type 0 where
 pub data Rising : ℕ → List Row → Type 0 where
   ends : {n : ℕ} → Rising n []
   goes-on : {n : ℕ} {r : Row} {rs : List Row} → n < r .number → Rising (r .number) rs → Rising n (r ∷ rs)
+
+-- ---- the rows of sizes
+
+-- 2: calendar longer than 65,536 bytes; 3: work buffer shorter than the calendar
+unfoldable pub sizeRows : List ℕ → List ℕ → List Row → List Row
+sizeRows cal work rows = row 2 0 (ltb 65536 (length cal)) ∷ row 3 0 (ltb (length work) (length cal)) ∷ rows
 
 -- ---- the rows of a calendar, from its unfolded bytes
 

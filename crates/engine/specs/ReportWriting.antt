@@ -5,8 +5,7 @@ use mathlib.Core.List.{List, [], _∷_}
 use lib.Dec.{ltb}
 use lib.ListN.{length}
 use Rattle.engine.specs.Answers.{Outcome, report, outcomeOf}
-use Rattle.engine.specs.Refusals.{row, lowest}
-use Rattle.engine.specs.Matching.{unlessRefused}
+use Rattle.engine.specs.Refusals.{row, lowest, unlessRefused}
 use Rattle.engine.specs.Reporting.{outputAfter}
 use Rattle.engine.specs.declared.Answer.{Answer}
 

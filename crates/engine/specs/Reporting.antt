@@ -14,8 +14,7 @@ use Rattle.pieces.specs.Covered.{covered}
 use Rattle.pieces.specs.Pieces.{busyPieces}
 use Rattle.report.specs.Bytes.{Report, reportBytes}
 use Rattle.engine.specs.Answers.{Outcome, verdict, report, refusal, outcomeOf, workAfter}
-use Rattle.engine.specs.Refusals.{Row, row, lowest, calendarRows}
-use Rattle.engine.specs.Matching.{sizeRows, unlessRefused}
+use Rattle.engine.specs.Refusals.{Row, row, lowest, unlessRefused, sizeRows, calendarRows}
 use Rattle.engine.specs.Offsets.{offsetGood, contextOf}
 use Rattle.engine.specs.declared.Answer.{Answer}
 

@@ -13,8 +13,8 @@ use Rattle.query.specs.declared.Sections.{Sections}
 use Rattle.query.specs.declared.SectionsRead.{SectionsRead}
 use Rattle.filter.specs.Tests.{queryHolds}
 use Rattle.engine.specs.Answers.{Outcome, verdict, outcomeOf, workAfter}
-use Rattle.engine.specs.Refusals.{lowest, calendarRows}
-use Rattle.engine.specs.Matching.{sizeRows, queryRows, unlessRefused}
+use Rattle.engine.specs.Refusals.{lowest, unlessRefused, sizeRows, calendarRows}
+use Rattle.engine.specs.Matching.{queryRows}
 use Rattle.engine.specs.declared.Answer.{Answer}
 use Rattle.engine.specs.declared.stages.Reading.{Reading}
 

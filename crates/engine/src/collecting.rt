@@ -8,9 +8,8 @@ ghost use mathlib.Core.Path.{_≡_};
 ghost use mathlib.Core.List.{List};
 ghost use Prim.Native.Nat.{ℕ, _*_, _≤_, _<_};
 ghost use lib.ListN.{length};
-ghost use Rattle.calendar.specs.Meaning.{entriesOf, componentsOf};
 ghost use Rattle.engine.specs.Collecting.{Collects};
-ghost use Rattle.engine.specs.CollectStages.{callRead, Refuses, Typed, Tabled, pieceRows, periodsIn, Gathered, laterRows, laterPeriods};
+ghost use Rattle.engine.specs.CollectStages.{callRead, Refuses, Typed, ContentsTabled, Gathered, laterRows, laterPeriods};
 
 // The lowest refusal or none, and the periods of each busy type.
 pub struct Collected {
@@ -57,33 +56,40 @@ fn tables_of(column: &[u32], n: usize) -> Collected
     }
 }
 
-// Refusal 11, then the tables: the pieces are noted in the column.
+// Refusals 8 to 11, then the tables: the pieces are noted in the column.
 fn collect_noted(column: &mut [u32], s: &[u8], c: Context, start: u64, end: u64) -> Collected
     requires { ⌜ length (now column) ≡ 1539 ⌝ }
     requires { ⌜ c .shift ≤ 100800 ⌝ }
     requires { ⌜ start < end ⌝ }
     requires { ⌜ end ≤ 4102444799 ⌝ }
-    ensures { λ r. ⌜ Tabled (pieceRows start end (entriesOf c (componentsOf (now (s .entry))))) (periodsIn start end (entriesOf c (componentsOf (now (s .entry))))) r ⌝ }
+    ensures { λ r. ⌜ ContentsTabled c (now (s .entry)) start end r ⌝ }
 {
-    let n = pieces::walk::note_calendar(column, s, c, start, end);
-    if 512 < n {
-        return refused(Fault::At(11, 0));
+    let noted = pieces::walk::note_contents(column, s, c, start, end);
+    let f = noted.fault;
+    let n = noted.count;
+    match f {
+        Fault::At(k, line) => refused(Fault::At(k, line)),
+        Fault::None => {
+            if 512 < n {
+                return refused(Fault::At(11, 0));
+            }
+            tables_of(column, n)
+        }
     }
-    tables_of(column, n)
 }
 
 // The same with a column of its own: room for 513 pieces, three numbers each.
-fn collect_pieces(s: &[u8], c: Context, start: u64, end: u64) -> Collected
+fn collect_contents(s: &[u8], c: Context, start: u64, end: u64) -> Collected
     requires { ⌜ c .shift ≤ 100800 ⌝ }
     requires { ⌜ start < end ⌝ }
     requires { ⌜ end ≤ 4102444799 ⌝ }
-    ensures { λ r. ⌜ Tabled (pieceRows start end (entriesOf c (componentsOf (now (s .entry))))) (periodsIn start end (entriesOf c (componentsOf (now (s .entry))))) r ⌝ }
+    ensures { λ r. ⌜ ContentsTabled c (now (s .entry)) start end r ⌝ }
 {
     let mut column = [0u32; 1539];
     collect_noted(&mut column, s, c, start, end)
 }
 
-// Refusals 6 to 11, then the tables.
+// Unfolds the calendar to the front of the work buffer; then refusals 6 to 11, then the tables.
 fn collect_calendar(work: &mut [u8], cal: &[u8], c: Context, start: u64, end: u64) -> Collected
     requires { ⌜ length (now cal) ≤ length (now work) ⌝ }
     requires { ⌜ c .shift ≤ 100800 ⌝ }
@@ -91,12 +97,11 @@ fn collect_calendar(work: &mut [u8], cal: &[u8], c: Context, start: u64, end: u6
     requires { ⌜ end ≤ 4102444799 ⌝ }
     ensures { λ r. ⌜ Gathered (laterRows c (now (cal .entry)) start end) (laterPeriods c (now (cal .entry)) start end) (now (cal .entry)) (now (work .entry)) r (now (work .exit)) ⌝ }
 {
-    let read = stages::read_calendar(work, cal, c);
-    let n = read.length;
-    let f = read.fault;
+    let n = text::unfold_into(work, cal);
+    let f = calendar::faults::check_structure(&work[..n]);
     match f {
         Fault::At(k, line) => refused(Fault::At(k, line)),
-        Fault::None => collect_pieces(&work[..n], c, start, end),
+        Fault::None => collect_contents(&work[..n], c, start, end),
     }
 }
 

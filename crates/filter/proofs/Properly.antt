@@ -40,13 +40,19 @@ module _ (s : List ℕ) (q : Sections) where
           ap (λ (t : Bool). t && textHolds s q (r .text) (r .collation) (r .flag) (valueOf l) && parametersHold s q i (lineOf l))
           (z ∙ ap (λ (u : List ℕ). sameName u n) x ∙ ap (sameName (nameOf l)) y)
 
-      pub line-named : {v : List ℕ} {b c : Bool} → a ≡ true → v ≡ valueOf l → b ≡ textHolds s q (r .text) (r .collation) (r .flag) v
-          → c ≡ parametersHold s q i (lineOf l) → (b && c) ≡ lineHolds s q i r (lineOf l)
-      line-named {c = c} e u w k =
-          ap (λ (t : Bool). t && c) (w ∙ ap (textHolds s q (r .text) (r .collation) (r .flag)) u)
-          ∙ ap (λ (t : Bool). textHolds s q (r .text) (r .collation) (r .flag) (valueOf l) && t) k
-          ∙ ap (λ (t : Bool). t && textHolds s q (r .text) (r .collation) (r .flag) (valueOf l) && parametersHold s q i (lineOf l)) (sym e)
-          ∙ line-as
+      module _ {v : List ℕ} {b : Bool} (e : a ≡ true) (u : v ≡ valueOf l) (w : b ≡ textHolds s q (r .text) (r .collation) (r .flag) v) where
+        text-as : (b && parametersHold s q i (lineOf l)) ≡ lineHolds s q i r (lineOf l)
+        text-as =
+            ap (λ (t : Bool). t && parametersHold s q i (lineOf l)) (w ∙ ap (textHolds s q (r .text) (r .collation) (r .flag)) u)
+            ∙ ap (λ (t : Bool). t && textHolds s q (r .text) (r .collation) (r .flag) (valueOf l) && parametersHold s q i (lineOf l)) (sym e)
+            ∙ line-as
+
+        -- its value holds up, and its parameters decide
+        pub line-valued : {c : Bool} → b ≡ true → c ≡ parametersHold s q i (lineOf l) → c ≡ lineHolds s q i r (lineOf l)
+        line-valued h k = k ∙ ap (λ (t : Bool). t && parametersHold s q i (lineOf l)) (sym h) ∙ text-as
+
+        pub line-failed : b ≡ false → false ≡ lineHolds s q i r (lineOf l)
+        line-failed h = ap (λ (t : Bool). t && parametersHold s q i (lineOf l)) (sym h) ∙ text-as
 
       pub line-other : a ≡ false → false ≡ lineHolds s q i r (lineOf l)
       line-other e =

@@ -25,7 +25,7 @@ fn some_named(name: &[u8], s: &[u8], from: usize) -> bool
     loop {
         match items::next_item(s, at) {
             Item::Property(e, next) => {
-                if ascii::same_name(read::name(&s[at..e]), name) {
+                if read::is_called(&s[at..e], name) {
                     return true;
                 }
                 at = next;
@@ -47,12 +47,14 @@ fn line_holds(paper: &[u8], q: Sections, i: usize, r: PropertyRecord, line: &[u8
     requires { ⌜ r .text ≤ q .texts .count ⌝ }
     ensures { λ t. ⌜ t ≡ lineHolds (now (paper .entry)) q i r (lineOf (now (line .entry))) ⌝ }
 {
-    if ascii::same_name(read::name(line), fields::text_of(paper, q, r.name)) {
-        texts::text_holds(paper, q, r.text, r.collation, r.flag, read::value(line))
-            & parameters::parameters_hold(paper, q, i, line)
-    } else {
-        false
+    if !read::is_called(line, fields::text_of(paper, q, r.name)) {
+        return false;
     }
+    let v = read::value(line);
+    if texts::text_holds(paper, q, r.text, r.collation, r.flag, v) {
+        return parameters::parameters_hold(paper, q, i, line);
+    }
+    false
 }
 
 // Does some line of the component hold?

@@ -18,11 +18,11 @@ use Rattle.line.specs.Pieces.{quotedAfter, cutsAt, firstOutside, nextPla
 -- ---- one byte
 
 module _ (g : Bool) (sep : ℕ) (q : Bool) (b : ℕ) (s : List ℕ) where
-  firstOutside-cut : cutsAt sep q b ≡ true → firstOutside g sep q (b ∷ s) ≡ 0
+  pub firstOutside-cut : cutsAt sep q b ≡ true → firstOutside g sep q (b ∷ s) ≡ 0
   unfolding firstOutside
   firstOutside-cut e = rw (e, firstOutside)
 
-  firstOutside-keep : cutsAt sep q b ≡ false → firstOutside g sep q (b ∷ s) ≡ suc (firstOutside g sep (quotedAfter g q b) s)
+  pub firstOutside-keep : cutsAt sep q b ≡ false → firstOutside g sep q (b ∷ s) ≡ suc (firstOutside g sep (quotedAfter g q b) s)
   unfolding firstOutside
   firstOutside-keep e = rw (e, firstOutside)
 
@@ -39,7 +39,7 @@ cuts-outside : (sep : ℕ) (q : Bool) (b : ℕ) → cutsAt sep q b ≡ true → 
 cuts-outside sep true b e = clash (and-right (eqb b sep) false e) refl
 cuts-outside sep false b e = refl
 
-firstOutside-end : (g : Bool) (sep : ℕ) (q : Bool) → firstOutside g sep q [] ≡ 0
+pub firstOutside-end : (g : Bool) (sep : ℕ) (q : Bool) → firstOutside g sep q [] ≡ 0
 unfolding firstOutside
 firstOutside-end g sep q = refl
 

@@ -1,17 +1,27 @@
 -- The total reading of a line agrees with the grammar: what the scanner takes is read as the one line that it is.
-use Prim.Native.Nat.{ℕ}
+-- And laws of its name: where it ends, what its first byte tells, and what a colon right behind it does.
+use Prim.Native.Nat.{ℕ, zero, suc, _+_, _≤_, _<_}
 use mathlib.Core.Path.{_≡_, refl, sym, ap, _∙_, subst}
-use mathlib.Core.Bool.{true, false}
+use mathlib.Core.Bool.{Bool, true, false, cond, not, _&&_, _||_, Bool·beq}
 use mathlib.Core.List.{List, [], _∷_, _++_, append-assoc, append-nil, map}
 use mathlib.Core.Logic.{_↔_}
-use lib.Dec.{eqb}
-use Rattle.ascii.specs.Bytes.{isNameByte, isLetter, isDigit}
-use Rattle.ascii.specs.Names.{isName}
+use mathlib.Core.Logic.{_⊎_, inl, inr, ⊎-elim}
+use native.Mathlib.Omega.{arith}
+use lib.Dec.{eqb, ltb}
+use lib.ListN.{length, take, drop, getD}
+use lib.Seq.{length-take-le, take-take, take-all, getD-take}
+use borrow.Author.Tests.{eqb-true, ltb-true, ltb-false}
+use Rattle.ascii.specs.Bytes.{isNameByte, isLetter, isDigit, upper}
+use Rattle.ascii.specs.Names.{isName, sameName}
+use Rattle.ascii.proofs.Bools.{and-left, and-right, and-both}
+use Rattle.ascii.proofs.Names.{sameName-first}
+use Rattle.ascii.proofs.Lists.{drop-next, drop-end}
 use Rattle.line.specs.Grammar.{Parameter, ContentLine, contentLine, parameter, isQuotable, isUnquoted, ParameterValue, ParameterValues, Parameters, LineGrammar, quoted, unquoted, one, comma, none, semicolon, colon}
 use Rattle.line.specs.Scanner.{isWellFormed}
-use Rattle.line.specs.Pieces.{before, pieces, quotesOff}
-use Rattle.line.specs.Reading.{headOf, valueOf, nameOf, parameterTexts, valuesOf, parameterName, parameterOf, lineOf}
-use Rattle.line.proofs.Pieces.{closed, closed-append, closed-class, closed-quoted, pieces-closed, pieces-one, before-closed, before-alone, after-closed, quotesOff-quoted, quotesOff-class}
+use Rattle.line.specs.Pieces.{quotedAfter, cutsAt, firstOutside, before, after, pieces, quotesOff}
+use Rattle.line.specs.Reading.{headOf, valueOf, nameOf, parameterTexts, valuesOf, parameterName, parameterOf, lineOf, Plain}
+use Rattle.line.proofs.Pieces.{firstOutside-cut, firstOutside-keep, firstOutside-end, firstOutside-le, nextPlace-first, closed, closed-append, closed-class, closed-quoted, pieces-closed, pieces-one, before-closed, before-alone, after-closed, quotesOff-quoted, quotesOff-class}
+use Rattle.line.proofs.Parameters.{parameters-end, parameters-all}
 use Rattle.line.proofs.Scanner.{every-of-name, grammar-wellFormed, wellFormed-grammar}
 
 -- ---- the phrases hold no separator of an outer phrase outside quotes
@@ -128,3 +138,175 @@ line-iff l x = (
   λ h. let (y, g) = wellFormed-grammar l (h .0) in subst (λ (z : ContentLine). LineGrammar l z) (sym (grammar-read g) ∙ h .1) g,
   λ g. (grammar-wellFormed g, grammar-read g),
 )
+
+-- ---- the first byte of a name
+
+take-twice-first : (j k : ℕ) (l : List ℕ) → (take j (take k l) ≡ []) ⊎ (getD (take j (take k l)) 0 0 ≡ getD l 0 0)
+take-twice-first zero k l = inl refl
+take-twice-first (suc j) zero l = inl refl
+take-twice-first (suc j) (suc k) [] = inl refl
+take-twice-first (suc j) (suc k) (b ∷ l) = inr refl
+
+-- the name of a line is empty or begins as the line does
+pub name-first : (l : List ℕ) → (nameOf l ≡ []) ⊎ (getD (nameOf l) 0 0 ≡ getD l 0 0)
+unfolding nameOf headOf before
+name-first l =
+    let k : ℕ = firstOutside true 58 false l in
+    take-twice-first (firstOutside true 59 false (take k l)) k l
+
+-- so a line that begins otherwise has another name
+pub other-first : (l n : List ℕ) → 0 < length n → (upper (getD l 0 0) ≡ upper (getD n 0 0) → ⊥) → sameName (nameOf l) n ≡ false
+unfolding sameName
+other-first l [] q h = absurd (omega arith)
+other-first l (b ∷ n) q h =
+    ⊎-elim
+    (λ e. ap (λ (m : List ℕ). sameName m (b ∷ n)) e)
+    (λ e. sameName-first (nameOf l) (b ∷ n) (λ z. h (ap upper (sym e) ∙ z)))
+    (name-first l)
+
+-- ---- the end of a name: one search for the colon and the semicolon
+
+-- how many bytes stand before the first semicolon of the bytes before the colon
+unfoldable pub nameEnd : Bool → List ℕ → ℕ
+nameEnd q s = firstOutside true 59 q (take (firstOutside true 58 q s) s)
+
+-- is b a colon or a semicolon, outside quotes?
+abbrev pub endsName : Bool → ℕ → Bool
+endsName q b = (eqb b 58 || eqb b 59) && not q
+
+-- a quote opens or closes, as the code tests it
+flipped : (q t : Bool) → not (Bool·beq q t) ≡ cond t (not q) q
+flipped true true = refl
+flipped true false = refl
+flipped false true = refl
+flipped false false = refl
+
+-- where `x or y` fails beside z, each of the two fails beside it
+neither-first : (x y z : Bool) → ((x || y) && z) ≡ false → (x && z) ≡ false
+neither-first true y z h = h
+neither-first false y z h = refl
+
+neither-second : (x y z : Bool) → ((x || y) && z) ≡ false → (y && z) ≡ false
+neither-second true true z h = h
+neither-second true false z h = refl
+neither-second false y z h = h
+
+nameEnd-none : (q : Bool) → nameEnd q [] ≡ 0
+unfolding nameEnd
+nameEnd-none q = rw (firstOutside-end true 58 q) (firstOutside-end true 59 q)
+
+module _ (q : Bool) (b : ℕ) (s : List ℕ) where
+  nameEnd-colon : cutsAt 58 q b ≡ true → nameEnd q (b ∷ s) ≡ 0
+  unfolding nameEnd
+  nameEnd-colon e = rw (firstOutside-cut true 58 q b s e) (firstOutside-end true 59 q)
+
+  nameEnd-semicolon : cutsAt 58 q b ≡ false → cutsAt 59 q b ≡ true → nameEnd q (b ∷ s) ≡ 0
+  unfolding nameEnd
+  nameEnd-semicolon e f =
+      rw (firstOutside-keep true 58 q b s e) (firstOutside-cut true 59 q b (take (firstOutside true 58 (quotedAfter true q b) s) s) f)
+
+  -- at either of the two the name ends
+  nameEnd-cut : endsName q b ≡ true → nameEnd q (b ∷ s) ≡ 0
+  nameEnd-cut h = go (eqb b 58) refl
+    where
+      go : (t : Bool) → eqb b 58 ≡ t → nameEnd q (b ∷ s) ≡ 0
+      go true e = nameEnd-colon (and-both e (and-right (eqb b 58 || eqb b 59) (not q) h))
+      go false e = nameEnd-semicolon (ap (λ (t : Bool). t && not q) e) (rw e at h)
+
+  -- at any other byte it goes on
+  nameEnd-keep : endsName q b ≡ false → nameEnd q (b ∷ s) ≡ suc (nameEnd (quotedAfter true q b) s)
+  unfolding nameEnd
+  nameEnd-keep h =
+      rw
+      (firstOutside-keep true 58 q b s (neither-first (eqb b 58) (eqb b 59) (not q) h))
+      (firstOutside-keep
+      true
+      59
+      q
+      b
+      (take (firstOutside true 58 (quotedAfter true q b) s) s)
+      (neither-second (eqb b 58) (eqb b 59) (not q) h))
+
+-- the loop, at place i
+module _ (q : Bool) (s : List ℕ) (i : ℕ) where
+  pub name-here : i < length s → endsName q (getD s i 0) ≡ true → i + nameEnd q (drop i s) ≡ i
+  name-here h e = rw (drop-next s i h, nameEnd-cut q (getD s i 0) (drop (i + 1) s) e) (omega arith)
+
+  pub name-next : i < length s → endsName q (getD s i 0) ≡ false
+      → (i + 1) + nameEnd (not (Bool·beq q (eqb (getD s i 0) 34))) (drop (i + 1) s) ≡ i + nameEnd q (drop i s)
+  name-next h e = rw (flipped q (eqb (getD s i 0) 34), drop-next s i h, nameEnd-keep q (getD s i 0) (drop (i + 1) s) e) (omega arith)
+
+  pub name-end : length s ≤ i → i + nameEnd q (drop i s) ≡ i
+  name-end h = rw (drop-end s i h, nameEnd-none q) (omega arith)
+
+-- the bytes up to there are the name
+name-is : (l : List ℕ) → take (nameEnd false l) l ≡ nameOf l
+unfolding nameEnd nameOf headOf before
+name-is l =
+    let k : ℕ = firstOutside true 58 false l in
+    let h : length (take k l) ≡ k = length-take-le k l (firstOutside-le true 58 false l) in
+    let a : firstOutside true 59 false (take k l) ≤ length (take k l) = firstOutside-le true 59 false (take k l) in
+    sym (take-take (firstOutside true 59 false (take k l)) k l (omega arith))
+
+pub name-found : (l : List ℕ) (i : ℕ) → i ≡ nameEnd false l → take i l ≡ nameOf l
+name-found l i e = ap (λ (n : ℕ). take n l) e ∙ name-is l
+
+-- where it ends with the line, the line is the name
+pub name-whole : (l : List ℕ) (i : ℕ) → length l ≤ i → i ≡ nameEnd false l → l ≡ nameOf l
+name-whole l i h e = sym (take-all i l h) ∙ name-found l i e
+
+-- ---- a colon right behind the name
+
+-- where a search stops inside the list, the separator stands
+firstOutside-at : (g : Bool) (sep : ℕ) (q : Bool) (s : List ℕ) → firstOutside g sep q s < length s → getD s (firstOutside g sep q s) 0 ≡ sep
+unfolding firstOutside
+firstOutside-at g sep q [] h = absurd (omega arith)
+firstOutside-at g sep q (b ∷ s) h = go (cutsAt sep q b) refl (firstOutside-at g sep (quotedAfter g q b) s) h
+  where
+    go : (t : Bool) → cutsAt sep q b ≡ t
+        → (firstOutside g sep (quotedAfter g q b) s < length s → getD s (firstOutside g sep (quotedAfter g q b) s) 0 ≡ sep)
+        → elim t [ true ↦ 0 | false ↦ suc (firstOutside g sep (quotedAfter g q b) s) ] < suc (length s)
+        → getD (b ∷ s) (elim t [ true ↦ 0 | false ↦ suc (firstOutside g sep (quotedAfter g q b) s) ]) 0 ≡ sep
+    go true e i k = eqb-true b sep (and-left (eqb b sep) _ e)
+    go false e i k = i (omega arith)
+
+-- it is the line's own: no semicolon ended the name, so the name is all that stands before it
+pub plain-line : (l : List ℕ) (n : ℕ) → n ≡ length (nameOf l) → n < length l → getD l n 0 ≡ 58 → Plain l n
+unfolding nameOf headOf valueOf before after
+plain-line l n e m c = go (ltb j (length h)) refl
+  where
+    k : ℕ
+    k = firstOutside true 58 false l
+
+    h : List ℕ
+    h = take k l
+
+    j : ℕ
+    j = firstOutside true 59 false h
+
+    h-length : length h ≡ k
+    h-length = length-take-le k l (firstOutside-le true 58 false l)
+
+    n-is : n ≡ j
+    n-is = e ∙ length-take-le j h (firstOutside-le true 59 false h)
+
+    go : (t : Bool) → ltb j (length h) ≡ t → Plain l n
+    go true q =
+        let i : j < length h = ltb-true _ _ q in
+        let z : _≡_ {A = ℕ} 59 58 =
+        sym (firstOutside-at true 59 false h i)
+        ∙ getD-take k l j 0 (subst (λ (a : ℕ). j < a) h-length i)
+        ∙ ap (λ (a : ℕ). getD l a 0) (sym n-is)
+        ∙ c
+        in
+        absurd (omega arith)
+    go false q =
+        let i : length h ≤ j = ltb-false _ _ q in
+        let n-first : k ≡ n = omega (arith, i, h-length, n-is, firstOutside-le true 59 false h) in
+        record {
+          inside = m;
+          no-parameters =
+              sym (parameters-all l h refl)
+              ∙ parameters-end h _ (subst (λ (a : ℕ). length h ≤ a) (sym (nextPlace-first true 59 h)) i);
+          value-behind = ap (λ (a : ℕ). drop (a + 1) l) n-first;
+        }

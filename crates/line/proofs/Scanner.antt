@@ -1,12 +1,13 @@
 -- The scanner holds exactly of the lines of the grammar. One way, each phrase of the grammar leads the scanner from state to state;
 -- the other, what the scanner accepts from a state is what the grammar allows there, byte by byte.
-use Prim.Native.Nat.{ℕ, _+_, _≤_, _<_}
+use Prim.Native.Nat.{ℕ, zero, suc, _+_, _-_, _≤_, _<_}
 use mathlib.Core.Path.{_≡_, refl, sym, ap, _∙_, subst}
 use mathlib.Core.Bool.{Bool, true, false, cond, not, _&&_, _||_}
 use mathlib.Core.List.{List, [], _∷_, _++_, append-assoc, append-nil}
-use lib.Dec.{eqb, leb}
+use lib.Dec.{eqb, leb, ltb}
 use lib.ListN.{length, drop, getD}
-use borrow.Author.Tests.{eqb-true, leb-true, le-leb, lt-leb}
+use native.Mathlib.Omega.{arith}
+use borrow.Author.Tests.{eqb-true, leb-true, le-leb, lt-leb, lt-ltb, le-ltb, ne-eqb, not-false, ltb-true, ltb-false}
 use Rattle.ascii.proofs.Lists.{drop-next, drop-end}
 use Rattle.ascii.specs.Bytes.{isNameByte, isControl, isLetter, isDigit}
 use Rattle.ascii.specs.Names.{isName, every}
@@ -38,11 +39,11 @@ name-stays : (b : ℕ) → isNameByte b ≡ true → step Name b ≡ Name
 unfolding step
 name-stays b e = rw e
 
-parameter-name-stays : (b : ℕ) → isNameByte b ≡ true → step ParameterName b ≡ ParameterName
+pub parameter-name-stays : (b : ℕ) → isNameByte b ≡ true → step ParameterName b ≡ ParameterName
 unfolding step
 parameter-name-stays b e = rw e
 
-quoted-stays : (b : ℕ) → isQuotable b ≡ true → step Quoted b ≡ Quoted
+pub quoted-stays : (b : ℕ) → isQuotable b ≡ true → step Quoted b ≡ Quoted
 unfolding step isQuotable
 quoted-stays b e = let h = or-none (eqb b 34) (isControl b) e in rw (h .0, h .1)
 
@@ -65,11 +66,11 @@ unquoted-apart b e =
     let k = or-none (eqb b 34) (eqb b 59) (ap not (j .0)) in
     (k .0, k .1, j .1, i .1, h .1)
 
-unquoted-starts : (b : ℕ) → isUnquoted b ≡ true → step ValueStart b ≡ Unquoted
+pub unquoted-starts : (b : ℕ) → isUnquoted b ≡ true → step ValueStart b ≡ Unquoted
 unfolding step afterValue
 unquoted-starts b e = let h = unquoted-apart b e in rw (h .0, h .3, h .1, h .2, h .4)
 
-unquoted-stays : (b : ℕ) → isUnquoted b ≡ true → step Unquoted b ≡ Unquoted
+pub unquoted-stays : (b : ℕ) → isUnquoted b ≡ true → step Unquoted b ≡ Unquoted
 unfolding step afterValue
 unquoted-stays b e = let h = unquoted-apart b e in rw (h .0, h .3, h .1, h .2, h .4)
 
@@ -97,11 +98,11 @@ ends-quoted at-comma = refl
 ends-quoted at-semicolon = refl
 ends-quoted at-colon = refl
 
-quote-opens : step ValueStart 34 ≡ Quoted
+pub quote-opens : step ValueStart 34 ≡ Quoted
 unfolding step
 quote-opens = refl
 
-quote-closes : step Quoted 34 ≡ AfterQuoted
+pub quote-closes : step Quoted 34 ≡ AfterQuoted
 unfolding step
 quote-closes = refl
 
@@ -154,7 +155,7 @@ colon-ends : step Name 58 ≡ Value
 unfolding step isNameByte isLetter isDigit
 colon-ends = refl
 
-equals-ends : step ParameterName 61 ≡ ValueStart
+pub equals-ends : step ParameterName 61 ≡ ValueStart
 unfolding step isNameByte isLetter isDigit
 equals-ends = refl
 
@@ -441,7 +442,7 @@ pub grammar-wellFormed : {l : List ℕ} {x : ContentLine} → LineGrammar l x �
 unfolding isWellFormed
 grammar-wellFormed g = and-both (le-leb _ _ (line-short g)) (scan-line g)
 
--- ---- the loop of the code
+-- ---- the loops of the code
 
 pub wellFormed-long : (l : List ℕ) → 1024 < length l → isWellFormed l ≡ false
 unfolding isWellFormed
@@ -458,3 +459,194 @@ scan-next q l i h = rw (drop-next l i h)
 pub scan-end : (q : State) (l : List ℕ) (i : ℕ) → length l ≤ i → scan q (drop i l) ≡ isEnding q
 unfolding scan
 scan-end q l i h = rw (drop-end l i h)
+
+-- the scanner decides in state p from i on as it does in state q from a on
+abbrev pub Leads : List ℕ → State → ℕ → State → ℕ → Type 0
+Leads l q a p i = (a ≤ i) × (scan p (drop i l) ≡ scan q (drop a l))
+
+pub leads-none : (l : List ℕ) (q : State) (a : ℕ) → Leads l q a q a
+leads-none l q a = (omega arith, refl)
+
+pub leads-on : (l : List ℕ) (q p s : State) (a i k : ℕ) → Leads l q a p i → Leads l p i s k → Leads l q a s k
+leads-on l q p s a i k v w = (omega (arith, v .0, w .0), w .1 ∙ v .1)
+
+pub leads-in : (l : List ℕ) {p q : State} (s : State) (a i : ℕ) → p ≡ q → Leads l q a s i → Leads l p a s i
+leads-in l s a i e w = subst (λ (x : State). Leads l x a s i) (sym e) w
+
+-- one step
+leads-step : (l : List ℕ) (q p : State) (a : ℕ) → a < length l → step q (getD l a 0) ≡ p → Leads l q a p (a + 1)
+leads-step l q p a h e = (omega arith, ap (λ (s : State). scan s (drop (a + 1) l)) (sym e) ∙ scan-next q l a h)
+
+-- one byte more of a class f that leaves the state as it is
+pub leads-next : (q : State) (f : ℕ → Bool) → ((b : ℕ) → f b ≡ true → step q b ≡ q) → (l : List ℕ) (a i : ℕ) (t : Bool) → i < length l
+    → t ≡ f (getD l i 0) → not t ≡ false → Leads l q a q i → Leads l q a q (i + 1)
+leads-next q f k l a i t h e p w = leads-on l q q q a i (i + 1) w (leads-step l q q i h (k _ (sym e ∙ not-false t p)))
+
+-- the step that a byte known by its number makes
+pub leads-byte : (l : List ℕ) (q p : State) (a n : ℕ) → a < length l → getD l a 0 ≡ n → step q n ≡ p → Leads l q a p (a + 1)
+leads-byte l q p a n h e k = leads-step l q p a h (ap (λ (b : ℕ). step q b) e ∙ k)
+
+-- one step, and what it leads to
+pub leads-after : (l : List ℕ) (q p s : State) (a k : ℕ) → a < length l → p ≡ step q (getD l a 0) → Leads l p (a + 1) s k → Leads l q a s k
+leads-after l q p s a k h e w = leads-on l q p s a (a + 1) k (leads-step l q p a h (sym e)) w
+
+-- a name byte, and the name bytes behind it
+pub leads-name : (l : List ℕ) (a i : ℕ) (t : Bool) → a < length l → t ≡ isNameByte (getD l a 0) → not t ≡ false
+    → Leads l ParameterName (a + 1) ParameterName i → Leads l ParameterStart a ParameterName i
+leads-name l a i t h e p w = leads-after l ParameterStart ParameterName ParameterName a i h (sym (starts-parameter-name _ (sym e ∙ not-false t p))) w
+
+-- of the bytes above the separators, 127 alone is a control
+high-control : (b : ℕ) → 34 < b → isControl b ≡ eqb b 127
+unfolding isControl
+high-control b h = ap (λ (t : Bool). t && not (eqb b 9) || eqb b 127) (le-ltb b 32 (omega arith))
+
+pub high-quotable : (b : ℕ) → 34 < b → not (eqb b 127) ≡ isQuotable b
+unfolding isQuotable
+high-quotable b h = sym (rw (ne-eqb b 34 (λ e. omega arith), high-control b h))
+
+pub high-unquoted : (b : ℕ) → 59 < b → not (eqb b 127) ≡ isUnquoted b
+unfolding isUnquoted
+high-unquoted b h =
+    sym (rw (ne-eqb b 34 (λ e. omega arith), ne-eqb b 59 (λ e. omega arith), ne-eqb b 58 (λ e. omega arith), ne-eqb b 44 (λ e. omega arith), high-control b (omega arith)))
+
+-- the state after i name bytes
+abbrev pub named : ℕ → State
+named i = cond (ltb 0 i) Name Start
+
+named-step : (t : Bool) (b : ℕ) → isNameByte b ≡ true → step (cond t Name Start) b ≡ Name
+named-step true b e = name-stays b e
+named-step false b e = starts-name b e
+
+pub named-next : (l : List ℕ) (i : ℕ) → i < length l → isNameByte (getD l i 0) ≡ true
+    → scan (named (i + 1)) (drop (i + 1) l) ≡ scan (named i) (drop i l)
+named-next l i h e =
+    ap (λ (t : Bool). scan (cond t Name Start) (drop (i + 1) l)) (lt-ltb 0 (i + 1) (omega arith))
+    ∙ ap (λ (q : State). scan q (drop (i + 1) l)) (sym (named-step (ltb 0 i) _ e))
+    ∙ scan-next (named i) l i h
+
+-- where no name byte follows, there is a name if there was a byte
+name-or-none : (t : Bool) (s : List ℕ) → scan Start s ≡ false → (t && scan Name s) ≡ scan (cond t Name Start) s
+name-or-none true s e = refl
+name-or-none false s e = sym e
+
+no-name : (b : ℕ) → isNameByte b ≡ false → step Start b ≡ Wrong
+unfolding step
+no-name b e = rw e
+
+pub named-stop : (l : List ℕ) (i : ℕ) → i < length l → isNameByte (getD l i 0) ≡ false
+    → (ltb 0 i && scan Name (drop i l)) ≡ scan (named i) (drop i l)
+named-stop l i h e =
+    name-or-none (ltb 0 i) (drop i l)
+    (sym (scan-next Start l i h) ∙ ap (λ (q : State). scan q (drop (i + 1) l)) (no-name _ e) ∙ wrong-stays (drop (i + 1) l))
+
+pub named-end : (l : List ℕ) (i : ℕ) → length l ≤ i → (ltb 0 i && scan Name (drop i l)) ≡ scan (named i) (drop i l)
+unfolding isEnding
+named-end l i h = name-or-none (ltb 0 i) (drop i l) (scan-end Start l i h)
+
+-- a line that begins with no name byte, and one whose name has been read
+pub wellFormed-nameless : (l : List ℕ) (n : ℕ) → length l ≤ 1024 → (ltb 0 n && scan Name (drop n l)) ≡ scan Start l → n ≡ 0 → isWellFormed l ≡ false
+wellFormed-nameless l n h e z = sym (wellFormed-start l h) ∙ sym e ∙ ap (λ (k : ℕ). ltb 0 k && scan Name (drop n l)) z
+
+pub wellFormed-named : (l : List ℕ) (n : ℕ) → length l ≤ 1024 → (ltb 0 n && scan Name (drop n l)) ≡ scan Start l → (n ≡ 0 → ⊥)
+    → scan Name (drop n l) ≡ isWellFormed l
+wellFormed-named l n h e k = sym (ap (λ (t : Bool). t && scan Name (drop n l)) (lt-ltb 0 n (omega (arith, k)))) ∙ e ∙ wellFormed-start l h
+
+-- a colon behind the name leads to the value
+pub colon-next : (l : List ℕ) (i : ℕ) → i < length l → getD l i 0 ≡ 58 → scan Value (drop (i + 1) l) ≡ scan Name (drop i l)
+colon-next l i h e =
+    ap (λ (q : State). scan q (drop (i + 1) l)) (sym (ap (λ (b : ℕ). step Name b) e ∙ colon-ends)) ∙ scan-next Name l i h
+
+-- a line may end in its value alone
+ending-value : (q : State) → isEnding q ≡ true → q ≡ Value
+unfolding isEnding
+ending-value Start e = clash e refl
+ending-value Name e = clash e refl
+ending-value ParameterStart e = clash e refl
+ending-value ParameterName e = clash e refl
+ending-value ValueStart e = clash e refl
+ending-value Unquoted e = clash e refl
+ending-value Quoted e = clash e refl
+ending-value AfterQuoted e = clash e refl
+ending-value Value e = refl
+ending-value Wrong e = clash e refl
+
+-- the step into the value
+pub step-ending : (q p : State) (l : List ℕ) (i : ℕ) (t : Bool) → i < length l → p ≡ step q (getD l i 0) → t ≡ isEnding p → t ≡ true
+    → scan Value (drop (i + 1) l) ≡ scan q (drop i l)
+step-ending q p l i t h e k y = ap (λ (s : State). scan s (drop (i + 1) l)) (sym (ending-value p (sym k ∙ y)) ∙ e) ∙ scan-next q l i h
+
+-- the value, where bad says whether a control was read before
+value-step : (bad t : Bool) (s : List ℕ) → (not (bad || t) && scan Value s) ≡ (not bad && scan (cond t Wrong Value) s)
+value-step true t s = refl
+value-step false true s = sym (wrong-stays s)
+value-step false false s = refl
+
+step-value : (b : ℕ) → cond (isControl b) Wrong Value ≡ step Value b
+unfolding step
+step-value b = refl
+
+value-next : (bad : Bool) (l : List ℕ) (i : ℕ) → i < length l
+    → (not (bad || isControl (getD l i 0)) && scan Value (drop (i + 1) l)) ≡ (not bad && scan Value (drop i l))
+value-next bad l i h =
+    value-step bad (isControl (getD l i 0)) (drop (i + 1) l)
+    ∙ ap (λ (q : State). not bad && scan q (drop (i + 1) l)) (step-value (getD l i 0))
+    ∙ ap (λ (t : Bool). not bad && t) (scan-next Value l i h)
+
+-- bad says whether a control stands from a to e
+abbrev pub Between : List ℕ → ℕ → ℕ → Bool → Type 0
+Between l a e bad = (not bad && scan Value (drop e l)) ≡ scan Value (drop a l)
+
+pub between-none : (l : List ℕ) (a : ℕ) → Between l a (a + 0) false
+between-none l a = let e : a + 0 ≡ a = omega arith in ap (λ (k : ℕ). scan Value (drop k l)) e
+
+pub between-next : (l : List ℕ) (a j : ℕ) (bad t : Bool) → a + j < length l → t ≡ isControl (getD l (a + j) 0) → Between l a (a + j) bad
+    → Between l a (a + (j + 1)) (bad || t)
+between-next l a j bad t h e x =
+    let k : a + (j + 1) ≡ a + j + 1 = omega arith in
+    ap (λ (m : ℕ). not (bad || t) && scan Value (drop m l)) k
+    ∙ ap (λ (u : Bool). not (bad || u) && scan Value (drop (a + j + 1) l)) e
+    ∙ value-next bad l (a + j) h
+    ∙ x
+
+pub between-all : (l : List ℕ) (a j n : ℕ) (bad : Bool) → j ≤ n → n ≤ j → Between l a (a + j) bad → Between l a (a + n) bad
+between-all l a j n bad p q x = let e : j ≡ n = omega arith in subst (λ (k : ℕ). Between l a (a + k) bad) e x
+
+pub between-byte : (l : List ℕ) (i : ℕ) (t : Bool) → i < length l → t ≡ isControl (getD l i 0) → Between l i (i + 1) t
+between-byte l i t h e = ap (λ (u : Bool). not u && scan Value (drop (i + 1) l)) e ∙ value-next false l i h
+
+-- bytes without a control are read past; one with a control is the end of it
+pub between-known : (l : List ℕ) (a e : ℕ) (bad t : Bool) → Between l a e bad → bad ≡ t → Between l a e t
+between-known l a e bad t x p = ap (λ (u : Bool). not u && scan Value (drop e l)) (sym p) ∙ x
+
+pub value-end : (l : List ℕ) (i : ℕ) → length l ≤ i → true ≡ scan Value (drop i l)
+unfolding isEnding
+value-end l i h = sym (scan-end Value l i h)
+
+-- bytes that may be a value have no control further on either
+value-after : (l : List ℕ) (i : ℕ) → scan Value (drop i l) ≡ true → scan Value (drop (i + 1) l) ≡ true
+value-after l i x = go (ltb i (length l)) refl
+  where
+    go : (t : Bool) → ltb i (length l) ≡ t → scan Value (drop (i + 1) l) ≡ true
+    go true e = and-right (not (isControl (getD l i 0))) _ (value-next false l i (ltb-true i (length l) e) ∙ x)
+    go false e = sym (value-end l (i + 1) (omega (arith, ltb-false i (length l) e)))
+
+value-later : (l : List ℕ) (a d : ℕ) → scan Value (drop a l) ≡ true → scan Value (drop (a + d) l) ≡ true
+value-later l a zero x = between-none l a ∙ x
+value-later l a (suc d) x =
+    let e : a + suc d ≡ a + d + 1 = omega arith in
+    ap (λ (k : ℕ). scan Value (drop k l)) e ∙ value-after l (a + d) (value-later l a d x)
+
+value-from : (l : List ℕ) (a i : ℕ) → a ≤ i → scan Value (drop a l) ≡ true → true ≡ scan Value (drop i l)
+value-from l a i h x = let e : a + (i - a) ≡ i = omega arith in sym (value-later l a (i - a) x) ∙ ap (λ (k : ℕ). scan Value (drop k l)) e
+
+-- no control at the end of the line, nor in a value that starts there or later
+pub clean-end : (l : List ℕ) (a e i : ℕ) (bad : Bool) → Between l a e bad → bad ≡ false → length l ≤ e → a ≤ i
+    → true ≡ scan Value (drop i l)
+clean-end l a e i bad x p h k = value-from l a i k (sym (between-known l a e bad false x p) ∙ sym (value-end l e h))
+
+-- two parts that are the whole line
+pub clean-parts : (l : List ℕ) (e a f i : ℕ) (p q : Bool) → Between l 0 e p → Between l a f q → not (p || q) ≡ true → a ≤ e → length l ≤ f
+    → true ≡ scan Value (drop i l)
+clean-parts l e a f i p q x y n h k =
+    let z = or-none p q n in
+    value-from l 0 i (omega arith) (sym (between-known l 0 e p false x (z .0)) ∙ sym (clean-end l a f e q y (z .1) k h))

@@ -1,10 +1,11 @@
 -- What a line says, read from its bytes (document 01, Lines): total, on lines that are badly formed too.
 -- On a line of the grammar it is the grammar's reading.
-use Prim.Native.Nat.{ℕ, _+_}
+use Prim.Native.Nat.{ℕ, _+_, _<_}
+use mathlib.Core.Path.{_≡_}
 use mathlib.Core.Bool.{Bool, true, false, cond, _&&_, _||_}
 use mathlib.Core.List.{List, [], _∷_, _++_, map}
 use lib.Dec.{ltb}
-use lib.ListN.{length}
+use lib.ListN.{length, drop}
 use Rattle.ascii.specs.Names.{sameName}
 use Rattle.line.specs.Grammar.{Parameter, ContentLine, parameter, contentLine}
 use Rattle.line.specs.Pieces.{before, after, pieces, quotesOff}
@@ -52,6 +53,12 @@ parameterOf t = parameter (parameterName t) (valuesOf t)
 
 unfoldable pub lineOf : List ℕ → ContentLine
 lineOf l = contentLine (nameOf l) (map parameterOf (parameterTexts l)) (valueOf l)
+
+-- the line's colon stands right behind its name, which is n bytes long
+pub record Plain (l : List ℕ) (n : ℕ) : Type 0 where
+  pub inside : n < length l
+  pub no-parameters : lineOf l .parameters ≡ []
+  pub value-behind : valueOf l ≡ drop (n + 1) l
 
 -- the parameters of a name, in their order
 abbrev pub keepIf : Bool → Parameter → List Parameter → List Parameter

@@ -1,12 +1,14 @@
 // The name, the parameters and the value of a line, read in place.
 // A part that is handed back is a part of the caller's own slice.
 use crate::split;
+ghost use mathlib.Core.Bool.{true};
 ghost use mathlib.Core.Path.{_≡_};
 ghost use mathlib.Core.List.{[]};
 ghost use Prim.Native.Nat.{_<_};
 ghost use lib.ListN.{length, getD};
+ghost use Rattle.ascii.specs.Names.{sameName};
 ghost use Rattle.line.specs.Reading.{headOf, valueOf, nameOf, parameterTexts, parameterName, isNamed, valuesOf};
-ghost use Rattle.line.specs.Reading.{parameterOf, lineOf, usageOf, countedWith, hasParameter, hasTwice, hasList, firstValue};
+ghost use Rattle.line.specs.Reading.{parameterOf, lineOf, Plain, usageOf, countedWith, hasParameter, hasTwice, hasList, firstValue};
 
 // How often a parameter of a name stands on a line, and whether one of them has more than one value.
 pub struct Usage {
@@ -28,10 +30,44 @@ pub fn value(line: &[u8]) -> &[u8]
     split::after(line, 58, true)
 }
 
+// What stands before the first semicolon or colon outside quotes.
 pub fn name(line: &[u8]) -> &[u8]
     ensures { λ r. ⌜ now r ≡ nameOf (now (line .entry)) ⌝ }
 {
-    split::before(head(line), 59, true)
+    let mut quoted = false;
+    let mut i = 0;
+    while i < line.len() {
+        let b = line[i];
+        if ((b == 58) | (b == 59)) & !quoted {
+            return &line[..i];
+        }
+        quoted = quoted != (b == 34);
+        i += 1;
+    }
+    line
+}
+
+// Is this the line's name, ASCII case disregarded? Mostly the first byte tells.
+pub fn is_called(line: &[u8], name: &[u8]) -> bool
+    ensures { λ r. ⌜ r ≡ sameName (nameOf (now (line .entry))) (now (name .entry)) ⌝ }
+{
+    if (0 < line.len()) & (0 < name.len()) {
+        if ascii::upper(line[0]) != ascii::upper(name[0]) {
+            return false;
+        }
+    }
+    ascii::same_name(crate::read::name(line), name)
+}
+
+// Does the colon stand right behind the name, which is n bytes long? Then the line has no parameters, and its value is what is left.
+pub fn is_plain(line: &[u8], n: usize) -> bool
+    requires { ⌜ n ≡ length (nameOf (now line)) ⌝ }
+    ensures { λ r. ⌜ (r ≡ true → Plain (now (line .entry)) n) ⌝ }
+{
+    if line.len() <= n {
+        return false;
+    }
+    line[n] == 58
 }
 
 pub fn parameter_count(line: &[u8]) -> usize

@@ -1,10 +1,13 @@
-// Is a line well formed? One pass, with a state for what was read last.
+// Is a line well formed? One pass: a loop for the name, one for the value, and between them a state for what was read last.
 // The states and steps are those of specs/Scanner.
+ghost use Prim.Native.Nat.{_+_, _≤_, _<_};
 ghost use mathlib.Core.Path.{_≡_};
-ghost use mathlib.Core.Bool.{cond};
-ghost use lib.Dec.{eqb};
+ghost use mathlib.Core.Bool.{cond, not, _&&_};
+ghost use lib.Dec.{eqb, ltb};
+ghost use lib.ListN.{length, drop};
 ghost use Rattle.ascii.specs.Bytes.{isNameByte, isControl};
-ghost use Rattle.line.specs.Scanner.{step, afterValue, isEnding, isWellFormed};
+ghost use Rattle.line.specs.Grammar.{isQuotable, isUnquoted};
+ghost use Rattle.line.specs.Scanner.{step, afterValue, isEnding, scan, isWellFormed};
 
 // What was read last of a line.
 pub enum State {
@@ -20,20 +23,266 @@ pub enum State {
     Wrong,
 }
 
+// Where the scanner stands in a line.
+struct Place {
+    at: usize,
+    state: State,
+}
+
 // At most 1,024 bytes, and the scanner ends in the value.
+// Most lines are a name, a colon and a value: no state is needed for those.
 pub fn is_well_formed(line: &[u8]) -> bool
     ensures { λ r. ⌜ r ≡ isWellFormed (now (line .entry)) ⌝ }
 {
     if 1024 < line.len() {
         return false;
     }
-    let mut state = State::Start;
+    let n = name_length(line);
+    if n == 0 {
+        return false;
+    }
+    if n < line.len() {
+        if line[n] == 58 {
+            return is_value(line, n + 1);
+        }
+    }
+    is_rest(line, n)
+}
+
+// How many name bytes the line begins with.
+fn name_length(line: &[u8]) -> usize
+    ensures { λ r. ⌜ (ltb 0 r && scan State.Name (drop r (now (line .entry)))) ≡ scan State.Start (now (line .entry)) ⌝ }
+{
     let mut i = 0;
+    while i < line.len() {
+        if !ascii::is_name_byte(line[i]) {
+            return i;
+        }
+        i += 1;
+    }
+    i
+}
+
+// What follows the name, as far as the colon, and then the value. The scanner steps from one separator to the next;
+// the usual bytes between two are passed by in loops of their own.
+fn is_rest(line: &[u8], from: usize) -> bool
+    ensures { λ r. ⌜ r ≡ scan State.Name (drop from (now (line .entry))) ⌝ }
+{
+    let mut state = State::Name;
+    let mut i = from;
     while i < line.len() {
         state = step(state, line[i]);
         i += 1;
+        if is_ending(state) {
+            return is_value(line, i);
+        }
+        let place = pass_part(line, i, state);
+        i = place.at;
+        state = place.state;
     }
     is_ending(state)
+}
+
+// A place from which the scanner decides as it does from here: anything unusual is left to its steps.
+fn pass_part(line: &[u8], from: usize, state: State) -> Place
+    ensures { λ r. ⌜ (from ≤ r .at) × (scan (r .state) (drop (r .at) (now (line .entry))) ≡ scan state (drop from (now (line .entry)))) ⌝ }
+{
+    match state {
+        State::ParameterStart => pass_parameter(line, from),
+        State::ValueStart => pass_value(line, from),
+        _ => Place { at: from, state },
+    }
+}
+
+// Behind the parameter's name, its equals sign and its first value.
+fn pass_parameter(line: &[u8], from: usize) -> Place
+    ensures { λ r. ⌜ (from ≤ r .at) × (scan (r .state) (drop (r .at) (now (line .entry))) ≡ scan State.ParameterStart (drop from (now (line .entry)))) ⌝ }
+{
+    if line.len() <= from {
+        return Place {
+            at: from,
+            state: State::ParameterStart,
+        };
+    }
+    if !ascii::is_name_byte(line[from]) {
+        return Place {
+            at: from,
+            state: State::ParameterStart,
+        };
+    }
+    let e = pass_name(line, from + 1);
+    if e < line.len() {
+        if line[e] == 61 {
+            return pass_value(line, e + 1);
+        }
+    }
+    Place {
+        at: e,
+        state: State::ParameterName,
+    }
+}
+
+fn pass_value(line: &[u8], from: usize) -> Place
+    ensures { λ r. ⌜ (from ≤ r .at) × (scan (r .state) (drop (r .at) (now (line .entry))) ≡ scan State.ValueStart (drop from (now (line .entry)))) ⌝ }
+{
+    if from < line.len() {
+        let b = line[from];
+        if b == 34 {
+            return pass_string(line, from + 1);
+        }
+        if is_unquoted(b) {
+            return Place {
+                at: pass_unquoted(line, from + 1),
+                state: State::Unquoted,
+            };
+        }
+    }
+    Place {
+        at: from,
+        state: State::ValueStart,
+    }
+}
+
+// Behind the closing quote.
+fn pass_string(line: &[u8], from: usize) -> Place
+    ensures { λ r. ⌜ (from ≤ r .at) × (scan (r .state) (drop (r .at) (now (line .entry))) ≡ scan State.Quoted (drop from (now (line .entry)))) ⌝ }
+{
+    let e = pass_quoted(line, from);
+    if e < line.len() {
+        if line[e] == 34 {
+            return Place {
+                at: e + 1,
+                state: State::AfterQuoted,
+            };
+        }
+    }
+    Place {
+        at: e,
+        state: State::Quoted,
+    }
+}
+
+fn pass_name(line: &[u8], from: usize) -> usize
+    ensures { λ r. ⌜ (from ≤ r) × (scan State.ParameterName (drop r (now (line .entry))) ≡ scan State.ParameterName (drop from (now (line .entry)))) ⌝ }
+{
+    let mut i = from;
+    while i < line.len() {
+        if !ascii::is_name_byte(line[i]) {
+            return i;
+        }
+        i += 1;
+    }
+    i
+}
+
+fn pass_unquoted(line: &[u8], from: usize) -> usize
+    ensures { λ r. ⌜ (from ≤ r) × (scan State.Unquoted (drop r (now (line .entry))) ≡ scan State.Unquoted (drop from (now (line .entry)))) ⌝ }
+{
+    let mut i = from;
+    while i < line.len() {
+        if !is_unquoted(line[i]) {
+            return i;
+        }
+        i += 1;
+    }
+    i
+}
+
+fn pass_quoted(line: &[u8], from: usize) -> usize
+    ensures { λ r. ⌜ (from ≤ r) × (scan State.Quoted (drop r (now (line .entry))) ≡ scan State.Quoted (drop from (now (line .entry)))) ⌝ }
+{
+    let mut i = from;
+    while i < line.len() {
+        if !is_quotable(line[i]) {
+            return i;
+        }
+        i += 1;
+    }
+    i
+}
+
+// Most bytes are letters: above the separators 127 alone is refused.
+fn is_unquoted(b: u8) -> bool
+    ensures { λ r. ⌜ r ≡ isUnquoted b ⌝ }
+{
+    if 59 < b {
+        return b != 127;
+    }
+    !((b == 34) | (b == 59) | (b == 58) | (b == 44) | ascii::is_control(b))
+}
+
+fn is_quotable(b: u8) -> bool
+    ensures { λ r. ⌜ r ≡ isQuotable b ⌝ }
+{
+    if 34 < b {
+        return b != 127;
+    }
+    !((b == 34) | ascii::is_control(b))
+}
+
+// No control. Before the value there is none either in most lines, so the last bytes of the line are looked at together,
+// even where the value is shorter than they are.
+fn is_value(line: &[u8], from: usize) -> bool
+    ensures { λ r. ⌜ r ≡ scan State.Value (drop from (now (line .entry))) ⌝ }
+{
+    let n = line.len();
+    if n < 16 {
+        return is_short_value(line, from);
+    }
+    let last = n - 16;
+    if has_control(line, last, 16) {
+        return is_value_by_byte(line, from);
+    }
+    let mut i = from;
+    while i < last {
+        if has_control(line, i, 16) {
+            return false;
+        }
+        i += 16;
+    }
+    true
+}
+
+// The same in a line of fewer than 16 bytes: its first 8 and its last 8 are all of it.
+fn is_short_value(line: &[u8], from: usize) -> bool
+    requires { ⌜ length (now line) < 16 ⌝ }
+    ensures { λ r. ⌜ r ≡ scan State.Value (drop from (now (line .entry))) ⌝ }
+{
+    let n = line.len();
+    if 8 <= n {
+        if !(has_control(line, 0, 8) | has_control(line, n - 8, 8)) {
+            return true;
+        }
+    }
+    is_value_by_byte(line, from)
+}
+
+// The same for the lines that are left: short ones, and those with a control.
+fn is_value_by_byte(line: &[u8], from: usize) -> bool
+    ensures { λ r. ⌜ r ≡ scan State.Value (drop from (now (line .entry))) ⌝ }
+{
+    let mut i = from;
+    while i < line.len() {
+        if ascii::is_control(line[i]) {
+            return false;
+        }
+        i += 1;
+    }
+    true
+}
+
+// Is one of the n bytes from `at` on a control? Every one is looked at, so that all can be at once.
+fn has_control(line: &[u8], at: usize, n: usize) -> bool
+    requires { ⌜ at + n ≤ length (now line) ⌝ }
+    ensures { λ r. ⌜ (not r && scan State.Value (drop (at + n) (now (line .entry)))) ≡ scan State.Value (drop at (now (line .entry))) ⌝ }
+{
+    let mut bad = false;
+    let mut j = 0;
+    while j < n {
+        bad = bad | ascii::is_control(line[at + j]);
+        j += 1;
+    }
+    bad
 }
 
 fn is_ending(state: State) -> bool

@@ -4,4 +4,5 @@ pub mod Faults
 pub mod Marking
 pub mod Passing
 pub mod Stepping
+pub mod Leaving
 pub mod Examples

@@ -1,17 +1,22 @@
 -- What a line is to the nesting, and what it does to the innermost open component.
 use Prim.Native.Nat.{ℕ, _+_, _-_, _≤_}
 use mathlib.Core.Path.{_≡_, refl, sym, ap, _∙_}
-use mathlib.Core.Bool.{Bool, true, false, cond, _&&_}
+use mathlib.Core.Bool.{Bool, true, false, cond, not, _&&_}
 use mathlib.Core.List.{List, [], _∷_, map}
+use mathlib.Core.Logic.{_↔_}
 use native.Mathlib.Omega.{arith}
 use lib.Dec.{eqb}
-use lib.ListN.{length}
-use borrow.Author.Tests.{ne-eqb}
+use lib.ListN.{length, take, drop, getD, length-map}
+use borrow.Author.Tests.{ne-eqb, eqb-false, not-true}
 use Rattle.ascii.specs.Names.{sameName, isName}
 use Rattle.ascii.specs.Words.{ascii}
-use Rattle.ascii.proofs.Bools.{clash}
+use Rattle.ascii.specs.Bytes.{upper}
+use Rattle.ascii.proofs.Bools.{clash, and-left, and-right}
+use Rattle.ascii.proofs.Names.{sameName-iff}
 use Rattle.line.specs.Grammar.{ContentLine}
-use Rattle.line.specs.Reading.{lineOf, nameOf, valueOf, parameterTexts, parameterOf}
+use Rattle.line.specs.Reading.{lineOf, nameOf, valueOf, parameterTexts, parameterOf, Plain}
+use Rattle.line.proofs.Pieces.{suffix}
+use Rattle.line.proofs.Reading.{other-first}
 use Rattle.nesting.specs.Marks.{markOf, markedBy, noParameters}
 use Rattle.nesting.specs.Nesting.{mayBegin, Walk, inside, broken, afterBegin, outside, afterEnd, afterProperty, afterWrong, afterMark}
 use Rattle.nesting.specs.Passing.{metBy}
@@ -41,19 +46,39 @@ pub marked-no : (l : List ℕ) (m : Mark) (n : ℕ) (b : Bool) → n ≡ length 
     → (eqb n 0 && b) ≡ false → Wrong ≡ markedBy (lineOf l) m
 marked-no l m n b p q e = sym (ap (λ (t : Bool). cond t m Wrong) (marked-test l n b p q ∙ e))
 
+-- where the colon stands right behind the name, the value is what is left
+module _ {l : List ℕ} {n : ℕ} (p : Plain l n) (m : Mark) (b : Bool) (q : b ≡ isName (take (length l - (n + 1)) (drop (n + 1) l))) where
+  plain-count : 0 ≡ length (parameterTexts l)
+  unfolding lineOf
+  plain-count = sym (ap length (p .no-parameters)) ∙ length-map (parameterTexts l) parameterOf
+
+  plain-named : b ≡ isName (valueOf l)
+  plain-named = q ∙ ap isName (suffix l (n + 1) ∙ sym (p .value-behind))
+
+  pub plain-yes : b ≡ true → m ≡ markedBy (lineOf l) m
+  plain-yes e = marked-yes l m 0 b plain-count plain-named e
+
+  pub plain-no : b ≡ false → Wrong ≡ markedBy (lineOf l) m
+  plain-no e = marked-no l m 0 b plain-count plain-named e
+
+-- the same name has the same length
+pub named-length : (w v : List ℕ) (t : Bool) → t ≡ sameName w v → t ≡ true → length v ≡ length w
+named-length w v t q e =
+    sym (length-map v upper) ∙ sym (ap length (sameName-iff w v .0 (sym q ∙ e))) ∙ length-map w upper
+
 -- the mark of a line whose name is BEGIN, or is END
 abbrev marking : ContentLine → Bool → Bool → Mark
 marking x a b = cond a (markedBy x Begins) (cond b (markedBy x Ends) Property)
 
-module _ (l n : List ℕ) (p : n ≡ nameOf l) (t : Bool) (q : t ≡ sameName n (ascii "BEGIN")) where
-  mark-is : (u : Bool) → u ≡ sameName n (ascii "END") → markOf (lineOf l) ≡ marking (lineOf l) t u
+module _ (l : List ℕ) (t : Bool) (q : t ≡ sameName (nameOf l) (ascii "BEGIN")) where
+  mark-is : (u : Bool) → u ≡ sameName (nameOf l) (ascii "END") → markOf (lineOf l) ≡ marking (lineOf l) t u
   unfolding markOf lineOf
-  mark-is u v = rw (q, v, p)
+  mark-is u v = rw (q, v)
 
   pub mark-begin : (r : Mark) → t ≡ true → r ≡ markedBy (lineOf l) Begins → r ≡ markOf (lineOf l)
-  mark-begin r e h = h ∙ sym (mark-is (sameName n (ascii "END")) refl ∙ ap (λ (a : Bool). marking (lineOf l) a (sameName n (ascii "END"))) e)
+  mark-begin r e h = h ∙ sym (mark-is (sameName (nameOf l) (ascii "END")) refl ∙ ap (λ (a : Bool). marking (lineOf l) a (sameName (nameOf l) (ascii "END"))) e)
 
-  module _ (u : Bool) (v : u ≡ sameName n (ascii "END")) (e : t ≡ false) where
+  module _ (u : Bool) (v : u ≡ sameName (nameOf l) (ascii "END")) (e : t ≡ false) where
     mark-later : (b : Bool) → u ≡ b → markOf (lineOf l) ≡ marking (lineOf l) false b
     mark-later b f = mark-is u v ∙ ap (λ (a : Bool). marking (lineOf l) a u) e ∙ ap (marking (lineOf l) false) f
 
@@ -62,6 +87,17 @@ module _ (l n : List ℕ) (p : n ≡ nameOf l) (t : Bool) (q : t ≡ sameName n 
 
     pub mark-property : u ≡ false → Property ≡ markOf (lineOf l)
     mark-property f = sym (mark-later false f)
+
+-- a line that begins with neither B nor E is a property
+pub mark-other : (l : List ℕ) (b : ℕ) → b ≡ upper (getD l 0 0) → (not (eqb b 66) && not (eqb b 69)) ≡ true → Property ≡ markOf (lineOf l)
+unfolding upper
+mark-other l b e h =
+    mark-property l false
+    (sym (other-first l (ascii "BEGIN") (omega arith) (λ q. eqb-false b 66 (not-true _ (and-left _ _ h)) (e ∙ q))))
+    false
+    (sym (other-first l (ascii "END") (omega arith) (λ q. eqb-false b 69 (not-true _ (and-right (not (eqb b 66)) _ h)) (e ∙ q))))
+    refl
+    refl
 
 -- ---- what a line does to the innermost open component
 

@@ -5,7 +5,7 @@ use text::Span;
 ghost use mathlib.Core.Path.{_≡_};
 ghost use Prim.Native.Nat.{_+_, _≤_, _<_};
 ghost use lib.ListN.{length};
-ghost use Rattle.nesting.specs.Passing.{ItemAt, SkipsTo, depthAfter};
+ghost use Rattle.nesting.specs.Passing.{ItemAt, NoItemAt, SkipsTo, depthAfter};
 
 // The item at a place.
 pub enum Item {
@@ -56,6 +56,20 @@ pub fn skip_component(s: &[u8], from: usize, first: usize) -> Place
         }
     }
     Place { at, number }
+}
+
+// No item is left here, so the line here, if there is one, is the component's END line: the place behind it.
+pub fn pass_end(s: &[u8], at: usize, number: usize) -> Place
+    requires { ⌜ (at ≤ length (now s)) × (number ≤ at + 1) × NoItemAt (now s) at ⌝ }
+    ensures { λ r. ⌜ SkipsTo (now (s .entry)) at number r ⌝ }
+{
+    match text::next_line(s, at) {
+        Span::End => Place { at, number },
+        Span::Line(_, next) => Place {
+            at: next,
+            number: number + 1,
+        },
+    }
 }
 
 // How many components are open after a line of this mark.

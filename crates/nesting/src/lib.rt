@@ -6,7 +6,7 @@ use text::Span;
 ghost use mathlib.Core.Path.{_≡_};
 ghost use Prim.Native.Nat.{_+_, _≤_};
 ghost use lib.ListN.{length};
-ghost use Rattle.line.specs.Reading.{lineOf, valueOf};
+ghost use Rattle.line.specs.Reading.{nameOf, lineOf, valueOf};
 ghost use Rattle.nesting.specs.Marks.{markOf, markedBy};
 ghost use Rattle.nesting.specs.Nesting.{mayBegin, Walk};
 ghost use Rattle.nesting.specs.Passing.{metBy, beginsCalendar, ReadsTo, linesAt, nestingFrom, nestingIn};
@@ -46,23 +46,43 @@ enum Closed {
     Broken(usize),
 }
 
+// Mostly the first byte tells that a line is a property. Only that is asked here, so that it can stand in the loops over lines.
 pub fn mark_of(line: &[u8]) -> Mark
     ensures { λ r. ⌜ r ≡ markOf (lineOf (now (line .entry))) ⌝ }
 {
-    let name = line::read::name(line);
-    if ascii::same_name(name, b"BEGIN") {
-        return marked_by(line, Mark::Begins);
+    if 0 < line.len() {
+        let b = ascii::upper(line[0]);
+        if (b != 66) & (b != 69) {
+            return Mark::Property;
+        }
     }
-    if ascii::same_name(name, b"END") {
-        return marked_by(line, Mark::Ends);
+    mark_named(line)
+}
+
+// The mark by the line's name, whatever its first byte.
+fn mark_named(line: &[u8]) -> Mark
+    ensures { λ r. ⌜ r ≡ markOf (lineOf (now (line .entry))) ⌝ }
+{
+    if line::read::is_called(line, b"BEGIN") {
+        return marked_by(line, 5, Mark::Begins);
+    }
+    if line::read::is_called(line, b"END") {
+        return marked_by(line, 3, Mark::Ends);
     }
     Mark::Property
 }
 
-// The mark, if the line has no parameters and a name as value.
-fn marked_by(line: &[u8], mark: Mark) -> Mark
+// The mark, if the line has no parameters and a name as value. Its own name is n bytes long; mostly the colon stands right behind it.
+fn marked_by(line: &[u8], n: usize, mark: Mark) -> Mark
+    requires { ⌜ n ≡ length (nameOf (now line)) ⌝ }
     ensures { λ r. ⌜ r ≡ markedBy (lineOf (now (line .entry))) mark ⌝ }
 {
+    if line::read::is_plain(line, n) {
+        if ascii::is_name(&line[n + 1..]) {
+            return mark;
+        }
+        return Mark::Wrong;
+    }
     let count = line::read::parameter_count(line);
     let named = ascii::is_name(line::read::value(line));
     if (count == 0) & named {
@@ -86,9 +106,9 @@ pub fn may_begin(name: &[u8], depth: usize, count: usize) -> bool
 fn meets(line: &[u8], name: &[u8], depth: usize, count: usize) -> Met
     ensures { λ r. ⌜ r ≡ metBy (markOf (lineOf (now (line .entry)))) (valueOf (now (line .entry))) (now (name .entry)) depth count ⌝ }
 {
-    let value = line::read::value(line);
     match mark_of(line) {
         Mark::Begins => {
+            let value = line::read::value(line);
             if may_begin(value, depth, count) {
                 Met::Opens
             } else {
@@ -96,6 +116,7 @@ fn meets(line: &[u8], name: &[u8], depth: usize, count: usize) -> Met
             }
         }
         Mark::Ends => {
+            let value = line::read::value(line);
             if ascii::same_name(value, name) {
                 Met::Closes
             } else {
@@ -149,7 +170,7 @@ fn component(s: &[u8], name: &[u8], from: usize, first: usize, begun: usize, lef
 fn begins_calendar(line: &[u8]) -> bool
     ensures { λ r. ⌜ r ≡ beginsCalendar (lineOf (now (line .entry))) ⌝ }
 {
-    match mark_of(line) {
+    match mark_named(line) {
         Mark::Begins => ascii::same_name(line::read::value(line), b"VCALENDAR"),
         Mark::Ends => false,
         Mark::Property => false,

@@ -19,15 +19,17 @@ use Rattle.values.specs.declared.said.Busy.{Busy}
 use Rattle.values.specs.declared.said.Saying.{Saying}
 use Rattle.values.specs.declared.said.Scope.{Scope}
 use Rattle.values.specs.declared.period.Period.{Period}
-use Rattle.calendar.specs.Meaning.{BusyPeriod, typed, periodsBy, Entry, event, block, eventEntry, blockEntry, entriesOf, scopeOf, componentsOf}
+use Rattle.calendar.specs.Meaning.{BusyPeriod, typed, periodsBy, Entry, event, block, eventEntry, blockEntry, entriesOf, scopeOf}
+use Rattle.calendar.specs.Events.{eventBy, blockBy}
 use Rattle.calendar.specs.Periods.{periodsFrom, NextPeriod, NoPeriod}
-use Rattle.calendar.specs.Places.{blockPeriodsAt, eventAt, blockAt, entryAt, componentsFrom, BelowAt, NoneBelow}
+use Rattle.calendar.specs.Places.{blockPeriodsAt, gatheredAt, eventAt, blockAt, entryAt, componentsFrom}
+use Rattle.calendar.specs.declared.Gathered.{Gathered}
 use Rattle.calendar.specs.declared.Event.{Event}
 use Rattle.calendar.specs.declared.EventRead.{EventRead}
 use Rattle.calendar.specs.declared.Block.{Block}
 use Rattle.calendar.specs.declared.BlockRead.{BlockRead}
 use Rattle.calendar.proofs.Listed.{periods-all}
-use Rattle.calendar.proofs.Loops.{entry-here, decided-below, decided-none}
+use Rattle.calendar.proofs.Loops.{entry-here}
 use Rattle.calendar.proofs.Steps.{periods-property, periods-inner, periods-none, components-property, components-first, components-skip, components-none}
 use Rattle.calendar.proofs.Sizes.{eventAt-small}
 use Rattle.busy.specs.Sizes.{Small}
@@ -184,51 +186,59 @@ no-entry : busyPeriods [] ≡ []
 unfolding busyPeriods
 no-entry = refl
 
-pub entry-small : (c : Context) (s : List ℕ) (at : ℕ) (e : Event) {x : EventRead} → x ≡ eventAt c s at → x ≡ EventRead.Of e → Small e
-entry-small c s at e q h = event-sizes (eventAt-small c s at e (sym q ∙ h))
+-- what its lines say together, by its scope
+module _ (c : Context) (s : List ℕ) (at : ℕ) {y : Scope} {g : Gathered} (w : g ≡ gatheredAt c y s at) where
+  event-read : {x : EventRead} → y ≡ Scope.Event → x ≡ eventBy g → x ≡ eventAt c s at
+  unfolding eventAt
+  event-read t q = q ∙ ap eventBy (w ∙ ap (λ (z : Scope). gatheredAt c z s at) t)
+
+  block-read : {x : BlockRead} → y ≡ Scope.FreeBusy → x ≡ blockBy g → x ≡ blockAt c s at
+  unfolding blockAt
+  block-read t q = q ∙ ap blockBy (w ∙ ap (λ (z : Scope). gatheredAt c z s at) t)
+
+  pub entry-small : (e : Event) {x : EventRead} → y ≡ Scope.Event → x ≡ eventBy g → x ≡ EventRead.Of e → Small e
+  entry-small e t q h = event-sizes (eventAt-small c s at e (sym (event-read t q) ∙ h))
+
+event-as : (c : Context) (s : List ℕ) (at : ℕ) {x y : EventRead} → x ≡ eventAt c s at → x ≡ y → eventEntry y ≡ entryAt c Scope.Event s at
+unfolding entryAt
+event-as c s at q h = ap eventEntry (sym h ∙ q)
 
 block-as : (c : Context) (s : List ℕ) (at : ℕ) {x y : BlockRead} → x ≡ blockAt c s at → x ≡ y
     → blockEntry y (blockPeriodsAt c s at) ≡ entryAt c Scope.FreeBusy s at
 unfolding entryAt
 block-as c s at q h = ap (λ (w : BlockRead). blockEntry w (blockPeriodsAt c s at)) (sym h ∙ q)
 
-module _ (c : Context) (a b : ℕ) (s : List ℕ) (at : ℕ) {o : List ℕ} {n : ℕ} where
-  -- what is read here is the entry
-  read-as : (y : Scope) {xs : List Entry} {ps : List BusyPeriod} {o′ : List ℕ} {r : ℕ} → busyPeriods xs ≡ ps → xs ≡ entryAt c y s at
-      → Noted o n (piecesOf a b ps) o′ r → Noted o n (piecesOf a b (busyPeriods (entryAt c y s at))) o′ r
-  read-as y e q m = noted-as m (ap (piecesOf a b) (sym e ∙ ap busyPeriods q))
+nothing : (a b : ℕ) {o : List ℕ} {n : ℕ} → Noted o n (piecesOf a b []) o n
+nothing a b {o} {n} = noted-as (noted-none o n) (sym (piecesOf-none a b))
 
-  nothing : Noted o n (piecesOf a b []) o n
-  nothing = noted-as (noted-none o n) (sym (piecesOf-none a b))
+module _ (c : Context) (a b : ℕ) (s : List ℕ) (at : ℕ) {o : List ℕ} {n : ℕ} {y : Scope} where
+  -- what is read here is the entry
+  read-as : (z : Scope) → y ≡ z → {xs : List Entry} {ps : List BusyPeriod} {o′ : List ℕ} {r : ℕ} → busyPeriods xs ≡ ps → xs ≡ entryAt c z s at
+      → Noted o n (piecesOf a b ps) o′ r → Noted o n (piecesOf a b (busyPeriods (entryAt c y s at))) o′ r
+  read-as z t e q m =
+      noted-as m (ap (piecesOf a b) (sym e ∙ ap busyPeriods q) ∙ ap (λ (x : Scope). piecesOf a b (busyPeriods (entryAt c x s at))) (sym t))
 
   -- an event
-  module _ {x : EventRead} (q : x ≡ eventAt c s at) where
+  module _ {g : Gathered} {x : EventRead} (w : g ≡ gatheredAt c y s at) (t : y ≡ Scope.Event) (q : x ≡ eventBy g) where
     pub entry-event : (e : Event) {o′ : List ℕ} {r : ℕ} → x ≡ EventRead.Of e → Noted o n (piecesOf a b (eventPeriods e)) o′ r
-        → Noted o n (piecesOf a b (busyPeriods (entryAt c Scope.Event s at))) o′ r
-    unfolding entryAt
-    entry-event e h m = read-as Scope.Event (one-event e) (ap eventEntry (sym h ∙ q)) m
+        → Noted o n (piecesOf a b (busyPeriods (entryAt c y s at))) o′ r
+    entry-event e h m = read-as Scope.Event t (one-event e) (event-as c s at (event-read c s at w t q) h) m
 
-    pub entry-no-event : x ≡ EventRead.Broken → Noted o n (piecesOf a b (busyPeriods (entryAt c Scope.Event s at))) o n
-    unfolding entryAt
-    entry-no-event h = read-as Scope.Event no-entry (ap eventEntry (sym h ∙ q)) nothing
+    pub entry-no-event : x ≡ EventRead.Broken → Noted o n (piecesOf a b (busyPeriods (entryAt c y s at))) o n
+    entry-no-event h = read-as Scope.Event t no-entry (event-as c s at (event-read c s at w t q) h) (nothing a b)
 
   -- a block
-  module _ {x : BlockRead} (q : x ≡ blockAt c s at) where
+  module _ {g : Gathered} {x : BlockRead} (w : g ≡ gatheredAt c y s at) (t : y ≡ Scope.FreeBusy) (q : x ≡ blockBy g) where
     pub entry-block : (k : Block) {o′ : List ℕ} {r : ℕ} → x ≡ BlockRead.Of k → Noted o n (piecesOf a b (blockPeriodsAt c s at)) o′ r
-        → Noted o n (piecesOf a b (busyPeriods (entryAt c Scope.FreeBusy s at))) o′ r
-    entry-block k h m = read-as Scope.FreeBusy (one-block k (blockPeriodsAt c s at)) (block-as c s at q h) m
+        → Noted o n (piecesOf a b (busyPeriods (entryAt c y s at))) o′ r
+    entry-block k h m = read-as Scope.FreeBusy t (one-block k (blockPeriodsAt c s at)) (block-as c s at (block-read c s at w t q) h) m
 
-    pub entry-no-block : x ≡ BlockRead.Broken → Noted o n (piecesOf a b (busyPeriods (entryAt c Scope.FreeBusy s at))) o n
-    entry-no-block h = read-as Scope.FreeBusy no-entry (block-as c s at q h) nothing
+    pub entry-no-block : x ≡ BlockRead.Broken → Noted o n (piecesOf a b (busyPeriods (entryAt c y s at))) o n
+    entry-no-block h = read-as Scope.FreeBusy t no-entry (block-as c s at (block-read c s at w t q) h) (nothing a b)
 
-  -- by its scope
-  pub entry-of : {x : Scope} (y : Scope) {o′ : List ℕ} {r : ℕ} → x ≡ y → Noted o n (piecesOf a b (busyPeriods (entryAt c y s at))) o′ r
-      → Noted o n (piecesOf a b (busyPeriods (entryAt c x s at))) o′ r
-  entry-of y e m = noted-as m (ap (λ (w : Scope). piecesOf a b (busyPeriods (entryAt c w s at))) (sym e))
-
-  pub entry-other : Noted o n (piecesOf a b (busyPeriods (entryAt c Scope.Other s at))) o n
+  pub entry-other : y ≡ Scope.Other → Noted o n (piecesOf a b (busyPeriods (entryAt c y s at))) o n
   unfolding entryAt
-  entry-other = read-as Scope.Other no-entry refl nothing
+  entry-other t = read-as Scope.Other t no-entry refl (nothing a b)
 
 -- ---- the components side by side
 
@@ -236,7 +246,7 @@ entries-append : (a b : ℕ) (xs ys : List Entry) → busyPieces a b (xs ++ ys) 
 unfolding busyPieces
 entries-append a b xs ys = ap (piecesOf a b) (busyPeriods-append xs ys) ∙ piecesOf-append a b (busyPeriods xs) (busyPeriods ys)
 
-no-entries : (c : Context) (a b : ℕ) → busyPieces a b (entriesOf c []) ≡ []
+pub no-entries : (c : Context) (a b : ℕ) → busyPieces a b (entriesOf c []) ≡ []
 unfolding busyPieces entriesOf
 no-entries c a b = ap (piecesOf a b) no-entry ∙ piecesOf-none a b
 
@@ -282,16 +292,3 @@ module _ {c : Context} {a b : ℕ} {s o₀ : List ℕ} {whole : List BusyPeriod}
 
   pub going-end : NoItemAt s at → Noted o₀ 0 whole o n
   going-end h = left-none (g .still) (ap (piecesIn c a b) (components-none number h) ∙ no-entries c a b)
-
-  pub going-full : 513 ≤ n → Noted o₀ 0 whole o n
-  going-full h = left-full (g .still) h
-
--- ---- the calendar
-
-module _ (c : Context) (a b : ℕ) {s o : List ℕ} where
-  pub calendar-noted : (at i : ℕ) {o′ : List ℕ} {r : ℕ} → BelowAt s at i → Noted o 0 (piecesIn c a b (componentsFrom s at i)) o′ r
-      → Noted o 0 (piecesIn c a b (componentsOf s)) o′ r
-  calendar-noted at i h m = noted-as m (decided-below (piecesIn c a b) h refl)
-
-  pub calendar-empty : NoneBelow s → Noted o 0 (piecesIn c a b (componentsOf s)) o 0
-  calendar-empty h = noted-as (noted-none o 0) (sym (no-entries c a b) ∙ decided-none (piecesIn c a b) h)

@@ -3,3 +3,4 @@ pub mod Clipping
 pub mod Covering
 pub mod Events
 pub mod Leaving
+pub mod Contents

@@ -67,7 +67,7 @@ fn type_said(said: Saying) -> PeriodType
     }
 }
 
-// The periods of a line.
+// The periods of a line. Most lines of a block are read, so the first byte is not asked beforehand.
 pub fn note_line(column: &mut [u32], n: usize, line: &[u8], c: Context, a: u64, b: u64) -> usize
     requires { ⌜ length (now column) ≡ 1539 ⌝ }
     requires { ⌜ n ≤ 513 ⌝ }
@@ -75,7 +75,7 @@ pub fn note_line(column: &mut [u32], n: usize, line: &[u8], c: Context, a: u64, 
     requires { ⌜ b ≤ 4102444799 ⌝ }
     ensures { λ r. ⌜ Noted (now (column .entry)) n (piecesOf a b (periodsBy (sayingOf c Scope.FreeBusy (lineOf (now (line .entry)))) (lineOf (now (line .entry))))) (now (column .exit)) r ⌝ }
 {
-    match type_said(said::saying_of(c, Scope::FreeBusy, line)) {
+    match type_said(said::saying_read(c, Scope::FreeBusy, line)) {
         PeriodType::Of(busy) => note_value(column, n, busy, read::value(line), a, b),
         PeriodType::None => n,
     }

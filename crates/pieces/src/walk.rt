@@ -1,8 +1,15 @@
-// From component to component of a calendar: all of its busy pieces, stopped at 513.
+// From component to component of a calendar, each read once: its refusal, and all of its busy pieces, of which no more than 513 are noted.
 use crate::blocks;
 use crate::noting;
 use calendar::BlockRead;
 use calendar::EventRead;
+use calendar::Fault;
+use calendar::Gathered;
+use calendar::RuleCheck;
+use calendar::ValueCheck;
+use calendar::component;
+use calendar::contents;
+use calendar::events;
 use calendar::places;
 use calendar::places::Below;
 use nesting::items;
@@ -10,87 +17,89 @@ use nesting::items::Item;
 use values::said::Scope;
 use values::times::Context;
 ghost use mathlib.Core.Path.{_≡_};
+ghost use mathlib.Core.List.{[]};
 ghost use Prim.Native.Nat.{_+_, _≤_, _<_};
 ghost use lib.ListN.{length};
-ghost use Rattle.values.specs.declared.said.Scope.{Scope};
-ghost use Rattle.calendar.specs.Meaning.{entriesOf, componentsOf};
-ghost use Rattle.calendar.specs.Places.{entryAt, componentsFrom};
-ghost use Rattle.pieces.specs.BusyPeriods.{busyPeriods};
-ghost use Rattle.pieces.specs.Pieces.{piecesOf, busyPieces};
-ghost use Rattle.pieces.specs.Columns.{Noted};
+ghost use Rattle.calendar.specs.Meaning.{byRules, byValues, faultOf};
+ghost use Rattle.calendar.specs.Places.{gatheredAt};
+ghost use Rattle.pieces.specs.Walks.{NotesRead, NotesFrom, NotesContents};
 
-// The event of the component whose items begin here.
-fn note_event_at(
-    column: &mut [u32],
-    n: usize,
-    s: &[u8],
-    at: usize,
-    c: Context,
-    a: u64,
-    b: u64,
-) -> usize
-    requires { ⌜ length (now column) ≡ 1539 ⌝ }
-    requires { ⌜ n ≤ 513 ⌝ }
-    requires { ⌜ c .shift ≤ 100800 ⌝ }
-    requires { ⌜ a < b ⌝ }
-    requires { ⌜ b ≤ 4102444799 ⌝ }
-    ensures { λ r. ⌜ Noted (now (column .entry)) n (piecesOf a b (busyPeriods (entryAt c Scope.Event (now (s .entry)) at))) (now (column .exit)) r ⌝ }
-{
-    match places::event_at(s, at, c) {
-        EventRead::Of(e) => noting::note_event(column, n, e, a, b),
-        EventRead::Broken => n,
-    }
+// What one walk over the components of a calendar tells.
+pub struct ContentsNoted {
+    // The lowest of refusals 8 to 10.
+    pub fault: Fault,
+    // How many pieces were noted.
+    pub count: usize,
 }
 
-// The block of the component whose items begin here.
-fn note_block_at(
-    column: &mut [u32],
-    n: usize,
-    s: &[u8],
-    at: usize,
-    c: Context,
-    a: u64,
-    b: u64,
-) -> usize
-    requires { ⌜ length (now column) ≡ 1539 ⌝ }
-    requires { ⌜ n ≤ 513 ⌝ }
-    requires { ⌜ c .shift ≤ 100800 ⌝ }
-    requires { ⌜ b ≤ 4102444799 ⌝ }
-    ensures { λ r. ⌜ Noted (now (column .entry)) n (piecesOf a b (busyPeriods (entryAt c Scope.FreeBusy (now (s .entry)) at))) (now (column .exit)) r ⌝ }
-{
-    match places::block_at(s, at, c) {
-        BlockRead::Of(_) => blocks::note_block(column, n, s, at, c, a, b),
-        BlockRead::Broken => n,
-    }
+// What is known with one component more.
+struct ReadNoted {
+    // The first component that breaks a rule.
+    rules: RuleCheck,
+    // How many pieces stand.
+    count: usize,
 }
 
-// What the component of this scope, whose items begin here, adds.
-pub fn note_entry(
+// What the component of this scope and line, whose items begin here, adds: g is what its lines say together.
+// Where 513 pieces stand already it adds no piece.
+fn note_read(
     column: &mut [u32],
     n: usize,
+    rules: RuleCheck,
+    number: usize,
     s: &[u8],
     at: usize,
     c: Context,
     scope: Scope,
+    g: Gathered,
     a: u64,
     b: u64,
-) -> usize
+) -> ReadNoted
     requires { ⌜ length (now column) ≡ 1539 ⌝ }
     requires { ⌜ n ≤ 513 ⌝ }
     requires { ⌜ c .shift ≤ 100800 ⌝ }
     requires { ⌜ a < b ⌝ }
     requires { ⌜ b ≤ 4102444799 ⌝ }
-    ensures { λ r. ⌜ Noted (now (column .entry)) n (piecesOf a b (busyPeriods (entryAt c scope (now (s .entry)) at))) (now (column .exit)) r ⌝ }
+    requires { ⌜ g ≡ gatheredAt c scope (now s) at ⌝ }
+    ensures { λ r. ⌜ NotesRead c scope g (now (s .entry)) at number a b rules n (now (column .entry)) (now (column .exit)) r ⌝ }
 {
     match scope {
-        Scope::Event => note_event_at(column, n, s, at, c, a, b),
-        Scope::FreeBusy => note_block_at(column, n, s, at, c, a, b),
-        Scope::Other => n,
+        Scope::Event => match events::event_by(g) {
+            EventRead::Of(e) => ReadNoted {
+                rules,
+                count: noting::note_event(column, n, e, a, b),
+            },
+            EventRead::Broken => ReadNoted {
+                rules: contents::broken_else(rules, number),
+                count: n,
+            },
+        },
+        Scope::FreeBusy => match events::block_by(g) {
+            BlockRead::Of(_) => ReadNoted {
+                rules,
+                count: blocks::note_block(column, n, s, at, c, a, b),
+            },
+            BlockRead::Broken => ReadNoted {
+                rules: contents::broken_else(rules, number),
+                count: n,
+            },
+        },
+        Scope::Other => ReadNoted { rules, count: n },
     }
 }
 
-// The components that stand side by side from here on.
-fn note_from(
+// The answer where this was found and so many pieces stand.
+fn answer(values: ValueCheck, rules: RuleCheck, count: usize) -> ContentsNoted
+    ensures { λ r. ⌜ (r .fault ≡ faultOf (byValues values (byRules rules []))) × (r .count ≡ count) ⌝ }
+{
+    ContentsNoted {
+        fault: contents::fault_by(values, rules),
+        count,
+    }
+}
+
+// The components that stand side by side from here on: all of them are read, whatever room is left, up to a value that is at fault.
+fn note_contents_from(
     column: &mut [u32],
     s: &[u8],
     from: usize,
@@ -98,19 +107,20 @@ fn note_from(
     c: Context,
     a: u64,
     b: u64,
-) -> usize
+) -> ContentsNoted
     requires { ⌜ length (now column) ≡ 1539 ⌝ }
     requires { ⌜ from ≤ length (now s) ⌝ }
     requires { ⌜ first ≤ from + 1 ⌝ }
     requires { ⌜ c .shift ≤ 100800 ⌝ }
     requires { ⌜ a < b ⌝ }
     requires { ⌜ b ≤ 4102444799 ⌝ }
-    ensures { λ r. ⌜ Noted (now (column .entry)) 0 (busyPieces a b (entriesOf c (componentsFrom (now (s .entry)) from first))) (now (column .exit)) r ⌝ }
+    ensures { λ r. ⌜ NotesFrom c (now (s .entry)) from first a b (now (column .entry)) (now (column .exit)) r ⌝ }
 {
+    let mut rules = RuleCheck::Good;
     let mut n: usize = 0;
     let mut at = from;
     let mut number = first;
-    while n < 513 {
+    loop {
         match items::next_item(s, at) {
             Item::Property(_, next) => {
                 at = next;
@@ -118,27 +128,40 @@ fn note_from(
             }
             Item::Inner(e, next) => {
                 let scope = places::scope_of(line::read::value(&s[at..e]));
-                n = note_entry(column, n, s, next, c, scope, a, b);
-                let p = items::skip_component(s, next, number + 1);
-                at = p.at;
-                number = p.number;
+                let r = component::read_component(s, next, number + 1, c, scope);
+                let values = r.fault;
+                match values {
+                    ValueCheck::Good => {
+                        let g = r.gathered;
+                        let p = r.behind;
+                        let k = note_read(column, n, rules, number, s, next, c, scope, g, a, b);
+                        rules = k.rules;
+                        n = k.count;
+                        at = p.at;
+                        number = p.number;
+                    }
+                    ValueCheck::Unsupported(_) => return answer(values, rules, n),
+                    ValueCheck::Bad(_) => return answer(values, rules, n),
+                }
             }
-            Item::Done => return n,
+            Item::Done => return answer(ValueCheck::Good, rules, n),
         }
     }
-    n
 }
 
-// All busy pieces of a calendar in the range.
-pub fn note_calendar(column: &mut [u32], s: &[u8], c: Context, a: u64, b: u64) -> usize
+// Refusals 8 to 10, and the busy pieces of the calendar in the range.
+pub fn note_contents(column: &mut [u32], s: &[u8], c: Context, a: u64, b: u64) -> ContentsNoted
     requires { ⌜ length (now column) ≡ 1539 ⌝ }
     requires { ⌜ c .shift ≤ 100800 ⌝ }
     requires { ⌜ a < b ⌝ }
     requires { ⌜ b ≤ 4102444799 ⌝ }
-    ensures { λ r. ⌜ Noted (now (column .entry)) 0 (busyPieces a b (entriesOf c (componentsOf (now (s .entry))))) (now (column .exit)) r ⌝ }
+    ensures { λ r. ⌜ NotesContents c (now (s .entry)) a b (now (column .entry)) (now (column .exit)) r ⌝ }
 {
     match places::items_below(s) {
-        Below::At(at, number) => note_from(column, s, at, number, c, a, b),
-        Below::None => 0,
+        Below::At(at, number) => note_contents_from(column, s, at, number, c, a, b),
+        Below::None => ContentsNoted {
+            fault: Fault::None,
+            count: 0,
+        },
     }
 }

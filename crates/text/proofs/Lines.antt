@@ -4,19 +4,19 @@ use mathlib.Core.Path.{_≡_, refl, sym, ap, subst, _∙_}
 use mathlib.Core.Bool.{Bool, true, false, not}
 use mathlib.Core.List.{List, [], _∷_, _++_, append-nil}
 use native.Mathlib.Omega.{arith}
-use lib.Dec.{eqb}
+use lib.Dec.{eqb, ltb}
 use lib.ListN.{length, take, drop, getD, take-append-drop, length-drop, length-append}
-use lib.Seq.{take-all, getD-drop, take-suc, length-take-le, drop-drop}
-use borrow.Author.Tests.{eqb-true, not-true, ne-eqb}
-use Rattle.ascii.proofs.Bools.{and-left, and-right, and-both}
+use lib.Seq.{take-all, getD-drop, length-take-le, drop-drop}
+use borrow.Author.Tests.{eqb-true, not-true, ne-eqb, ltb-true, ltb-false}
+use Rattle.ascii.proofs.Bools.{and-left, and-right, and-both, not-so}
 use Rattle.ascii.proofs.Lists.{drop-next, drop-end}
-use Rattle.text.specs.Unfolding.{isBreak, isBlank, isFold, unfolded, noFold}
+use Rattle.text.specs.Unfolding.{isBreak, isBlank, isFold, unfolded, Nowhere, noFold}
 use Rattle.text.specs.Lines.{Pieces, end, unended, line, grow, cut, breakAt, part, LineAt, LastPiece, NoPiece, EndsAt, lineCount, bytesOf, joined, linesOf, allLines, contentLines, LineFrom, NoLineFrom, StepsTo, everyLine, holdsNoCR, beginsPlain, standsPlain}
 use Rattle.text.specs.declared.LineEnd.{LineEnd}
 use Rattle.text.specs.declared.LineEnd.the-variants.{At, Unended, None}
 use Rattle.text.specs.declared.Span.{Span}
 use Rattle.text.specs.declared.Span.the-variants.{Line, End}
-use Rattle.text.proofs.Unfolding.{unfolded-same, getD-inside}
+use Rattle.text.proofs.Unfolding.{unfolded-same, getD-inside, nowhere-next}
 
 -- at CR LF a line ends, and any other byte belongs to the first piece of what follows
 cut-by : (b c : ℕ) (s : List ℕ) (x : Bool) → isBreak b c ≡ x
@@ -66,89 +66,80 @@ abbrev pub grown : List ℕ → Pieces → Pieces
 grown [] p = p
 grown (b ∷ l) p = grow b (grown l p)
 
-grown-snoc : (l : List ℕ) (b : ℕ) (p : Pieces) → grown (l ++ (b ∷ [])) p ≡ grown l (grow b p)
-grown-snoc [] b p = refl
-grown-snoc (a ∷ l) b p = ap (grow a) (grown-snoc l b p)
-
 grown-line : (l t : List ℕ) (p : Pieces) → grown l (line t p) ≡ line (l ++ t) p
 grown-line [] t p = refl
 grown-line (a ∷ l) t p = ap (grow a) (grown-line l t p)
 
-grown-unended : (l t : List ℕ) → grown l (unended t) ≡ unended (l ++ t)
-grown-unended [] t = refl
-grown-unended (a ∷ l) t = ap (grow a) (grown-unended l t)
+grown-end : (b : ℕ) (l : List ℕ) → grown (b ∷ l) end ≡ unended (b ∷ l)
+grown-end b [] = refl
+grown-end b (c ∷ l) = ap (grow b) (grown-end c l)
 
--- parts: one byte more, and what is left
-pub part-next : (s : List ℕ) (a e : ℕ) → a ≤ e → e < length s → part s a (e + 1) ≡ part s a e ++ (getD s e 0 ∷ [])
-part-next s a e h k =
-    let n : e + 1 - a ≡ suc (e - a) = omega arith in
-    let m : a + (e - a) ≡ e = omega arith in
-    rw n
-    (take-suc (drop a s) (e - a) 0 (simp length-drop (omega arith))
-    ∙ ap (λ (x : ℕ). part s a e ++ (x ∷ [])) (getD-drop a s (e - a) 0 ∙ ap (λ (x : ℕ). getD s x 0) m))
-
+-- parts: what is left, and how long
 pub part-rest : (s : List ℕ) (a e : ℕ) → a ≤ e → part s a e ++ drop e s ≡ drop a s
 part-rest s a e h =
     let m : a + (e - a) ≡ e = omega arith in
     ap (λ (l : List ℕ). part s a e ++ l) (sym (drop-drop (e - a) a s ∙ ap (λ (x : ℕ). drop x s) m)) ∙ take-append-drop (e - a) (drop a s)
 
-pub part-none : (s : List ℕ) (a : ℕ) → part s a a ≡ []
-part-none s a =
-    let z : a - a ≡ 0 = omega arith in
-    ap (λ (n : ℕ). take n (drop a s)) z
-
 pub length-part : (s : List ℕ) (a e : ℕ) → a ≤ e → e ≤ length s → length (part s a e) ≡ e - a
 length-part s a e h k = length-take-le (e - a) (drop a s) (simp length-drop (omega arith))
 
--- the search: no CR LF from `from` up to i, so these bytes belong to the first piece
-pub record Searched (s : List ℕ) (from i : ℕ) : Type 0 where
-  pub order : from ≤ i
-  pub inside : i < length s
-  pub pieces : cut (drop from s) ≡ grown (part s from i) (cut (drop i s))
+-- the search: where no CR LF begins before i, the bytes before it belong to the first piece
+passed-pieces : (s : List ℕ) (from m : ℕ) → from + m ≤ length s → ((k : ℕ) → from ≤ k → k < from + m → breakAt s k ≡ false)
+    → cut (drop from s) ≡ grown (take m (drop from s)) (cut (drop (from + m) s))
+passed-pieces s from zero h f =
+    let none : from ≡ from + 0 = omega arith in
+    ap (λ (k : ℕ). cut (drop k s)) none
+passed-pieces s from (suc m) h f =
+    let more : from + 1 + m ≡ from + suc m = omega arith in
+    cut-grow-at s from (omega arith) (f from (omega arith) (omega arith))
+    ∙ ap (grow (getD s from 0)) (passed-pieces s (from + 1) m (omega arith) (λ k a b. f k (omega arith) (omega arith)))
+    ∙ ap (λ (k : ℕ). grow (getD s from 0) (grown (take m (drop (from + 1) s)) (cut (drop k s)))) more
+    ∙ ap (λ (l : List ℕ). grown (take (suc m) l) (cut (drop (from + suc m) s))) (sym (drop-next s from (omega arith)))
 
-pub searched-start : (s : List ℕ) (from : ℕ) → from < length s → Searched s from from
-searched-start s from h = record {
-  order = omega arith;
-  inside = h;
-  pieces = ap (λ (l : List ℕ). grown l (cut (drop from s))) (sym (part-none s from));
-}
+pub no-break-pieces : {s : List ℕ} {from i : ℕ} → Nowhere breakAt s from i → cut (drop from s) ≡ grown (part s from i) (cut (drop i s))
+no-break-pieces {s} {from} {i} p =
+    let o : from ≤ i = p .order in
+    let end : from + (i - from) ≡ i = omega arith in
+    passed-pieces s from (i - from) (omega (arith, p .inside)) (λ k a b. p .none k a (omega arith))
+    ∙ ap (λ (k : ℕ). grown (part s from i) (cut (drop k s))) end
 
-pub searched-next : {s : List ℕ} {from i : ℕ} → Searched s from i → i + 1 < length s → breakAt s i ≡ false → Searched s from (i + 1)
-searched-next {s} {from} {i} p h e = record {
-  order = omega (arith, p .order);
-  inside = h;
-  pieces =
-      p .pieces
-      ∙ ap (grown (part s from i)) (cut-grow-at s i (p .inside) e)
-      ∙ sym (grown-snoc (part s from i) (getD s i 0) (cut (drop (i + 1) s)))
-      ∙ ap (λ (l : List ℕ). grown l (cut (drop (i + 1) s))) (sym (part-next s from i (p .order) (p .inside)));
-}
-
-pub searched-found : {s : List ℕ} {from i : ℕ} → Searched s from i → breakAt s i ≡ true → EndsAt s from (At i)
+pub searched-found : {s : List ℕ} {from i : ℕ} → Nowhere breakAt s from i → breakAt s i ≡ true → EndsAt s from (At i)
 unfolding EndsAt
 searched-found {s} {from} {i} p e = record {
   starts = p .order;
   inside = break-inside s i e;
   pieces =
-      p .pieces
+      no-break-pieces p
       ∙ ap (grown (part s from i)) (cut-break-at s i e)
       ∙ grown-line (part s from i) [] (cut (drop (i + 2) s))
       ∙ ap (λ (l : List ℕ). line l (cut (drop (i + 2) s))) (append-nil (part s from i));
 }
 
-pub searched-end : {s : List ℕ} {from i : ℕ} → Searched s from i → length s ≤ i + 1 → EndsAt s from Unended
-unfolding EndsAt cut
-searched-end {s} {from} {i} p h =
-    let one : drop i s ≡ getD s i 0 ∷ [] = drop-next s i (p .inside) ∙ ap (λ (l : List ℕ). getD s i 0 ∷ l) (drop-end s (i + 1) h) in
+-- at the end all bytes belong to one piece; the last byte alone begins no CR LF
+searched-all : {s : List ℕ} {from i : ℕ} → from < length s → Nowhere breakAt s from i → length s ≤ i → EndsAt s from Unended
+unfolding EndsAt
+searched-all {s} {from} {i} g p h =
+    let none : drop i s ≡ [] = drop-end s i h in
+    let first : drop from s ≡ getD s from 0 ∷ drop (from + 1) s = drop-next s from g in
+    let whole : part s from i ≡ drop from s =
+    sym (append-nil (part s from i)) ∙ ap (λ (l : List ℕ). part s from i ++ l) (sym none) ∙ part-rest s from i (p .order) in
     record {
-      starts = omega (arith, p .order, p .inside);
+      starts = g;
       pieces =
-          p .pieces
-          ∙ ap (λ (l : List ℕ). grown (part s from i) (cut l)) one
-          ∙ grown-unended (part s from i) (getD s i 0 ∷ [])
-          ∙ ap (λ (l : List ℕ). unended (part s from i ++ l)) (sym one)
-          ∙ ap unended (part-rest s from i (p .order));
+          no-break-pieces p
+          ∙ ap (λ (l : List ℕ). grown (part s from i) (cut l)) none
+          ∙ ap (grown (part s from i)) cut-none
+          ∙ ap (λ (l : List ℕ). grown l end) (whole ∙ first)
+          ∙ grown-end (getD s from 0) (drop (from + 1) s)
+          ∙ ap unended (sym first);
     }
+
+pub searched-end : {s : List ℕ} {from i : ℕ} → from < length s → Nowhere breakAt s from i → length s ≤ i + 1 → EndsAt s from Unended
+searched-end {s} {from} {i} g p h = go (ltb i (length s)) refl
+  where
+    go : (t : Bool) → ltb i (length s) ≡ t → EndsAt s from Unended
+    go true q = searched-all g (nowhere-next p (ltb-true i (length s) q) (not-so (breakAt s i) (λ e. omega (arith, break-inside s i e)))) h
+    go false q = searched-all g p (ltb-false i (length s) q)
 
 pub searched-none : (s : List ℕ) (from : ℕ) → length s ≤ from → EndsAt s from None
 unfolding EndsAt

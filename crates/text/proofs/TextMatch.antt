@@ -101,6 +101,13 @@ module _ (c : Collation) where
   unfolding startsAt
   startsAt-stop v t at i h k e = rw (drop-next t i h, drop-next v (at + i) k, ne-eqb _ _ (λ x. e (sym x)))
 
+  -- where the first bytes differ
+  pub startsAt-first : (v t : List ℕ) (at : ℕ) → 0 < length t → at < length v → (foldedBy c (getD v at 0) ≡ foldedBy c (getD t 0 0) → ⊥)
+      → startsAt c v t at ≡ false
+  unfolding startsAt
+  startsAt-first v [] at h k e = absurd (omega arith)
+  startsAt-first v (a ∷ t) at h k e = rw (drop-next v at k, ne-eqb _ _ (λ x. e (sym x)))
+
   pub startsAt-end : (v t : List ℕ) (at i : ℕ) → length t ≤ i → startsAt c v (drop i t) at ≡ true
   unfolding startsAt
   startsAt-end v t at i h = rw (drop-end t i h)

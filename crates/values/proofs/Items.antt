@@ -8,7 +8,7 @@ use lib.Dec.{ltb}
 use lib.ListN.{length, take, drop}
 use lib.Seq.{length-take-le}
 use Rattle.line.specs.Pieces.{firstOutside, nextPlace, before, piecesAfter, plainPieces}
-use Rattle.line.proofs.Pieces.{firstOutside-le, nextPlace-ge, nextPlace-le, pieces-from, piecesAfter-in, piecesAfter-out}
+use Rattle.line.proofs.Pieces.{firstOutside-le, nextPlace-ge, nextPlace-le, pieces-from, piecesAfter-in, piecesAfter-out, before-is}
 
 -- the item from a place up to the next separator
 abbrev pub itemAt : List ℕ → ℕ → ℕ → List ℕ
@@ -47,3 +47,7 @@ unfolding before
 cut-test sep s a e =
     ap (λ (x : List ℕ). ltb (length x) (length s)) e
     ∙ ap (λ (n : ℕ). ltb n (length s)) (length-take-le (firstOutside false sep false s) s (firstOutside-le false sep false s))
+
+-- up to the place of the separator stand the bytes before it
+pub taken-before : (sep : ℕ) (s : List ℕ) (k : ℕ) → k ≡ nextPlace false sep s 0 → take k s ≡ before false sep s
+taken-before sep s k q = ap (λ (i : ℕ). take i s) q ∙ before-is false sep s

@@ -1,16 +1,16 @@
 -- Periods: how each is cut, a list of them, how late one can be, and that what is written of one reads as that one.
-use Prim.Native.Nat.{ℕ, _+_, _≤_, _<_}
-use mathlib.Core.Path.{_≡_, refl, sym, ap, _∙_}
+use Prim.Native.Nat.{ℕ, _+_, _-_, _≤_, _<_}
+use mathlib.Core.Path.{_≡_, refl, sym, ap, _∙_, subst}
 use mathlib.Core.Bool.{Bool, true, false, cond, _&&_}
 use mathlib.Core.List.{List, [], _∷_, _++_, map}
 use native.Mathlib.Omega.{arith}
 use lib.Dec.{ltb}
-use lib.ListN.{length, drop, length-append}
+use lib.ListN.{length, take, drop, length-append}
 use borrow.Author.Tests.{lt-ltb, le-ltb, ltb-true}
 use Rattle.ascii.specs.Bytes.{isDigit}
 use Rattle.ascii.proofs.Bools.{clash}
 use Rattle.line.specs.Pieces.{firstOutside, nextPlace, before, after, piecesAfter, plainPieces}
-use Rattle.line.proofs.Pieces.{closed, closed-append, closed-class, pieces-one, before-closed, after-closed}
+use Rattle.line.proofs.Pieces.{closed, closed-append, closed-class, pieces-one, before-closed, after-closed, before-fits, after-part}
 use Rattle.time.specs.DateTime.{readDateTime}
 use Rattle.time.specs.Limits.{lastSecond}
 use Rattle.time.specs.Duration.{durationSeconds, readDuration}
@@ -27,7 +27,7 @@ use Rattle.time.proofs.Written.{utcText-bytes, read-written, second-written}
 use Rattle.values.specs.Period.{utcBy, utcAt, endBy, periodTo, periodFrom, periodOf, periodsIn, isPeriod, allPeriods, goodPeriods, DurationSmall, PeriodSmall}
 use Rattle.values.specs.declared.period.Period.{Period}
 use Rattle.values.specs.declared.period.PeriodRead.{PeriodRead}
-use Rattle.values.proofs.Items.{itemAt, item-first, item-more, item-last, cut-test}
+use Rattle.values.proofs.Items.{itemAt, item-first, item-more, item-last, cut-test, taken-before}
 
 -- ---- how late a period can be
 
@@ -94,6 +94,16 @@ periodOf-cut l a b e f h = rw (sym (cut-test 47 l a e) ∙ lt-ltb (length a) (le
 pub periodOf-uncut : (l a : List ℕ) → a ≡ before false 47 l → length l ≤ length a → PeriodRead.Bad ≡ periodOf l
 unfolding periodOf
 periodOf-uncut l a e h = rw (sym (cut-test 47 l a e) ∙ le-ltb (length a) (length l) h)
+
+-- the same by the place of the slash
+module _ (l : List ℕ) (k : ℕ) (q : k ≡ nextPlace false 47 l 0) where
+  pub periodOf-at : k < length l → periodFrom (utcAt (take k l)) (take (length l - (k + 1)) (drop (k + 1) l)) ≡ periodOf l
+  periodOf-at h =
+      periodOf-cut l (take k l) (take (length l - (k + 1)) (drop (k + 1) l)) (taken-before 47 l k q) (after-part false 47 l k q)
+      (subst (λ (i : ℕ). i < length l) (before-fits false 47 l k q) h)
+
+  pub periodOf-none : length l ≤ k → PeriodRead.Bad ≡ periodOf l
+  periodOf-none h = periodOf-uncut l (take k l) (taken-before 47 l k q) (subst (λ (i : ℕ). length l ≤ i) (before-fits false 47 l k q) h)
 
 -- ---- the loop over a list: every item before `from` is a period
 

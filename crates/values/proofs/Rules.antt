@@ -7,14 +7,15 @@ use native.Mathlib.Omega.{arith}
 use native.Mathlib.Numerals.{add-one}
 use native.Mathlib.Nat.{pow-suc}
 use lib.Dec.{eqb, ltb, leb}
-use lib.ListN.{length, drop, getD}
-use borrow.Author.Tests.{leb-true, ltb-true, ltb-false, eqb-false}
+use lib.ListN.{length, take, drop, getD}
+use borrow.Author.Tests.{leb-true, ltb-true, ltb-false, lt-ltb, le-ltb, eqb-false}
 use Rattle.ascii.specs.Bytes.{between, isDigit}
 use Rattle.ascii.specs.Names.{every, sameName, isName}
 use Rattle.ascii.specs.Words.{ascii}
 use Rattle.ascii.proofs.Bools.{inside, below, above, and-left, and-right}
 use Rattle.ascii.proofs.Lists.{drop-next, drop-end, every-next, every-stop, every-end}
 use Rattle.line.specs.Pieces.{firstOutside, nextPlace, before, after, plainPieces}
+use Rattle.line.proofs.Pieces.{nextPlace-first, after-part}
 use Rattle.time.proofs.Readers.{digit-range}
 use Rattle.time.specs.Limits.{lastSecond}
 use Rattle.time.specs.declared.date_time.Number.{Number}
@@ -30,7 +31,7 @@ use Rattle.values.specs.declared.rule.Rule.{Rule}
 use Rattle.values.specs.declared.rule.Part.{Part}
 use Rattle.values.specs.declared.rule.Parts.{Parts}
 use Rattle.values.specs.declared.rule.RuleRead.{RuleRead}
-use Rattle.values.proofs.Items.{itemAt, item-more, item-last, cut-test}
+use Rattle.values.proofs.Items.{itemAt, item-more, item-last, taken-before}
 use Rattle.values.proofs.Moments.{readTime-small}
 use Rattle.time.proofs.Tables as tables
 
@@ -119,20 +120,30 @@ digits-of most {l} {n} {i} h r e =
 
 -- ---- one part
 
--- the definition's test is the code's: y says whether n, what stands before the sign, is a name
-sign-test : (l n : List ℕ) (y : Bool) → n ≡ before false 61 l → y ≡ isName n
-    → (ltb (firstOutside false 61 false l) (length l) && isName (before false 61 l)) ≡ (ltb (length n) (length l) && y)
-sign-test l n y e i = rw (← e, ← i, cut-test 61 l n e)
+-- where there is no sign, the part is bad; k is the sign's place, or the end
+module _ (c : Context) (l : List ℕ) (k : ℕ) (q : k ≡ nextPlace false 61 l 0) where
+  sign-test : ltb (firstOutside false 61 false l) (length l) ≡ ltb k (length l)
+  sign-test = ap (λ (i : ℕ). ltb i (length l)) (sym (q ∙ nextPlace-first false 61 l))
 
-pub partOf-named : (c : Context) (l n v : List ℕ) (y : Bool) → n ≡ before false 61 l → v ≡ after false 61 l → y ≡ isName n
-    → (ltb (length n) (length l) && y) ≡ true → namedPart c n v ≡ partOf c l
-unfolding partOf
-partOf-named c l n v y e f i t = rw (sign-test l n y e i ∙ t, e, f)
+  pub partOf-unsigned : length l ≤ k → Part.Bad ≡ partOf c l
+  unfolding partOf
+  partOf-unsigned h = rw (sign-test ∙ le-ltb k (length l) h)
 
-pub partOf-unnamed : (c : Context) (l n : List ℕ) (y : Bool) → n ≡ before false 61 l → y ≡ isName n
-    → (ltb (length n) (length l) && y) ≡ false → Part.Bad ≡ partOf c l
-unfolding partOf
-partOf-unnamed c l n y e i t = rw (sign-test l n y e i ∙ t)
+  -- where there is one, y says whether a name stands before it
+  module _ (y : Bool) (h : k < length l) (i : y ≡ isName (take k l)) where
+    name-test : (ltb (firstOutside false 61 false l) (length l) && isName (before false 61 l)) ≡ y
+    name-test =
+        ap (λ (t : Bool). t && isName (before false 61 l)) (sign-test ∙ lt-ltb k (length l) h)
+        ∙ ap isName (sym (taken-before 61 l k q))
+        ∙ sym i
+
+    pub partOf-named : y ≡ true → namedPart c (take k l) (take (length l - (k + 1)) (drop (k + 1) l)) ≡ partOf c l
+    unfolding partOf
+    partOf-named t = rw (name-test ∙ t, taken-before 61 l k q, after-part false 61 l k q)
+
+    pub partOf-unnamed : y ≡ false → Part.Bad ≡ partOf c l
+    unfolding partOf
+    partOf-unnamed t = rw (name-test ∙ t)
 
 -- ---- the rule that the parts make
 

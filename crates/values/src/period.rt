@@ -94,9 +94,9 @@ fn period_from(start: &[u8], s: &[u8]) -> PeriodRead
 pub fn read_period(s: &[u8]) -> PeriodRead
     ensures { λ r. ⌜ r ≡ periodOf (now (s .entry)) ⌝ }
 {
-    let start = split::before(s, 47, false);
-    if start.len() < s.len() {
-        return period_from(start, split::after(s, 47, false));
+    let e = split::find(s, 0, 47, false);
+    if e < s.len() {
+        return period_from(&s[..e], &s[e + 1..]);
     }
     PeriodRead::Bad
 }

@@ -153,9 +153,13 @@ pub fn part_of(c: Context, s: &[u8]) -> Part
     requires { ⌜ c .shift ≤ 100800 ⌝ }
     ensures { λ r. ⌜ r ≡ partOf c (now (s .entry)) ⌝ }
 {
-    let name = split::before(s, 61, false);
-    if (name.len() < s.len()) & ascii::is_name(name) {
-        return named_part(c, name, split::after(s, 61, false));
+    let e = split::find(s, 0, 61, false);
+    if s.len() <= e {
+        return Part::Bad;
+    }
+    let name = &s[..e];
+    if ascii::is_name(name) {
+        return named_part(c, name, &s[e + 1..]);
     }
     Part::Bad
 }

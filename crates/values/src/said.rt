@@ -5,16 +5,22 @@ use crate::rule::Rule;
 use crate::rule::RuleRead;
 use crate::times;
 use crate::times::Context;
+use crate::times::Form;
 use crate::times::Time;
 use crate::times::TimeRead;
 use time::duration;
 use time::duration::Duration;
 use time::duration::DurationRead;
 ghost use mathlib.Core.Path.{_≡_};
-ghost use mathlib.Core.Bool.{cond};
-ghost use Prim.Native.Nat.{_≤_};
-ghost use Rattle.line.specs.Reading.{lineOf};
-ghost use Rattle.values.specs.Said.{isUnsupported, timesOr, eventProperty, freeBusyProperty, propertyOf, timeIn, startBy, endBy, unlessZoned};
+ghost use mathlib.Core.Bool.{cond, false};
+ghost use mathlib.Core.List.{List, []};
+ghost use Prim.Native.Nat.{ℕ, _≤_};
+ghost use lib.ListN.{getD};
+ghost use Rattle.ascii.specs.Bytes.{upper};
+ghost use Rattle.line.specs.Reading.{valueOf, lineOf};
+ghost use Rattle.values.specs.Times.{readTime, timeOf};
+ghost use Rattle.values.specs.Period.{periodsIn, allPeriods};
+ghost use Rattle.values.specs.Said.{propertyOf, timeIn, startBy, endBy, unlessZoned};
 ghost use Rattle.values.specs.Said.{durationBy, ruleSaid, statusNamed, busyNamed, busyOf, periodsSaid, saidBy, sayingOf};
 
 // The component that a line stands directly in.
@@ -71,66 +77,112 @@ pub enum Saying {
     HasPeriods(Busy),
 }
 
-// The one property where the test holds, else the other.
-fn property_or(test: bool, found: Property, other: Property) -> Property
-    ensures { λ r. ⌜ r ≡ cond test found other ⌝ }
+// The first byte, a to z read as A to Z; 0, where there is none.
+fn first_upper(s: &[u8]) -> u8
+    ensures { λ r. ⌜ r ≡ upper (getD (now (s .entry)) 0 0) ⌝ }
 {
-    if test { found } else { other }
+    if s.len() == 0 {
+        return 0;
+    }
+    ascii::upper(s[0])
 }
 
-fn is_unsupported(name: &[u8]) -> bool
-    ensures { λ r. ⌜ r ≡ isUnsupported (now (name .entry)) ⌝ }
+// Can a name that begins so be read in the component? Most lines need no more than this.
+fn may_be_read(scope: Scope, first: u8) -> bool
+    ensures { λ r. ⌜ (r ≡ false → (n : List ℕ) → upper (getD n 0 0) ≡ first → propertyOf scope n ≡ Property.Unread) ⌝ }
 {
-    ascii::same_name(name, b"RDATE")
-        | ascii::same_name(name, b"EXDATE")
-        | ascii::same_name(name, b"EXRULE")
-        | ascii::same_name(name, b"RECURRENCE-ID")
+    match scope {
+        Scope::Event => {
+            (first == 68) | (first == 69) | (first == 82) | (first == 83) | (first == 84)
+        }
+        Scope::FreeBusy => (first == 68) | (first == 70),
+        Scope::Other => false,
+    }
 }
 
-fn times_or(name: &[u8], other: Property) -> Property
-    ensures { λ r. ⌜ r ≡ timesOr (now (name .entry)) other ⌝ }
+// The property where the test holds.
+fn property_if(test: bool, found: Property) -> Property
+    ensures { λ r. ⌜ r ≡ cond test found Property.Unread ⌝ }
 {
-    property_or(
-        ascii::same_name(name, b"DTSTART"),
-        Property::Start,
-        property_or(ascii::same_name(name, b"DTEND"), Property::End, other),
-    )
+    if test { found } else { Property::Unread }
 }
 
-fn event_property(name: &[u8]) -> Property
-    ensures { λ r. ⌜ r ≡ eventProperty (now (name .entry)) ⌝ }
+// The words of a VEVENT that begin with D.
+fn event_d(name: &[u8]) -> Property
+    requires { ⌜ upper (getD (now name) 0 0) ≡ 68 ⌝ }
+    ensures { λ r. ⌜ r ≡ propertyOf Scope.Event (now (name .entry)) ⌝ }
 {
-    let other = property_or(
-        is_unsupported(name),
+    if ascii::same_name(name, b"DTSTART") {
+        return Property::Start;
+    }
+    if ascii::same_name(name, b"DTEND") {
+        return Property::End;
+    }
+    property_if(ascii::same_name(name, b"DURATION"), Property::Duration)
+}
+
+// Those that begin with E.
+fn event_e(name: &[u8]) -> Property
+    requires { ⌜ upper (getD (now name) 0 0) ≡ 69 ⌝ }
+    ensures { λ r. ⌜ r ≡ propertyOf Scope.Event (now (name .entry)) ⌝ }
+{
+    if ascii::same_name(name, b"EXDATE") {
+        return Property::Unsupported;
+    }
+    property_if(ascii::same_name(name, b"EXRULE"), Property::Unsupported)
+}
+
+// Those that begin with R.
+fn event_r(name: &[u8]) -> Property
+    requires { ⌜ upper (getD (now name) 0 0) ≡ 82 ⌝ }
+    ensures { λ r. ⌜ r ≡ propertyOf Scope.Event (now (name .entry)) ⌝ }
+{
+    if ascii::same_name(name, b"RRULE") {
+        return Property::Rule;
+    }
+    if ascii::same_name(name, b"RDATE") {
+        return Property::Unsupported;
+    }
+    property_if(
+        ascii::same_name(name, b"RECURRENCE-ID"),
         Property::Unsupported,
-        Property::Unread,
-    );
-    let transparency = property_or(
-        ascii::same_name(name, b"TRANSP"),
-        Property::Transparency,
-        other,
-    );
-    let status = property_or(
-        ascii::same_name(name, b"STATUS"),
-        Property::Status,
-        transparency,
-    );
-    let rule = property_or(ascii::same_name(name, b"RRULE"), Property::Rule, status);
-    property_or(
-        ascii::same_name(name, b"DURATION"),
-        Property::Duration,
-        rule,
     )
 }
 
-fn free_busy_property(name: &[u8]) -> Property
-    ensures { λ r. ⌜ r ≡ freeBusyProperty (now (name .entry)) ⌝ }
+// In a VEVENT: only the words that begin as the name does are tried.
+fn event_property(name: &[u8]) -> Property
+    ensures { λ r. ⌜ r ≡ propertyOf Scope.Event (now (name .entry)) ⌝ }
 {
-    property_or(
-        ascii::same_name(name, b"FREEBUSY"),
-        Property::Periods,
-        Property::Unread,
-    )
+    match first_upper(name) {
+        68 => event_d(name),
+        69 => event_e(name),
+        82 => event_r(name),
+        83 => property_if(ascii::same_name(name, b"STATUS"), Property::Status),
+        84 => property_if(ascii::same_name(name, b"TRANSP"), Property::Transparency),
+        _ => Property::Unread,
+    }
+}
+
+// The words of a VFREEBUSY that begin with D.
+fn free_busy_d(name: &[u8]) -> Property
+    requires { ⌜ upper (getD (now name) 0 0) ≡ 68 ⌝ }
+    ensures { λ r. ⌜ r ≡ propertyOf Scope.FreeBusy (now (name .entry)) ⌝ }
+{
+    if ascii::same_name(name, b"DTSTART") {
+        return Property::Start;
+    }
+    property_if(ascii::same_name(name, b"DTEND"), Property::End)
+}
+
+// In a VFREEBUSY, the same way.
+fn free_busy_property(name: &[u8]) -> Property
+    ensures { λ r. ⌜ r ≡ propertyOf Scope.FreeBusy (now (name .entry)) ⌝ }
+{
+    match first_upper(name) {
+        68 => free_busy_d(name),
+        70 => property_if(ascii::same_name(name, b"FREEBUSY"), Property::Periods),
+        _ => Property::Unread,
+    }
 }
 
 // The property that a name is, directly in the component.
@@ -138,8 +190,8 @@ pub fn property_of(scope: Scope, name: &[u8]) -> Property
     ensures { λ r. ⌜ r ≡ propertyOf scope (now (name .entry)) ⌝ }
 {
     match scope {
-        Scope::Event => times_or(name, event_property(name)),
-        Scope::FreeBusy => times_or(name, free_busy_property(name)),
+        Scope::Event => event_property(name),
+        Scope::FreeBusy => free_busy_property(name),
         Scope::Other => Property::Unread,
     }
 }
@@ -153,6 +205,23 @@ fn time_in(scope: Scope, r: TimeRead) -> TimeRead
         Scope::FreeBusy => times::utc_only(r),
         Scope::Other => r,
     }
+}
+
+// The time of a line without parameters, whose value is v: a DATE-TIME.
+fn plain_time(c: Context, scope: Scope, v: &[u8]) -> TimeRead
+    requires { ⌜ c .shift ≤ 100800 ⌝ }
+    ensures { λ r. ⌜ r ≡ timeIn scope (readTime c Form.DateTime (now (v .entry))) ⌝ }
+{
+    time_in(scope, times::read_time(c, Form::DateTime, v))
+}
+
+// The time of a line whose value is v, in the form that VALUE asks for.
+fn time_of(c: Context, scope: Scope, line: &[u8], v: &[u8]) -> TimeRead
+    requires { ⌜ c .shift ≤ 100800 ⌝ }
+    requires { ⌜ now v ≡ valueOf (now line) ⌝ }
+    ensures { λ r. ⌜ r ≡ timeIn scope (timeOf c (lineOf (now (line .entry)))) ⌝ }
+{
+    time_in(scope, times::read_time(c, times::form_of(line), v))
 }
 
 fn start_by(r: TimeRead) -> Saying
@@ -239,8 +308,9 @@ pub fn busy_of(line: &[u8]) -> Busy
     busy_named(line::read::first_value(line, b"FBTYPE"))
 }
 
-// FREEBUSY: FBTYPE twice or as a list is bad, and so is any bad period.
-pub fn periods_said(line: &[u8]) -> Saying
+// FREEBUSY: FBTYPE twice or as a list is bad, and so is any bad period. The line's value is v.
+fn periods_said(line: &[u8], v: &[u8]) -> Saying
+    requires { ⌜ now v ≡ valueOf (now line) ⌝ }
     ensures { λ r. ⌜ r ≡ periodsSaid (lineOf (now (line .entry))) ⌝ }
 {
     let u = line::read::usage_of(line, b"FBTYPE");
@@ -249,36 +319,89 @@ pub fn periods_said(line: &[u8]) -> Saying
     if (1 < times) | listed {
         return Saying::Bad;
     }
-    if period::all_periods(line::read::value(line)) {
+    if period::all_periods(v) {
         return Saying::HasPeriods(busy_of(line));
     }
     Saying::Bad
 }
 
-// What a line says as the property.
-fn said_by(property: Property, c: Context, scope: Scope, line: &[u8]) -> Saying
+// What a line says as the property. Its value is v.
+fn said_by(property: Property, c: Context, scope: Scope, line: &[u8], v: &[u8]) -> Saying
     requires { ⌜ c .shift ≤ 100800 ⌝ }
+    requires { ⌜ now v ≡ valueOf (now line) ⌝ }
     ensures { λ r. ⌜ r ≡ saidBy property c scope (lineOf (now (line .entry))) ⌝ }
 {
     match property {
-        Property::Start => unless_zoned(line, start_by(time_in(scope, times::time_of(c, line)))),
-        Property::End => unless_zoned(line, end_by(time_in(scope, times::time_of(c, line)))),
-        Property::Duration => duration_by(duration::read_duration(line::read::value(line))),
-        Property::Rule => rule_said(rule::rule_of(c, line::read::value(line))),
-        Property::Status => Saying::HasStatus(status_named(line::read::value(line))),
-        Property::Transparency => {
-            Saying::Transparent(ascii::same_name(line::read::value(line), b"TRANSPARENT"))
-        }
-        Property::Periods => periods_said(line),
+        Property::Start => unless_zoned(line, start_by(time_of(c, scope, line, v))),
+        Property::End => unless_zoned(line, end_by(time_of(c, scope, line, v))),
+        Property::Duration => duration_by(duration::read_duration(v)),
+        Property::Rule => rule_said(rule::rule_of(c, v)),
+        Property::Status => Saying::HasStatus(status_named(v)),
+        Property::Transparency => Saying::Transparent(ascii::same_name(v, b"TRANSPARENT")),
+        Property::Periods => periods_said(line, v),
         Property::Unsupported => Saying::Unsupported,
         Property::Unread => Saying::Nothing,
     }
 }
 
-// What a line says, directly in the component.
+// The same, where the value has not been looked for yet: a line that is not read needs none.
+fn value_said(property: Property, c: Context, scope: Scope, line: &[u8]) -> Saying
+    requires { ⌜ c .shift ≤ 100800 ⌝ }
+    ensures { λ r. ⌜ r ≡ saidBy property c scope (lineOf (now (line .entry))) ⌝ }
+{
+    match property {
+        Property::Unread => Saying::Nothing,
+        _ => said_by(property, c, scope, line, line::read::value(line)),
+    }
+}
+
+// FREEBUSY without parameters: busy, where all are periods.
+fn plain_periods(v: &[u8]) -> Saying
+    ensures { λ r. ⌜ r ≡ cond (allPeriods (periodsIn (now (v .entry)))) (Saying.HasPeriods Busy.Busy) Saying.Bad ⌝ }
+{
+    if period::all_periods(v) {
+        Saying::HasPeriods(Busy::Busy)
+    } else {
+        Saying::Bad
+    }
+}
+
+// What a line without parameters says as the property: none is looked for.
+fn plain_said(property: Property, c: Context, scope: Scope, line: &[u8], v: &[u8]) -> Saying
+    requires { ⌜ c .shift ≤ 100800 ⌝ }
+    requires { ⌜ lineOf (now line) .parameters ≡ [] ⌝ }
+    requires { ⌜ now v ≡ valueOf (now line) ⌝ }
+    ensures { λ r. ⌜ r ≡ saidBy property c scope (lineOf (now (line .entry))) ⌝ }
+{
+    match property {
+        Property::Start => start_by(plain_time(c, scope, v)),
+        Property::End => end_by(plain_time(c, scope, v)),
+        Property::Periods => plain_periods(v),
+        _ => said_by(property, c, scope, line, v),
+    }
+}
+
+// What a line says by its name, whatever its first byte.
+pub fn saying_read(c: Context, scope: Scope, line: &[u8]) -> Saying
+    requires { ⌜ c .shift ≤ 100800 ⌝ }
+    ensures { λ r. ⌜ r ≡ sayingOf c scope (lineOf (now (line .entry))) ⌝ }
+{
+    let name = line::read::name(line);
+    let n = name.len();
+    let property = property_of(scope, name);
+    if line::read::is_plain(line, n) {
+        return plain_said(property, c, scope, line, &line[n + 1..]);
+    }
+    value_said(property, c, scope, line)
+}
+
+// What a line says, directly in the component. Only its first byte is asked here, so that this much can stand in the loops over lines.
 pub fn saying_of(c: Context, scope: Scope, line: &[u8]) -> Saying
     requires { ⌜ c .shift ≤ 100800 ⌝ }
     ensures { λ r. ⌜ r ≡ sayingOf c scope (lineOf (now (line .entry))) ⌝ }
 {
-    said_by(property_of(scope, line::read::name(line)), c, scope, line)
+    if !may_be_read(scope, first_upper(line)) {
+        return Saying::Nothing;
+    }
+    saying_read(c, scope, line)
 }

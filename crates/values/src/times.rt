@@ -7,7 +7,7 @@ use time::limits::Second;
 ghost use mathlib.Core.Path.{_≡_};
 ghost use Prim.Native.Nat.{_≤_};
 ghost use Rattle.line.specs.Reading.{lineOf};
-ghost use Rattle.values.specs.Times.{atSecond, timeBy, readTime, formNamed, formOf, timeOf, utcOnly};
+ghost use Rattle.values.specs.Times.{atSecond, timeBy, readTime, formNamed, formOf, utcOnly};
 
 // What values are read by: today the offset, as 50,400 more than it.
 pub struct Context {
@@ -92,14 +92,6 @@ pub fn read_time(c: Context, form: Form, s: &[u8]) -> TimeRead
         Form::Date => time_by(c, date_time::read_date(s)),
         Form::Wrong => TimeRead::Bad,
     }
-}
-
-// The time that a line gives.
-pub fn time_of(c: Context, line: &[u8]) -> TimeRead
-    requires { ⌜ c .shift ≤ 100800 ⌝ }
-    ensures { λ r. ⌜ r ≡ timeOf c (lineOf (now (line .entry))) ⌝ }
-{
-    read_time(c, form_of(line), line::read::value(line))
 }
 
 // A UTC time as it is, any other is bad.

@@ -5,6 +5,7 @@ use Rattle.ascii.specs.Names.{sameName}
 use lib.ListN.{length, drop}
 use Prim.Native.Nat.{ℕ, _≤_, _<_, _-_}
 use native.Mathlib.Omega.{arith}
+use borrow.Author.Tests.{eqb-true, eqb-false, not-true, not-false}
 use borrow.Author.Needs.{needs}
 use Rattle.ascii.proofs.same_name.Statement.{statement}
 use Rattle.ascii.proofs.same_name.Tie as tie
@@ -21,20 +22,21 @@ returns c = sym (sameName-length _ _ (c .if1 .taken))
 loop-holds : tie.Need-loop-holds Inv-loop μ-loop
 loop-holds c = (omega arith, omega arith, refl)
 
-shared-slice-read-upper : tie.Need-shared-slice-read-upper Inv-loop μ-loop
-shared-slice-read-upper c = omega arith
+shared-slice-read-same-byte : tie.Need-shared-slice-read-same-byte Inv-loop μ-loop
+shared-slice-read-same-byte c = omega arith
 
-upper-requires : tie.Need-upper-requires Inv-loop μ-loop
-upper-requires c κs = search needs
+shared-slice-read-same-byte-2 : tie.Need-shared-slice-read-same-byte-2 Inv-loop μ-loop
+shared-slice-read-same-byte-2 c = omega arith
 
-shared-slice-read-upper-2 : tie.Need-shared-slice-read-upper-2 Inv-loop μ-loop
-shared-slice-read-upper-2 c = omega arith
-
-upper-requires-2 : tie.Need-upper-requires-2 Inv-loop μ-loop
-upper-requires-2 c κs = search needs
+same-byte-requires : tie.Need-same-byte-requires Inv-loop μ-loop
+same-byte-requires c κs = search needs
 
 returns-2 : tie.Need-returns-2 Inv-loop μ-loop
-returns-2 c = sym (sym (c .before .before .before .before .before .before .loop .inv .2) ∙ sameName-stop _ _ _ (c .before .before .before .before .before .loop-test .taken) (subst (λ (n : ℕ). c .before .before .before .before .before .before .loop .i < n) (c .before .before .before .before .before .before .loop .inv .1) (c .before .before .before .before .before .loop-test .taken)) (λ e. c .if2 .taken (c .before .before .before .upper .ensures ∙ e ∙ sym (c .before .upper2 .ensures))))
+returns-2 c =
+    let i = c .before .before .before .before .before .loop .i in
+    let h = c .before .before .before .before .before .loop .inv in
+    let k = c .before .before .before .before .loop-test .taken in
+    sym (sym (h .2) ∙ sameName-stop _ _ _ k (subst (λ (n : ℕ). i < n) (h .1) k) (eqb-false _ _ (sym (c .before .same-byte .ensures) ∙ not-true _ (c .if2 .taken))))
 
 add-i : tie.Need-add-i Inv-loop μ-loop
 add-i c = omega arith
@@ -43,7 +45,14 @@ loop-less : tie.Need-loop-less Inv-loop μ-loop
 loop-less c = omega arith
 
 loop-again : tie.Need-loop-again Inv-loop μ-loop
-loop-again c = (omega arith, c .before .before .before .before .before .before .loop .inv .1, sameName-next _ _ _ (c .before .before .before .before .before .loop-test .taken) (subst (λ (n : ℕ). c .before .before .before .before .before .before .loop .i < n) (c .before .before .before .before .before .before .loop .inv .1) (c .before .before .before .before .before .loop-test .taken)) (sym (c .before .before .before .upper .ensures) ∙ c .if2 .left ∙ c .before .upper2 .ensures) ∙ c .before .before .before .before .before .before .loop .inv .2)
+loop-again c =
+    let i = c .before .before .before .before .before .loop .i in
+    let h = c .before .before .before .before .before .loop .inv in
+    let k = c .before .before .before .before .loop-test .taken in (
+      omega arith,
+      h .1,
+      sameName-next _ _ _ k (subst (λ (n : ℕ). i < n) (h .1) k) (eqb-true _ _ (sym (c .before .same-byte .ensures) ∙ not-false _ (c .if2 .left))) ∙ h .2,
+    )
 
 returns-3 : tie.Need-returns-3 Inv-loop μ-loop
 returns-3 c = sym (sameName-end _ _ _ (c .loop-test .left) (subst (λ (n : ℕ). n ≤ c .before .loop .i) (c .before .loop .inv .1) (c .loop-test .left))) ∙ c .before .loop .inv .2
@@ -56,10 +65,9 @@ same-name-spec =
     μ-loop
     returns
     loop-holds
-    shared-slice-read-upper
-    upper-requires
-    shared-slice-read-upper-2
-    upper-requires-2
+    shared-slice-read-same-byte
+    shared-slice-read-same-byte-2
+    same-byte-requires
     returns-2
     add-i
     loop-less

@@ -8,8 +8,8 @@ use borrow.Author.Needs.{needs}
 use Rattle.nesting.proofs.begins_calendar.Statement.{statement}
 use Rattle.nesting.proofs.begins_calendar.Tie as tie
 
-mark-of-requires : tie.Need-mark-of-requires
-mark-of-requires c κs = search needs
+mark-named-requires : tie.Need-mark-named-requires
+mark-named-requires c κs = search needs
 
 enum-told : tie.Need-enum-told
 enum-told c = search needs
@@ -34,25 +34,25 @@ enum-told-4 c = search needs
 
 returns : tie.Need-returns
 unfolding beginsCalendar lineOf
-returns c = begins-yes _ (c .before .before .before .before .before .mark-of .ensures) (c .before .before .value .ensures) (c .before .before .before .enum-told .given .1) (c .same-name .ensures)
+returns c = begins-yes _ (c .before .before .before .before .before .mark-named .ensures) (c .before .before .value .ensures) (c .before .before .before .enum-told .given .1) (c .same-name .ensures)
 
 returns-2 : tie.Need-returns-2
 unfolding beginsCalendar lineOf
-returns-2 c = begins-no _ Ends (c .before .before .mark-of .ensures) (c .enum-told2 .given .1) refl
+returns-2 c = begins-no _ Ends (c .before .before .mark-named .ensures) (c .enum-told2 .given .1) refl
 
 returns-3 : tie.Need-returns-3
 unfolding beginsCalendar lineOf
-returns-3 c = begins-no _ Property (c .before .before .mark-of .ensures) (c .enum-told3 .given .1) refl
+returns-3 c = begins-no _ Property (c .before .before .mark-named .ensures) (c .enum-told3 .given .1) refl
 
 returns-4 : tie.Need-returns-4
 unfolding beginsCalendar lineOf
-returns-4 c = begins-no _ Wrong (c .before .before .mark-of .ensures) (c .enum-told4 .given .1) refl
+returns-4 c = begins-no _ Wrong (c .before .before .mark-named .ensures) (c .enum-told4 .given .1) refl
 
 pub begins-calendar-spec : {M : Type 1} → statement M
 begins-calendar-spec =
     tie.close
     (tie.spec
-    mark-of-requires
+    mark-named-requires
     enum-told
     value-requires
     slice-aggregate-same-name

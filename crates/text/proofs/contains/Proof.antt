@@ -19,11 +19,11 @@ loop-holds c = sought-start _ _ _
 sub-loop : tie.Need-sub-loop Inv-loop μ-loop
 sub-loop c = omega arith
 
-starts-at-requires : tie.Need-starts-at-requires Inv-loop μ-loop
-starts-at-requires c κs = omega arith
+found-at-requires : tie.Need-found-at-requires Inv-loop μ-loop
+found-at-requires c κs = omega arith
 
 returns : tie.Need-returns Inv-loop μ-loop
-returns c = sym (sought-found _ (c .before .before .before .loop .inv) (sym (c .before .starts-at .ensures) ∙ c .if1 .taken))
+returns c = sym (sought-found _ (c .before .before .before .loop .inv) (sym (c .before .found-at .ensures) ∙ c .if1 .taken))
 
 add-at : tie.Need-add-at Inv-loop μ-loop
 add-at c = omega arith
@@ -32,7 +32,7 @@ loop-less : tie.Need-loop-less Inv-loop μ-loop
 loop-less c = omega arith
 
 loop-again : tie.Need-loop-again Inv-loop μ-loop
-loop-again c = sought-next _ (c .before .before .before .loop .inv) (omega arith) (sym (c .before .starts-at .ensures) ∙ c .if1 .left)
+loop-again c = sought-next _ (c .before .before .before .loop .inv) (omega arith) (sym (c .before .found-at .ensures) ∙ c .if1 .left)
 
 returns-2 : tie.Need-returns-2 Inv-loop μ-loop
 returns-2 c = sym (sought-end _ (c .before .loop .inv) (omega arith))
@@ -45,7 +45,7 @@ contains-spec =
     μ-loop
     loop-holds
     sub-loop
-    starts-at-requires
+    found-at-requires
     returns
     add-at
     loop-less

@@ -1,13 +1,11 @@
--- The checks stand in the order of the definition.
-use Rattle.calendar.specs.Meaning.{meaningOf, byLines, byNesting, faultOf}
-use Rattle.calendar.proofs.Meanings.{nesting-file}
-use mathlib.Core.Path.{sym, _∙_}
+-- The structure is asked before the contents, as in the definition.
+use Rattle.calendar.proofs.Checking.{structure-fault, contents-fault}
 use borrow.Author.Needs.{needs}
 use Rattle.calendar.proofs.faults.check_calendar.Statement.{statement}
 use Rattle.calendar.proofs.faults.check_calendar.Tie as tie
 
-check-lines-requires : tie.Need-check-lines-requires
-check-lines-requires c κs = search needs
+check-structure-requires : tie.Need-check-structure-requires
+check-structure-requires c κs = search needs
 
 enum-known-n : tie.Need-enum-known-n
 enum-known-n c = search needs
@@ -15,41 +13,22 @@ enum-known-n c = search needs
 enum-told : tie.Need-enum-told
 enum-told c = search needs
 
-check-nesting-requires : tie.Need-check-nesting-requires
-check-nesting-requires c κs = search needs
-
-enum-known-n-2 : tie.Need-enum-known-n-2
-enum-known-n-2 c = search needs
-
-enum-told-2 : tie.Need-enum-told-2
-enum-told-2 c = search needs
-
 check-contents-requires : tie.Need-check-contents-requires
 check-contents-requires c κs = search needs
 
 returns : tie.Need-returns
-unfolding meaningOf byLines faultOf
-returns c = rw (sym (c .before .before .before .check-lines .ensures) ∙ c .before .n .given .1)
+returns c = structure-fault _ _ _ _ (c .before .before .before .check-structure .ensures) (c .before .n .given .1)
 
 returns-2 : tie.Need-returns-2
-unfolding meaningOf byLines byNesting faultOf
-returns-2 c = rw (sym (c .before .before .before .before .before .before .check-lines .ensures) ∙ c .before .before .before .before .enum-told .given .1, sym (nesting-file _) ∙ sym (c .before .before .before .check-nesting .ensures) ∙ c .before .n2 .given .1)
-
-returns-3 : tie.Need-returns-3
-unfolding meaningOf byLines byNesting
-returns-3 c = rw (sym (c .before .before .before .before .before .before .check-lines .ensures) ∙ c .before .before .before .before .enum-told .given .1, sym (nesting-file _) ∙ sym (c .before .before .before .check-nesting .ensures) ∙ c .before .enum-told2 .given .1) (c .check-contents .ensures)
+returns-2 c = contents-fault _ _ (c .before .before .before .check-structure .ensures) (c .before .enum-told .given .1) (c .check-contents .ensures)
 
 pub check-calendar-spec : {M : Type 1} → statement M
 check-calendar-spec =
     tie.close
     (tie.spec
-    check-lines-requires
+    check-structure-requires
     enum-known-n
     enum-told
-    check-nesting-requires
-    enum-known-n-2
-    enum-told-2
     check-contents-requires
     returns
-    returns-2
-    returns-3)
+    returns-2)

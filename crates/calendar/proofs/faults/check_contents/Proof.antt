@@ -1,59 +1,39 @@
--- Values are asked before rules, as in the definition.
-use Rattle.calendar.specs.Meaning.{contentsOf, byValues, byRules, faultOf}
-use mathlib.Core.Path.{sym, _∙_}
+-- The components of the file are those right below its first component.
+use Rattle.calendar.proofs.Loops.{below-at, none-below}
+use Rattle.calendar.proofs.Checking.{contents-checked, contents-none}
 use borrow.Author.Needs.{needs}
 use Rattle.calendar.proofs.faults.check_contents.Statement.{statement}
 use Rattle.calendar.proofs.faults.check_contents.Tie as tie
 
-check-values-requires : tie.Need-check-values-requires
-check-values-requires c κs = search needs
+items-below-requires : tie.Need-items-below-requires
+items-below-requires c κs = search needs
 
-enum-known-n : tie.Need-enum-known-n
-enum-known-n c = search needs
+enum-known-at : tie.Need-enum-known-at
+enum-known-at c = search needs
 
-enum-known-n-2 : tie.Need-enum-known-n-2
-enum-known-n-2 c = search needs
+check-from-requires : tie.Need-check-from-requires
+check-from-requires c κs = let h = below-at _ _ (c .before .before .before .items-below .ensures) (c .before .at .given .1) in (c .before .before .before .before .before .pre, h .within, h .counted)
+
+fault-by-requires : tie.Need-fault-by-requires
+fault-by-requires c κs = search needs
 
 enum-told : tie.Need-enum-told
 enum-told c = search needs
 
-check-rules-requires : tie.Need-check-rules-requires
-check-rules-requires c κs = search needs
-
-enum-told-2 : tie.Need-enum-told-2
-enum-told-2 c = search needs
-
-enum-known-n-3 : tie.Need-enum-known-n-3
-enum-known-n-3 c = search needs
-
 returns : tie.Need-returns
-unfolding contentsOf byValues faultOf
-returns c = rw (sym (c .before .before .before .check-values .ensures) ∙ c .before .n .given .1)
+returns c = contents-checked _ (below-at _ _ (c .before .before .before .before .before .items-below .ensures) (c .before .before .before .at .given .1)) (c .before .check-from .ensures) (c .fault-by .ensures)
 
 returns-2 : tie.Need-returns-2
-unfolding contentsOf byValues faultOf
-returns-2 c = rw (sym (c .before .before .before .check-values .ensures) ∙ c .before .n2 .given .1)
-
-returns-3 : tie.Need-returns-3
-unfolding contentsOf byValues byRules faultOf
-returns-3 c = rw (sym (c .before .before .before .before .before .check-values .ensures) ∙ c .before .before .before .enum-told .given .1, sym (c .before .before .check-rules .ensures) ∙ c .enum-told2 .given .1)
-
-returns-4 : tie.Need-returns-4
-unfolding contentsOf byValues byRules faultOf
-returns-4 c = rw (sym (c .before .before .before .before .before .before .check-values .ensures) ∙ c .before .before .before .before .enum-told .given .1, sym (c .before .before .before .check-rules .ensures) ∙ c .before .n3 .given .1)
+returns-2 c = contents-none _ (none-below (c .before .before .items-below .ensures) (c .enum-told .given .1))
 
 pub check-contents-spec : {M : Type 1} → statement M
 check-contents-spec =
     tie.close
     (tie.spec
-    check-values-requires
-    enum-known-n
-    enum-known-n-2
+    items-below-requires
+    enum-known-at
+    check-from-requires
+    fault-by-requires
     enum-told
-    check-rules-requires
-    enum-told-2
-    enum-known-n-3
     returns
-    returns-2
-    returns-3
-    returns-4)
+    returns-2)

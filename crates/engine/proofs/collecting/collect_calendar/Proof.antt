@@ -1,4 +1,4 @@
--- The pieces are noted from the unfolded calendar, once it has no fault.
+-- Structure and contents are asked of the part of the buffer that unfolding wrote.
 use Rattle.text.proofs.Unfolding.{unfolded-room}
 use Rattle.engine.proofs.Passing.{unfolded-long}
 use Rattle.engine.proofs.CollectCalls.{calendar-refuses, calendar-passes}
@@ -6,8 +6,17 @@ use borrow.Author.Needs.{needs}
 use Rattle.engine.proofs.collecting.collect_calendar.Statement.{statement}
 use Rattle.engine.proofs.collecting.collect_calendar.Tie as tie
 
-read-calendar-requires : tie.Need-read-calendar-requires
-read-calendar-requires c κs = search needs
+unfold-into-requires : tie.Need-unfold-into-requires
+unfold-into-requires c κs = search needs
+
+slice-reshare-prefix-check-structure : tie.Need-slice-reshare-prefix-check-structure
+slice-reshare-prefix-check-structure c = unfolded-room (c .before .before .unfold-into .ensures)
+
+slice-aggregate-check-structure : tie.Need-slice-aggregate-check-structure
+slice-aggregate-check-structure c = unfolded-long (c .before .before .before .unfold-into .ensures)
+
+check-structure-requires : tie.Need-check-structure-requires
+check-structure-requires c κs = search needs
 
 enum-known-f : tie.Need-enum-known-f
 enum-known-f c = search needs
@@ -18,38 +27,41 @@ refused-requires c κs = search needs
 enum-told : tie.Need-enum-told
 enum-told c = search needs
 
-slice-reshare-prefix-collect-pieces : tie.Need-slice-reshare-prefix-collect-pieces
-slice-reshare-prefix-collect-pieces c = unfolded-room (c .before .before .before .before .read-calendar .ensures .unfolds)
+slice-reshare-prefix-collect-contents : tie.Need-slice-reshare-prefix-collect-contents
+slice-reshare-prefix-collect-contents c = unfolded-room (c .before .before .before .before .before .before .unfold-into .ensures)
 
-slice-aggregate-collect-pieces : tie.Need-slice-aggregate-collect-pieces
-slice-aggregate-collect-pieces c = unfolded-long (c .before .before .before .before .before .read-calendar .ensures .unfolds)
+slice-aggregate-collect-contents : tie.Need-slice-aggregate-collect-contents
+slice-aggregate-collect-contents c = unfolded-long (c .before .before .before .before .before .before .before .unfold-into .ensures)
 
-collect-pieces-requires : tie.Need-collect-pieces-requires
-collect-pieces-requires c κs = search needs
+collect-contents-requires : tie.Need-collect-contents-requires
+collect-contents-requires c κs = search needs
 
 same-length : tie.Need-same-length
 same-length c = search needs
 
 returns : tie.Need-returns
-returns c = calendar-refuses (c .before .before .before .before .before .before .read-calendar .ensures) _ _ (c .before .before .f .given .1) (c .refused .ensures)
+returns c = calendar-refuses (c .before .before .before .before .before .before .before .before .unfold-into .ensures) (c .before .before .before .before .check-structure .ensures) _ _ _ (c .before .before .f .given .1) (c .refused .ensures)
 
 same-length-2 : tie.Need-same-length-2
 same-length-2 c = search needs
 
 returns-2 : tie.Need-returns-2
-returns-2 c = calendar-passes (c .before .before .before .before .before .before .read-calendar .ensures) _ _ (c .before .before .enum-told .given .1) (c .collect-pieces .ensures)
+returns-2 c = calendar-passes (c .before .before .before .before .before .before .before .before .unfold-into .ensures) (c .before .before .before .before .check-structure .ensures) _ _ _ (c .before .before .enum-told .given .1) (c .collect-contents .ensures)
 
 pub collect-calendar-spec : {M : Type 1} → statement M
 collect-calendar-spec =
     tie.close
     (tie.spec
-    read-calendar-requires
+    unfold-into-requires
+    slice-reshare-prefix-check-structure
+    slice-aggregate-check-structure
+    check-structure-requires
     enum-known-f
     refused-requires
     enum-told
-    slice-reshare-prefix-collect-pieces
-    slice-aggregate-collect-pieces
-    collect-pieces-requires
+    slice-reshare-prefix-collect-contents
+    slice-aggregate-collect-contents
+    collect-contents-requires
     same-length
     returns
     same-length-2

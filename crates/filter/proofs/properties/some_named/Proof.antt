@@ -2,6 +2,7 @@
 use Rattle.filter.specs.Tests.{someNamed}
 use Rattle.filter.proofs.Properly.{named-lines, named-line}
 use Prim.Native.Nat.{_-_}
+use mathlib.Core.Path.{refl}
 use lib.ListN.{length}
 use Rattle.nesting.proofs.Stepping.{property-at, inner-at, no-item-at}
 use Rattle.filter.proofs.Lines.{Seeking, seeking-start, seeking-next, seeking-found, seeking-inner, seeking-end}
@@ -25,29 +26,26 @@ next-item-requires c κs = search needs
 enum-known-e : tie.Need-enum-known-e Inv-loop μ-loop
 enum-known-e c = search needs
 
-sub-name : tie.Need-sub-name Inv-loop μ-loop
-sub-name c = let h = property-at _ _ (c .before .before .before .next-item .ensures) (c .before .e .given .1) in omega (arith, h .line .starts, h .line .ends, h .line .inside)
+sub-is-called : tie.Need-sub-is-called Inv-loop μ-loop
+sub-is-called c = let h = property-at _ _ (c .before .before .before .next-item .ensures) (c .before .e .given .1) in omega (arith, h .line .starts, h .line .ends, h .line .inside)
 
-part-name-start : tie.Need-part-name-start Inv-loop μ-loop
-part-name-start c = let h = property-at _ _ (c .before .before .before .next-item .ensures) (c .before .e .given .1) in omega (arith, h .line .starts, h .line .ends, h .line .inside)
+part-is-called-start : tie.Need-part-is-called-start Inv-loop μ-loop
+part-is-called-start c = let h = property-at _ _ (c .before .before .before .next-item .ensures) (c .before .e .given .1) in omega (arith, h .line .starts, h .line .ends, h .line .inside)
 
-part-name-end : tie.Need-part-name-end Inv-loop μ-loop
-part-name-end c = let h = property-at _ _ (c .before .before .before .next-item .ensures) (c .before .e .given .1) in omega (arith, h .line .starts, h .line .ends, h .line .inside)
+part-is-called-end : tie.Need-part-is-called-end Inv-loop μ-loop
+part-is-called-end c = let h = property-at _ _ (c .before .before .before .next-item .ensures) (c .before .e .given .1) in omega (arith, h .line .starts, h .line .ends, h .line .inside)
 
-name-requires : tie.Need-name-requires Inv-loop μ-loop
-name-requires c κs = search needs
-
-same-name-requires : tie.Need-same-name-requires Inv-loop μ-loop
-same-name-requires c κs = search needs
+is-called-requires : tie.Need-is-called-requires Inv-loop μ-loop
+is-called-requires c κs = search needs
 
 returns : tie.Need-returns Inv-loop μ-loop
-returns c = seeking-found (named-lines _) (c .before .before .before .before .before .before .before .before .loop .inv) (property-at _ _ (c .before .before .before .before .before .before .before .next-item .ensures) (c .before .before .before .before .before .e .given .1)) (named-line _ _ (c .before .before .name .ensures) (c .before .same-name .ensures)) (c .if1 .taken)
+returns c = seeking-found (named-lines _) (c .before .before .before .before .before .before .before .loop .inv) (property-at _ _ (c .before .before .before .before .before .before .next-item .ensures) (c .before .before .before .before .e .given .1)) (named-line _ _ refl (c .before .is-called .ensures)) (c .if1 .taken)
 
 loop-less : tie.Need-loop-less Inv-loop μ-loop
-loop-less c = let h = property-at _ _ (c .before .before .before .before .before .before .before .next-item .ensures) (c .before .before .before .before .before .e .given .1) in omega (arith, h .line .goes-on, h .line .inside)
+loop-less c = let h = property-at _ _ (c .before .before .before .before .before .before .next-item .ensures) (c .before .before .before .before .e .given .1) in omega (arith, h .line .goes-on, h .line .inside)
 
 loop-again : tie.Need-loop-again Inv-loop μ-loop
-loop-again c = seeking-next (named-lines _) (c .before .before .before .before .before .before .before .before .loop .inv) (property-at _ _ (c .before .before .before .before .before .before .before .next-item .ensures) (c .before .before .before .before .before .e .given .1)) (named-line _ _ (c .before .before .name .ensures) (c .before .same-name .ensures)) (c .if1 .left)
+loop-again c = seeking-next (named-lines _) (c .before .before .before .before .before .before .before .loop .inv) (property-at _ _ (c .before .before .before .before .before .before .next-item .ensures) (c .before .before .before .before .e .given .1)) (named-line _ _ refl (c .before .is-called .ensures)) (c .if1 .left)
 
 enum-known-next : tie.Need-enum-known-next Inv-loop μ-loop
 enum-known-next c = search needs
@@ -76,11 +74,10 @@ some-named-spec =
     loop-holds
     next-item-requires
     enum-known-e
-    sub-name
-    part-name-start
-    part-name-end
-    name-requires
-    same-name-requires
+    sub-is-called
+    part-is-called-start
+    part-is-called-end
+    is-called-requires
     returns
     loop-less
     loop-again

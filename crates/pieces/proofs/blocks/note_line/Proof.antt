@@ -4,8 +4,8 @@ use borrow.Author.Needs.{needs}
 use Rattle.pieces.proofs.blocks.note_line.Statement.{statement}
 use Rattle.pieces.proofs.blocks.note_line.Tie as tie
 
-saying-of-requires : tie.Need-saying-of-requires
-saying-of-requires c κs = search needs
+saying-read-requires : tie.Need-saying-read-requires
+saying-read-requires c κs = search needs
 
 type-said-requires : tie.Need-type-said-requires
 type-said-requires c κs = search needs
@@ -26,16 +26,16 @@ same-length : tie.Need-same-length
 same-length c = search needs
 
 returns : tie.Need-returns
-returns c = line-noted _ _ _ _ (c .before .before .before .before .before .before .before .before .before .saying-of .ensures) (c .before .before .before .before .before .before .before .before .type-said .ensures) _ (c .before .before .before .before .before .before .busy .given .1) (c .before .before .before .value .ensures) (c .before .before .note-value .ensures)
+returns c = line-noted _ _ _ _ (c .before .before .before .before .before .before .before .before .before .saying-read .ensures) (c .before .before .before .before .before .before .before .before .type-said .ensures) _ (c .before .before .before .before .before .before .busy .given .1) (c .before .before .before .value .ensures) (c .before .before .note-value .ensures)
 
 returns-2 : tie.Need-returns-2
-returns-2 c = line-left _ _ _ _ (c .before .before .before .saying-of .ensures) (c .before .before .type-said .ensures) (c .enum-told .given .1)
+returns-2 c = line-left _ _ _ _ (c .before .before .before .saying-read .ensures) (c .before .before .type-said .ensures) (c .enum-told .given .1)
 
 pub note-line-spec : {M : Type 1} → statement M
 note-line-spec =
     tie.close
     (tie.spec
-    saying-of-requires
+    saying-read-requires
     type-said-requires
     enum-known-busy
     value-requires

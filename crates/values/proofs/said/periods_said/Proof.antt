@@ -18,9 +18,6 @@ returns : tie.Need-returns
 unfolding periodsSaid
 returns c = rw (used-badly _ _ _ (c .before .usage-of .ensures) ∙ c .if1 .taken)
 
-value-requires : tie.Need-value-requires
-value-requires c κs = search needs
-
 all-periods-requires : tie.Need-all-periods-requires
 all-periods-requires c κs = search needs
 
@@ -29,11 +26,11 @@ busy-of-requires c κs = search needs
 
 returns-2 : tie.Need-returns-2
 unfolding periodsSaid
-returns-2 c = rw (used-badly _ _ _ (c .before .before .before .before .before .usage-of .ensures) ∙ c .before .before .before .before .if1 .left, all-said _ _ _ (c .before .before .before .value .ensures) (c .before .before .all-periods .ensures) ∙ c .before .if2 .taken) (ap Saying.HasPeriods (c .busy-of .ensures))
+returns-2 c = rw (used-badly _ _ _ (c .before .before .before .before .usage-of .ensures) ∙ c .before .before .before .if1 .left, all-said _ _ _ (c .before .before .before .before .before .before .before .before .pre) (c .before .before .all-periods .ensures) ∙ c .before .if2 .taken) (ap Saying.HasPeriods (c .busy-of .ensures))
 
 returns-3 : tie.Need-returns-3
 unfolding periodsSaid
-returns-3 c = rw (used-badly _ _ _ (c .before .before .before .before .usage-of .ensures) ∙ c .before .before .before .if1 .left, all-said _ _ _ (c .before .before .value .ensures) (c .before .all-periods .ensures) ∙ c .if2 .left)
+returns-3 c = rw (used-badly _ _ _ (c .before .before .before .usage-of .ensures) ∙ c .before .before .if1 .left, all-said _ _ _ (c .before .before .before .before .before .before .before .pre) (c .before .all-periods .ensures) ∙ c .if2 .left)
 
 pub periods-said-spec : {M : Type 1} → statement M
 periods-said-spec =
@@ -42,7 +39,6 @@ periods-said-spec =
     slice-aggregate-usage-of
     usage-of-requires
     returns
-    value-requires
     all-periods-requires
     busy-of-requires
     returns-2

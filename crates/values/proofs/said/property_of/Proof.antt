@@ -1,4 +1,4 @@
--- Each arm is the definition's clause, at what the callees answer.
+-- Each arm is the component's own answer.
 use Rattle.values.specs.Said.{propertyOf}
 use borrow.Author.Needs.{needs}
 use Rattle.values.proofs.said.property_of.Statement.{statement}
@@ -10,28 +10,20 @@ enum-told c = search needs
 event-property-requires : tie.Need-event-property-requires
 event-property-requires c κs = search needs
 
-times-or-requires : tie.Need-times-or-requires
-times-or-requires c κs = search needs
-
 enum-told-2 : tie.Need-enum-told-2
 enum-told-2 c = search needs
 
 free-busy-property-requires : tie.Need-free-busy-property-requires
 free-busy-property-requires c κs = search needs
 
-times-or-requires-2 : tie.Need-times-or-requires-2
-times-or-requires-2 c κs = search needs
-
 enum-told-3 : tie.Need-enum-told-3
 enum-told-3 c = search needs
 
 returns : tie.Need-returns
-unfolding propertyOf
-returns c = simp (c .times-or .ensures, c .before .event-property .ensures, c .before .before .enum-told .given .1)
+returns c = simp (c .event-property .ensures, c .before .enum-told .given .1)
 
 returns-2 : tie.Need-returns-2
-unfolding propertyOf
-returns-2 c = simp (c .times-or2 .ensures, c .before .free-busy-property .ensures, c .before .before .enum-told2 .given .1)
+returns-2 c = simp (c .free-busy-property .ensures, c .before .enum-told2 .given .1)
 
 returns-3 : tie.Need-returns-3
 unfolding propertyOf
@@ -43,10 +35,8 @@ property-of-spec =
     (tie.spec
     enum-told
     event-property-requires
-    times-or-requires
     enum-told-2
     free-busy-property-requires
-    times-or-requires-2
     enum-told-3
     returns
     returns-2

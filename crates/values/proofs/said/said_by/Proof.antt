@@ -11,9 +11,6 @@ enum-told c = search needs
 time-of-requires : tie.Need-time-of-requires
 time-of-requires c κs = search needs
 
-time-in-requires : tie.Need-time-in-requires
-time-in-requires c κs = search needs
-
 start-by-requires : tie.Need-start-by-requires
 start-by-requires c κs = search needs
 
@@ -26,9 +23,6 @@ enum-told-2 c = search needs
 time-of-requires-2 : tie.Need-time-of-requires-2
 time-of-requires-2 c κs = search needs
 
-time-in-requires-2 : tie.Need-time-in-requires-2
-time-in-requires-2 c κs = search needs
-
 end-by-requires : tie.Need-end-by-requires
 end-by-requires c κs = search needs
 
@@ -37,9 +31,6 @@ unless-zoned-requires-2 c κs = search needs
 
 enum-told-3 : tie.Need-enum-told-3
 enum-told-3 c = search needs
-
-value-requires : tie.Need-value-requires
-value-requires c κs = search needs
 
 read-duration-requires : tie.Need-read-duration-requires
 read-duration-requires c κs = search needs
@@ -50,9 +41,6 @@ duration-by-requires c κs = search needs
 enum-told-4 : tie.Need-enum-told-4
 enum-told-4 c = search needs
 
-value-requires-2 : tie.Need-value-requires-2
-value-requires-2 c κs = search needs
-
 rule-of-requires : tie.Need-rule-of-requires
 rule-of-requires c κs = search needs
 
@@ -62,17 +50,11 @@ rule-said-requires c κs = search needs
 enum-told-5 : tie.Need-enum-told-5
 enum-told-5 c = search needs
 
-value-requires-3 : tie.Need-value-requires-3
-value-requires-3 c κs = search needs
-
 status-named-requires : tie.Need-status-named-requires
 status-named-requires c κs = search needs
 
 enum-told-6 : tie.Need-enum-told-6
 enum-told-6 c = search needs
-
-value-requires-4 : tie.Need-value-requires-4
-value-requires-4 c κs = search needs
 
 slice-aggregate-same-name : tie.Need-slice-aggregate-same-name
 slice-aggregate-same-name c = search needs
@@ -94,27 +76,27 @@ enum-told-9 c = search needs
 
 returns : tie.Need-returns
 unfolding saidBy
-returns c = simp (c .unless-zoned .ensures, c .before .start-by .ensures, c .before .before .time-in .ensures, c .before .before .before .time-of .ensures, c .before .before .before .before .enum-told .given .1)
+returns c = simp (c .unless-zoned .ensures, c .before .start-by .ensures, c .before .before .time-of .ensures, c .before .before .before .enum-told .given .1)
 
 returns-2 : tie.Need-returns-2
 unfolding saidBy
-returns-2 c = simp (c .unless-zoned2 .ensures, c .before .end-by .ensures, c .before .before .time-in2 .ensures, c .before .before .before .time-of2 .ensures, c .before .before .before .before .enum-told2 .given .1)
+returns-2 c = simp (c .unless-zoned2 .ensures, c .before .end-by .ensures, c .before .before .time-of2 .ensures, c .before .before .before .enum-told2 .given .1)
 
 returns-3 : tie.Need-returns-3
 unfolding saidBy lineOf
-returns-3 c = simp (c .duration-by .ensures, c .before .read-duration .ensures, c .before .before .value .ensures, c .before .before .before .enum-told3 .given .1)
+returns-3 c = simp (c .duration-by .ensures, c .before .read-duration .ensures, c .before .before .before .before .before .before .pre .1, c .before .before .enum-told3 .given .1)
 
 returns-4 : tie.Need-returns-4
 unfolding saidBy lineOf
-returns-4 c = simp (c .rule-said .ensures, c .before .rule-of .ensures, c .before .before .value2 .ensures, c .before .before .before .enum-told4 .given .1)
+returns-4 c = simp (c .rule-said .ensures, c .before .rule-of .ensures, c .before .before .before .before .before .before .pre .1, c .before .before .enum-told4 .given .1)
 
 returns-5 : tie.Need-returns-5
 unfolding saidBy lineOf
-returns-5 c = simp (c .status-named .ensures, c .before .value3 .ensures, c .before .before .enum-told5 .given .1)
+returns-5 c = simp (c .status-named .ensures, c .before .before .before .before .before .pre .1, c .before .enum-told5 .given .1)
 
 returns-6 : tie.Need-returns-6
 unfolding saidBy lineOf
-returns-6 c = simp (c .same-name .ensures, c .before .before .value4 .ensures, c .before .before .before .enum-told6 .given .1)
+returns-6 c = simp (c .same-name .ensures, c .before .before .before .before .before .before .pre .1, c .before .before .enum-told6 .given .1)
 
 returns-7 : tie.Need-returns-7
 unfolding saidBy
@@ -134,27 +116,21 @@ said-by-spec =
     (tie.spec
     enum-told
     time-of-requires
-    time-in-requires
     start-by-requires
     unless-zoned-requires
     enum-told-2
     time-of-requires-2
-    time-in-requires-2
     end-by-requires
     unless-zoned-requires-2
     enum-told-3
-    value-requires
     read-duration-requires
     duration-by-requires
     enum-told-4
-    value-requires-2
     rule-of-requires
     rule-said-requires
     enum-told-5
-    value-requires-3
     status-named-requires
     enum-told-6
-    value-requires-4
     slice-aggregate-same-name
     same-name-requires
     enum-told-7

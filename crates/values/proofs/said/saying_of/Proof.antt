@@ -1,22 +1,25 @@
--- The name and the property are what the callees answer.
-use Rattle.line.specs.Reading.{lineOf}
-use Rattle.values.specs.Said.{sayingOf}
+-- A line whose first byte no word begins with says nothing; any other is read by its name.
+use denote.Ref.{now}
+use borrow.Author.Tests.{not-true}
+use Rattle.values.proofs.FirstBytes.{line-unread}
 use borrow.Author.Needs.{needs}
 use Rattle.values.proofs.said.saying_of.Statement.{statement}
 use Rattle.values.proofs.said.saying_of.Tie as tie
 
-name-requires : tie.Need-name-requires
-name-requires c κs = search needs
+first-upper-requires : tie.Need-first-upper-requires
+first-upper-requires c κs = search needs
 
-property-of-requires : tie.Need-property-of-requires
-property-of-requires c κs = search needs
-
-said-by-requires : tie.Need-said-by-requires
-said-by-requires c κs = search needs
+may-be-read-requires : tie.Need-may-be-read-requires
+may-be-read-requires c κs = search needs
 
 returns : tie.Need-returns
-unfolding sayingOf lineOf
-returns c = simp (c .said-by .ensures, c .before .property-of .ensures, c .before .before .name .ensures)
+returns c = line-unread _ _ (now (c .before .before .before .before .args .line)) _ (c .before .may-be-read .ensures (not-true _ (c .if1 .taken))) (c .before .before .first-upper .ensures)
+
+saying-read-requires : tie.Need-saying-read-requires
+saying-read-requires c κs = search needs
+
+returns-2 : tie.Need-returns-2
+returns-2 c = c .saying-read .ensures
 
 pub saying-of-spec : {M : Type 1} → statement M
-saying-of-spec = tie.close (tie.spec name-requires property-of-requires said-by-requires returns)
+saying-of-spec = tie.close (tie.spec first-upper-requires may-be-read-requires returns saying-read-requires returns-2)
