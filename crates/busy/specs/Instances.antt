@@ -31,6 +31,10 @@ isInstance e k = repeats (e .repeat) (startOf e k) k
 unfoldable pub stands : Event → ℕ → Bool
 stands e k = isInstance e k
 
+-- starts are a day or more apart, so no instance from this number on starts by 2099
+abbrev pub instancesAtMost : ℕ
+instancesAtMost = 50000
+
 -- the length: end minus start; the duration; or, with neither, a day for a DATE and 0 otherwise
 unfoldable pub defaultLength : Kind → ℕ
 defaultLength Kind.Utc = 0

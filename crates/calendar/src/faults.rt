@@ -3,8 +3,7 @@ use crate::Fault;
 use crate::contents;
 use crate::places;
 use crate::places::Below;
-use line::check::LineCheck;
-use nesting::Nesting;
+use nesting::Structure;
 use values::times::Context;
 ghost use mathlib.Core.Path.{_≡_};
 ghost use Prim.Native.Nat.{_≤_};
@@ -14,12 +13,10 @@ ghost use Rattle.calendar.specs.Meaning.{contentsOf, meaningOf, faultOf,
 pub fn check_structure(s: &[u8]) -> Fault
     ensures { λ r. ⌜ r ≡ structureFault (now (s .entry)) ⌝ }
 {
-    match line::check::check_lines(s) {
-        LineCheck::BadLine(n) => Fault::At(6, n),
-        LineCheck::Good => match nesting::check_nesting(s) {
-            Nesting::BadLine(n) => Fault::At(7, n),
-            Nesting::Good => Fault::None,
-        },
+    match nesting::check_structure(s) {
+        Structure::BadLine(n) => Fault::At(6, n),
+        Structure::BadNesting(n) => Fault::At(7, n),
+        Structure::Good => Fault::None,
     }
 }
 

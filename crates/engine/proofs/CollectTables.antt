@@ -19,6 +19,7 @@ use Rattle.table.specs.Runs.{runs, Lies}
 use Rattle.table.specs.Tables.{listed, Empty}
 use Rattle.table.specs.declared.Table.{Table}
 use Rattle.table.proofs.Runs.{runs-same}
+use Rattle.table.proofs.Stretches.{within-true}
 use Rattle.pieces.specs.BusyPeriods.{busyPeriods}
 use Rattle.pieces.specs.Columns.{flat, noted, Noted}
 use Rattle.pieces.specs.Covered.{coveredBy, covered}
@@ -26,7 +27,7 @@ use Rattle.pieces.specs.Pieces.{busyPieces}
 use Rattle.pieces.specs.Walks.{NotesContents}
 use Rattle.pieces.specs.declared.walk.ContentsNoted.{ContentsNoted}
 use Rattle.pieces.proofs.Adding.{noted-all}
-use Rattle.pieces.proofs.Clipping.{within-holds, busyPieces-cover, pieces-inside}
+use Rattle.pieces.proofs.Clipping.{busyPieces-cover, pieces-inside}
 use Rattle.tables.specs.Building.{Built}
 use Rattle.tables.proofs.Built.{built-stored}
 use Rattle.report.specs.Writing.{byType}
@@ -113,7 +114,7 @@ module _ (a e : ℕ) (es : List Entry) where
   unfolding periodsIn
   pieces-runs b u h =
       runs-same (coveredBy b (busyPieces a e es)) (covered b es) a (e - a)
-      (λ x k l. busyPieces-cover b u a e x es ∙ ap (λ (t : Bool). t && covered b es x) (within-holds a e x k (omega (arith, range-end h))))
+      (λ x k l. busyPieces-cover b u a e x es ∙ ap (λ (t : Bool). t && covered b es x) (within-true a e x k (omega (arith, range-end h))))
 
   module _ {o o′ : List ℕ} {n : ℕ} (h : Noted o 0 (busyPieces a e es) o′ n) where
     noted-many : 512 < n → lowest (pieceRows a e es) ≡ Fault.At 11 0

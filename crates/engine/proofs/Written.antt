@@ -18,10 +18,11 @@ use Rattle.table.specs.Runs.{covers, Rising, Lies}
 use Rattle.table.specs.Runs.Rising.{none, then}
 use Rattle.table.proofs.Runs.{runs-rising, runs-same, runs-here}
 use Rattle.table.proofs.Inserting.{fewest}
+use Rattle.table.proofs.Stretches.{within-true}
 use Rattle.pieces.specs.BusyPeriods.{busyPeriods}
 use Rattle.pieces.specs.Covered.{ofType, coveredBy, covered}
 use Rattle.pieces.specs.Pieces.{busyPieces}
-use Rattle.pieces.proofs.Clipping.{within-holds, clipped-covers, pieces-inside, pieces-count}
+use Rattle.pieces.proofs.Clipping.{clipped-covers, pieces-inside, pieces-count}
 use Rattle.report.specs.Bytes.{Report, busyLines, reportLines, reportBytes, GoodPeriods, Writable, periodCount}
 use Rattle.engine.specs.Refusals.{sizeRows, calendarRows}
 use Rattle.engine.specs.Offsets.{offsetGood}
@@ -124,7 +125,7 @@ module _ (m : ReportCall) (g : rangeGood (m .start) (m .end) ≡ true) where
   pieces-cover b u x h k =
       let ps = busyPeriods (entriesIn (m .calendar) (m .offset)) in
       sym (clipped-covers b u (m .start) (m .end) x ps
-      ∙ ap (λ (t : Bool). t && coveredBy b ps x) (within-holds (m .start) (m .end) x h k))
+      ∙ ap (λ (t : Bool). t && coveredBy b ps x) (within-true (m .start) (m .end) x h k))
 
   pieces-lie : (p : BusyPeriod) → List·Memᴰ p (piecesFor m) → Lies (m .start) (m .end) (p .period)
   unfolding piecesFor busyPieces

@@ -10,19 +10,20 @@ use Rattle.values.specs.declared.said.Busy.{Busy}
 use Rattle.calendar.specs.BusyTypes.{isBusy}
 use Rattle.calendar.specs.Meaning.{BusyPeriod, event}
 use Rattle.calendar.specs.declared.Event.{Event}
-use Rattle.busy.specs.Instances.{startOf, endOf, stands, lengthBy}
+use Rattle.busy.specs.Instances.{startOf, endOf, stands, lengthBy, instancesAtMost}
 use Rattle.table.specs.Inserting.{lesser, greater}
-use Rattle.pieces.specs.BusyPeriods.{listBelow, instancesAtMost, instancePeriod, eventPeriods, entryPeriods, busyPeriods}
+use Rattle.table.proofs.Stretches.{greater-right, lesser-right}
+use Rattle.pieces.specs.BusyPeriods.{listBelow, instancePeriod, eventPeriods, entryPeriods, busyPeriods}
 use Rattle.pieces.specs.Pieces.{clipped, isPiece, piecesOf, busyPieces}
 use Rattle.pieces.specs.Walks.{busyPeriod}
-use Rattle.pieces.proofs.Clipping.{greater-is, lesser-is, is-none, one-piece, piecesOf-none, piecesOf-append}
+use Rattle.pieces.proofs.Clipping.{is-none, one-piece, piecesOf-none, piecesOf-append}
 use Rattle.pieces.proofs.Events.{stands-period, fails-period}
 
 module _ (a b : ℕ) where
   no-second : (y : Busy) (s t : ℕ) → t ≡ s → isPiece a b (busyPeriod y s t) ≡ false
   unfolding isPiece clipped
   no-second y s t q =
-      not-so _ (λ h. omega (arith, ltb-true (greater a s) (lesser b t) (and-right (isBusy y) _ h), greater-is a s .1, lesser-is b t .1))
+      not-so _ (λ h. omega (arith, ltb-true (greater a s) (lesser b t) (and-right (isBusy y) _ h), greater-right a s, lesser-right b t))
 
   module _ (e : Event) (h : lengthBy e (e .ending) ≡ 0) where
     ends-at-once : (k : ℕ) → endOf e k ≡ startOf e k

@@ -29,9 +29,10 @@ use Rattle.busy.specs.TimeRange.{touches, instanceIn, EventIn, betweenIn, perio
 use Rattle.busy.proofs.Searching.{few-before}
 use Rattle.busy.proofs.Starts.{in-range-starts}
 use Rattle.busy.proofs.PeriodLists.{periods-append}
+use Rattle.busy.specs.Instances.{instancesAtMost}
 use Rattle.query.specs.WellFormed.{someBelow}
 use Rattle.query.proofs.Counting.{none-at}
-use Rattle.filter.specs.Tests.{blockRangeIn, instancesAtMost}
+use Rattle.filter.specs.Tests.{blockRangeIn}
 use Rattle.filter.specs.Places.{propertiesAt, somePeriodIn, saysPeriods, lineIn, linesIn, blockLinesIn}
 use Rattle.filter.proofs.Lines.{SomeOf}
 

@@ -26,6 +26,7 @@ use Rattle.busy.specs.TimeRange.{EventIn, betweenIn, periodsTouch, boundsIn, bl
 use Rattle.busy.proofs.PeriodLists.{periods-iff}
 use Rattle.busy.proofs.Searching.{search-finds, decided-once}
 use Rattle.busy.proofs.EventSizes.{event-sizes}
+use Rattle.busy.specs.Instances.{instancesAtMost}
 use Rattle.query.specs.Records.{rangeStart, rangeEnd, textOf, componentAt, propertyAt, parameterAt}
 use Rattle.query.specs.WellFormed.{recordsGood, everyBelow, implies}
 use Rattle.query.specs.declared.Sections.{Sections}
@@ -33,7 +34,7 @@ use Rattle.query.specs.declared.PropertyRecord.{PropertyRecord}
 use Rattle.query.specs.declared.ParameterRecord.{ParameterRecord}
 use Rattle.query.proofs.Counting.{every-at, every-all, or-left, or-right}
 use Rattle.query.proofs.WellFormed.{records-say}
-use Rattle.filter.specs.Tests.{collationOf, textHolds, someValue, parameterHolds, parameterPasses, parametersHold, someNamed, lineHolds, someLine, propertyHolds, propertyPasses, propertiesHold, instancesAtMost, eventIn, blockRangeIn, componentIn, rangeHolds, someComponentNamed, someComponent, componentHolds, childrenHold, componentTest, queryHolds}
+use Rattle.filter.specs.Tests.{collationOf, textHolds, someValue, parameterHolds, parameterPasses, parametersHold, someNamed, lineHolds, someLine, propertyHolds, propertyPasses, propertiesHold, eventIn, blockRangeIn, componentIn, rangeHolds, someComponentNamed, someComponent, componentHolds, childrenHold, componentTest, queryHolds}
 use Rattle.filter.specs.Paper.{ValuePasses, ParameterPasses, LinePasses, PropertyPasses, ComponentIn, RangePasses, ComponentPasses, QueryPasses}
 use Rattle.filter.proofs.Lines.{SomeOf}
 use Rattle.filter.proofs.Properly.{named-lines, holding-lines}

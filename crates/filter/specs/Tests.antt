@@ -17,6 +17,7 @@ use Rattle.calendar.specs.declared.Event.{Event}
 use Rattle.calendar.specs.declared.EventRead.{EventRead}
 use Rattle.calendar.specs.declared.BlockRead.{BlockRead}
 use Rattle.busy.specs.TimeRange.{instanceIn, blockIn}
+use Rattle.busy.specs.Instances.{instancesAtMost}
 use Rattle.query.specs.Records.{rangeStart, rangeEnd, textOf, componentAt, propertyAt, parameterAt}
 use Rattle.query.specs.WellFormed.{everyBelow, someBelow, implies}
 use Rattle.query.specs.declared.Sections.{Sections}
@@ -76,10 +77,6 @@ propertyPasses s q k xs i = implies (eqb (propertyAt s q i .component) k) (prope
 -- every property test of component record k
 unfoldable pub propertiesHold : List ℕ → Sections → ℕ → List Numbered → Bool
 propertiesHold s q k xs = everyBelow (q .properties .count) (propertyPasses s q k xs)
-
--- the starts of an event are a day or more apart, so that instances below this number are all that a range can meet
-abbrev pub instancesAtMost : ℕ
-instancesAtMost = 50000
 
 unfoldable pub eventIn : EventRead → ℕ → ℕ → Bool
 eventIn (EventRead.Of e) a b = someBelow instancesAtMost (instanceIn e a b)

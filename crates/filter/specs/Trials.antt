@@ -15,10 +15,11 @@ use Rattle.calendar.specs.declared.EventRead.{EventRead}
 use Rattle.busy.specs.Sizes.{Small}
 use Rattle.busy.specs.TimeRange.{instanceIn}
 use Rattle.busy.specs.Candidates.{startsBefore}
+use Rattle.busy.specs.Instances.{instancesAtMost}
 use Rattle.query.specs.Records.{rangeStart, rangeEnd, textOf, componentAt}
 use Rattle.query.specs.WellFormed.{someBelow}
 use Rattle.query.specs.declared.Sections.{Sections}
-use Rattle.filter.specs.Tests.{instancesAtMost, propertiesHold, childrenHold}
+use Rattle.filter.specs.Tests.{propertiesHold, childrenHold}
 use Rattle.filter.specs.Places.{propertiesAt, blockLinesIn}
 use Rattle.filter.specs.declared.trials.Trial.{Trial}
 

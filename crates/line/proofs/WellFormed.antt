@@ -1,6 +1,6 @@
 -- Laws of the check of all lines: what each piece adds to it, and what its answer says of the whole file.
-use Prim.Native.Nat.{ℕ, _+_, _≤_}
-use mathlib.Core.Path.{_≡_, refl, sym, ap, _∙_}
+use Prim.Native.Nat.{ℕ, _+_}
+use mathlib.Core.Path.{_≡_, refl, sym, ap, subst, _∙_}
 use mathlib.Core.Bool.{Bool, true, false, not, _&&_}
 use mathlib.Core.List.{List, [], _∷_}
 use mathlib.Core.Logic.{_↔_}
@@ -10,8 +10,9 @@ use borrow.Author.Tests.{not-true}
 use Rattle.ascii.proofs.Bools.{and-left, and-right, and-both, clash}
 use Rattle.text.specs.Lines.{Pieces, end, unended, line, cut, part, LineAt, LastPiece, NoPiece, linesOf, allLines, contentLines, everyLine}
 use Rattle.line.specs.Scanner.{isWellFormed}
-use Rattle.line.specs.WellFormed.{lineCheckFrom, lineCheck, AllGood, linesThen, beginsBadly, FirstBad}
+use Rattle.line.specs.WellFormed.{lineCheckFrom, lineCheck, AllGood, linesThen, beginsBadly, FirstBad, GoodLineAt, BadLineAt, NextAt, Checked}
 use Rattle.line.specs.declared.check.LineCheck.the-variants.{Good, BadLine}
+use Rattle.line.specs.declared.check.Next.{Next}
 
 -- ---- one piece
 
@@ -23,31 +24,62 @@ lineCheck-badly : (n : ℕ) (l : List ℕ) (p : Pieces) → isWellFormed l ≡ f
 unfolding lineCheckFrom
 lineCheck-badly n l p e = rw (e, lineCheckFrom)
 
--- ---- the loop: the lines before `from` are well formed, and the next has number n
+-- ---- the line at a place
 
-pub record Checked (s : List ℕ) (n from : ℕ) : Type 0 where
-  pub inside : from ≤ length s
-  pub few : n ≤ from + 1
-  pub rest : lineCheckFrom n (cut (drop from s)) ≡ lineCheck s
+begins-badly : (n : ℕ) (p : Pieces) → beginsBadly p ≡ true → lineCheckFrom n p ≡ BadLine n
+unfolding beginsBadly lineCheckFrom
+begins-badly n end e = clash e refl
+begins-badly n (unended t) e = refl
+begins-badly n (line l p) e = lineCheck-badly n l p (not-true (isWellFormed l) e)
+
+pub next-line : {s : List ℕ} {from : ℕ} (e : ℕ) {t : Bool} → LineAt s from e → t ≡ isWellFormed (part s from e) → t ≡ true → NextAt s from (Next.Line e)
+unfolding NextAt
+next-line e h q w = record { line = h; good = sym q ∙ w }
+
+pub next-badly : {s : List ℕ} {from : ℕ} (e : ℕ) {t : Bool} → LineAt s from e → t ≡ isWellFormed (part s from e) → t ≡ false → NextAt s from Next.Bad
+unfolding NextAt beginsBadly
+next-badly e h q w = record { bad = ap beginsBadly (h .pieces) ∙ ap not (sym q ∙ w) }
+
+pub next-unended : {s : List ℕ} {from : ℕ} → LastPiece s from → NextAt s from Next.Bad
+unfolding NextAt beginsBadly
+next-unended h = record { bad = ap beginsBadly (h .pieces) }
+
+pub next-none : {s : List ℕ} {from : ℕ} → NoPiece s from → NextAt s from Next.End
+unfolding NextAt
+next-none h = h
+
+-- what a caller learns from each answer
+pub good-line : {s : List ℕ} {from : ℕ} {r : Next} (e : ℕ) → NextAt s from r → r ≡ Next.Line e → GoodLineAt s from e
+unfolding NextAt
+good-line {s} {from} e h q = subst (NextAt s from) q h
+
+pub bad-line : {s : List ℕ} {from : ℕ} {r : Next} → NextAt s from r → r ≡ Next.Bad → BadLineAt s from
+unfolding NextAt
+bad-line {s} {from} h q = subst (NextAt s from) q h
+
+pub no-line : {s : List ℕ} {from : ℕ} {r : Next} → NextAt s from r → r ≡ Next.End → NoPiece s from
+unfolding NextAt
+no-line {s} {from} h q = subst (NextAt s from) q h
+
+-- ---- the loop: the lines before `from` are well formed, and the next has number n
 
 pub checked-start : (s : List ℕ) → Checked s 1 0
 unfolding lineCheck
 checked-start s = record { inside = omega arith; few = omega arith; rest = refl }
 
 module _ {s : List ℕ} {n from : ℕ} (k : Checked s n from) where
-  pub checked-next : {e : ℕ} → LineAt s from e → isWellFormed (part s from e) ≡ true → Checked s (n + 1) (e + 2)
-  checked-next {e} h w = record {
-    inside = h .inside;
-    few = omega (arith, k .few, h .starts);
-    rest = sym (lineCheck-well n (part s from e) (cut (drop (e + 2) s)) w) ∙ sym (ap (lineCheckFrom n) (h .pieces)) ∙ k .rest;
-  }
+  pub checked-next : {e : ℕ} → GoodLineAt s from e → Checked s (n + 1) (e + 2)
+  checked-next {e} g =
+      let h : LineAt s from e = g .line in
+      record {
+        inside = h .inside;
+        few = omega (arith, k .few, h .starts);
+        rest =
+            sym (lineCheck-well n (part s from e) (cut (drop (e + 2) s)) (g .good)) ∙ sym (ap (lineCheckFrom n) (h .pieces)) ∙ k .rest;
+      }
 
-  pub checked-bad : {e : ℕ} → LineAt s from e → isWellFormed (part s from e) ≡ false → BadLine n ≡ lineCheck s
-  checked-bad {e} h w = sym (lineCheck-badly n (part s from e) (cut (drop (e + 2) s)) w) ∙ sym (ap (lineCheckFrom n) (h .pieces)) ∙ k .rest
-
-  pub checked-unended : LastPiece s from → BadLine n ≡ lineCheck s
-  unfolding lineCheckFrom
-  checked-unended h = sym (ap (lineCheckFrom n) (h .pieces)) ∙ k .rest
+  pub checked-bad : BadLineAt s from → BadLine n ≡ lineCheck s
+  checked-bad h = sym (begins-badly n (cut (drop from s)) (h .bad)) ∙ k .rest
 
   pub checked-end : NoPiece s from → Good ≡ lineCheck s
   unfolding lineCheckFrom
@@ -117,12 +149,6 @@ first-bad n (line l p) k e = go (isWellFormed l) refl (first-bad (n + 1) p k)
           bad = r .bad;
         }
     go false w f = bad-here n (line l p) k (ap not w) (sym (lineCheck-badly n l p w) ∙ e)
-
-begins-badly : (n : ℕ) (p : Pieces) → beginsBadly p ≡ true → lineCheckFrom n p ≡ BadLine n
-unfolding beginsBadly lineCheckFrom
-begins-badly n end e = clash e refl
-begins-badly n (unended t) e = refl
-begins-badly n (line l p) e = lineCheck-badly n l p (not-true (isWellFormed l) e)
 
 then-bad : (n : ℕ) (ls : List (List ℕ)) (p : Pieces) → everyLine isWellFormed ls ≡ true → beginsBadly p ≡ true
     → lineCheckFrom n (linesThen ls p) ≡ BadLine (n + length ls)

@@ -1,13 +1,14 @@
 -- Are all lines of a file well formed (document 01, Lines)? If not, which is the first that is not, counted from 1?
-use Prim.Native.Nat.{ℕ, _+_}
+use Prim.Native.Nat.{ℕ, _+_, _≤_}
 use mathlib.Core.Path.{_≡_}
 use mathlib.Core.Bool.{Bool, true, false, not}
 use mathlib.Core.List.{List, [], _∷_}
-use lib.ListN.{length}
-use Rattle.text.specs.Lines.{Pieces, end, unended, line, cut, linesOf, contentLines, everyLine}
+use lib.ListN.{length, drop}
+use Rattle.text.specs.Lines.{Pieces, end, unended, line, cut, part, LineAt, NoPiece, linesOf, contentLines, everyLine}
 use Rattle.line.specs.Scanner.{isWellFormed}
 use Rattle.line.specs.declared.check.LineCheck.{LineCheck}
 use Rattle.line.specs.declared.check.LineCheck.the-variants.{Good, BadLine}
+use Rattle.line.specs.declared.check.Next.{Next}
 
 -- piece by piece, the first with number n; a last piece without CR LF is badly formed
 unfoldable pub lineCheckFrom : ℕ → Pieces → LineCheck
@@ -43,3 +44,26 @@ pub record FirstBad (n : ℕ) (p : Pieces) (k : ℕ) : Type 0 where
   pub number : k ≡ n + length earlier
   pub good : everyLine isWellFormed earlier ≡ true
   pub bad : beginsBadly rest ≡ true
+
+-- ---- how the code goes over the lines: from a place in the bytes
+
+-- the line at `from` ends at place e and is well formed
+pub record GoodLineAt (s : List ℕ) (from e : ℕ) : Type 0 where
+  pub line : LineAt s from e
+  pub good : isWellFormed (part s from e) ≡ true
+
+-- the line at `from` is badly formed
+pub record BadLineAt (s : List ℕ) (from : ℕ) : Type 0 where
+  pub bad : beginsBadly (cut (drop from s)) ≡ true
+
+-- what a look at the line at `from` answers
+unfoldable pub NextAt : List ℕ → ℕ → Next → Type 0
+NextAt s from (Next.Line e) = GoodLineAt s from e
+NextAt s from Next.Bad = BadLineAt s from
+NextAt s from Next.End = NoPiece s from
+
+-- the lines before `from` are well formed, so the check of the lines there, the first of them number n, is that of the file
+pub record Checked (s : List ℕ) (n from : ℕ) : Type 0 where
+  pub inside : from ≤ length s
+  pub few : n ≤ from + 1
+  pub rest : lineCheckFrom n (cut (drop from s)) ≡ lineCheck s

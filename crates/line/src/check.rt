@@ -3,7 +3,7 @@
 use crate::scan;
 use text::LineEnd;
 ghost use mathlib.Core.Path.{_≡_};
-ghost use Rattle.line.specs.WellFormed.{lineCheck};
+ghost use Rattle.line.specs.WellFormed.{lineCheck, Checked, NextAt};
 
 // The answer; lines are counted from 1.
 pub enum LineCheck {
@@ -11,22 +11,54 @@ pub enum LineCheck {
     BadLine(usize),
 }
 
+// The line at a place.
+pub enum Next {
+    // It is well formed, and its CR LF stands here.
+    Line(usize),
+    // It is badly formed.
+    Bad,
+    // There is none.
+    End,
+}
+
+// Where the line that starts at this place ends, if it is well formed.
+pub fn next_good(s: &[u8], from: usize) -> Next
+    ensures { λ r. ⌜ NextAt (now (s .entry)) from r ⌝ }
+{
+    match text::line_end(s, from) {
+        LineEnd::At(e) => {
+            if scan::is_well_formed(&s[from..e]) {
+                Next::Line(e)
+            } else {
+                Next::Bad
+            }
+        }
+        LineEnd::Unended => Next::Bad,
+        LineEnd::None => Next::End,
+    }
+}
+
+// The check of a file whose lines before this place are well formed; the line there has this number.
+pub fn check_lines_from(s: &[u8], from: usize, first: usize) -> LineCheck
+    requires { ⌜ Checked (now s) first from ⌝ }
+    ensures { λ r. ⌜ r ≡ lineCheck (now (s .entry)) ⌝ }
+{
+    let mut at = from;
+    let mut number = first;
+    loop {
+        match next_good(s, at) {
+            Next::Line(e) => {
+                at = e + 2;
+                number += 1;
+            }
+            Next::Bad => return LineCheck::BadLine(number),
+            Next::End => return LineCheck::Good,
+        }
+    }
+}
+
 pub fn check_lines(s: &[u8]) -> LineCheck
     ensures { λ r. ⌜ r ≡ lineCheck (now (s .entry)) ⌝ }
 {
-    let mut number = 1;
-    let mut from = 0;
-    loop {
-        match text::line_end(s, from) {
-            LineEnd::At(e) => {
-                if !scan::is_well_formed(&s[from..e]) {
-                    return LineCheck::BadLine(number);
-                }
-                from = e + 2;
-                number += 1;
-            }
-            LineEnd::Unended => return LineCheck::BadLine(number),
-            LineEnd::None => return LineCheck::Good,
-        }
-    }
+    check_lines_from(s, 0, 1)
 }

@@ -7,21 +7,26 @@ use native.Mathlib.Omega.{arith}
 use lib.ListN.{length}
 use Rattle.ascii.specs.Names.{sameName}
 use Rattle.ascii.specs.Words.{ascii}
-use Rattle.text.specs.Lines.{contentLines, part, LineFrom, NoLineFrom}
+use Rattle.text.specs.Lines.{contentLines, part, LineAt, NoPiece, LineFrom, NoLineFrom}
+use Rattle.text.proofs.Lines.{steps-at, steps-none, line-from, no-line-from}
 use Rattle.line.specs.Grammar.{ContentLine}
 use Rattle.line.specs.Reading.{lineOf, valueOf}
+use Rattle.line.specs.WellFormed.{lineCheck, GoodLineAt, BadLineAt, Checked}
+use Rattle.line.specs.declared.check.LineCheck.{LineCheck}
+use Rattle.line.proofs.WellFormed.{checked-next, checked-bad}
 use Rattle.nesting.specs.Marks.{markOf}
 use Rattle.nesting.specs.Nesting.{isCalendar, Walk, start, inside, closed, broken, afterBegin, afterEnd, afterProperty, afterWrong, afterMark, walk, outcome, nestingOf}
 use Rattle.nesting.specs.WellNested.{numberedFrom}
-use Rattle.nesting.specs.Passing.{linesAt, nestingIn, nestingFrom, metBy, beginsBy, beginsCalendar, ClosesAt, BreaksBefore, ReadsTo}
+use Rattle.nesting.specs.Passing.{linesAt, nestingIn, nestingFrom, structureBy, metBy, beginsBy, beginsCalendar, ClosesAt, BreaksBefore, ReadsTo}
 use Rattle.nesting.specs.declared.Mark.{Mark}
 use Rattle.nesting.specs.declared.Mark.the-variants.{Begins, Ends, Property, Wrong}
 use Rattle.nesting.specs.declared.Nesting.{Nesting}
 use Rattle.nesting.specs.declared.Nesting.the-variants.{Good, BadLine}
 use Rattle.nesting.specs.declared.Met.{Met}
 use Rattle.nesting.specs.declared.Met.the-variants.{Opens, Stays, Closes, Breaks}
+use Rattle.nesting.specs.declared.Structure.{Structure}
 use Rattle.nesting.specs.declared.Closed.{Closed}
-use Rattle.nesting.specs.declared.Closed.the-variants.{At, Broken}
+use Rattle.nesting.specs.declared.Closed.the-variants.{At, Broken, Bad}
 use Rattle.nesting.proofs.Walks.{walk-numbered, stays-broken, after-closed}
 use Rattle.nesting.proofs.Marking.{afterMet, after-met, Room, opens-room}
 
@@ -34,6 +39,13 @@ lines-next h = ap (map lineOf) (h .lines)
 pub lines-none : {s : List ℕ} {at : ℕ} → NoLineFrom s at → linesAt s at ≡ []
 unfolding linesAt
 lines-none h = ap (map lineOf) (h .lines)
+
+-- a line that CR LF ends is a line, and where no piece stands no line does
+pub ended-line : {s : List ℕ} {at e : ℕ} → LineAt s at e → LineFrom s at e (e + 2)
+ended-line {s} {at} {e} h = line-from e (e + 2) (steps-at h) refl
+
+pub ended-none : {s : List ℕ} {at : ℕ} → NoPiece s at → NoLineFrom s at
+ended-none h = no-line-from (steps-none h) refl
 
 -- ---- the outcome from a line on
 
@@ -62,85 +74,96 @@ pub closes-at : {s name : List ℕ} {at number count left : ℕ} {r : Closed} (a
 unfolding ReadsTo
 closes-at {s} {name} {at} {number} {count} {left} a i c h q = subst (ReadsTo s name at number count left) q h
 
-pub breaks-before : {s name : List ℕ} {at number count left : ℕ} {r : Closed} (j : ℕ) → ReadsTo s name at number count left r → r ≡ Broken j
-    → BreaksBefore s name at number count left j
+pub breaks-before : {s name : List ℕ} {at number count left : ℕ} {r : Closed} (j a : ℕ) → ReadsTo s name at number count left r → r ≡ Broken j a
+    → BreaksBefore s name at number count left j a
 unfolding ReadsTo
-breaks-before {s} {name} {at} {number} {count} {left} j h q = subst (ReadsTo s name at number count left) q h
+breaks-before {s} {name} {at} {number} {count} {left} j a h q = subst (ReadsTo s name at number count left) q h
+
+bad-before : (s name : List ℕ) (at number count left : ℕ) {r : Closed} (j : ℕ) → ReadsTo s name at number count left r → r ≡ Bad j
+    → LineCheck.BadLine j ≡ lineCheck s
+unfolding ReadsTo
+bad-before s name at number count left j h q = subst (ReadsTo s name at number count left) q h
 
 -- from place at₀ the reading has come to place at, and the outcome is decided from there
 pub record Reading (s name : List ℕ) (at₀ number₀ count₀ left at number count : ℕ) : Type 0 where
   pub onward : at₀ ≤ at
-  pub within : at ≤ length s
-  pub numbered : number ≤ at + 1
+  pub checked : Checked s number at
   pub counted : count ≤ 256
   pub decided : (o : List (List ℕ)) → length o + left ≡ 8
       → nestingFrom number₀ (inside (name ∷ o) count₀) (linesAt s at₀) ≡ nestingFrom number (inside (name ∷ o) count) (linesAt s at)
 
-pub reading-start : (s name : List ℕ) (at number count left : ℕ) → at ≤ length s → number ≤ at + 1 → count ≤ 256
+pub reading-start : (s name : List ℕ) (at number count left : ℕ) → Checked s number at → count ≤ 256
     → Reading s name at number count left at number count
-reading-start s name at number count left h n k = record { onward = omega arith; within = h; numbered = n; counted = k; decided = λ o e. refl }
+reading-start s name at number count left h k = record { onward = omega arith; checked = h; counted = k; decided = λ o e. refl }
 
 module _ {s name : List ℕ} {at₀ number₀ count₀ left at number count : ℕ} (r : Reading s name at₀ number₀ count₀ left at number count) where
   -- the file just stops
-  pub reading-end : NoLineFrom s at → ReadsTo s name at₀ number₀ count₀ left (Broken number)
+  pub reading-end : NoPiece s at → ReadsTo s name at₀ number₀ count₀ left (Broken number at)
   unfolding ReadsTo outcome
   reading-end h = record {
-    decided = λ o e. r .decided o e ∙ ap (nestingFrom number (inside (name ∷ o) count)) (lines-none h) ∙ from-none number (inside (name ∷ o) count);
+    checked = r .checked;
+    decided =
+        λ o e.
+        r .decided o e
+        ∙ ap (nestingFrom number (inside (name ∷ o) count)) (lines-none (ended-none h))
+        ∙ from-none number (inside (name ∷ o) count);
   }
 
-  module _ {e next : ℕ} (h : LineFrom s at e next) (m : Met) (q : m ≡ metBy (markOf (lineOf (part s at e))) (valueOf (part s at e)) name (10 - left) (count + 1)) where
+  pub reading-bad : BadLineAt s at → ReadsTo s name at₀ number₀ count₀ left (Bad number)
+  unfolding ReadsTo
+  reading-bad h = checked-bad (r .checked) h
+
+  module _ {e : ℕ} (h : GoodLineAt s at e) (m : Met) (q : m ≡ metBy (markOf (lineOf (part s at e))) (valueOf (part s at e)) name (10 - left) (count + 1)) where
     met-next : (o : List (List ℕ)) → length o + left ≡ 8 → nestingFrom number₀ (inside (name ∷ o) count₀) (linesAt s at₀)
-        ≡ nestingFrom (number + 1) (afterMet m number (valueOf (part s at e)) name o count) (linesAt s next)
+        ≡ nestingFrom (number + 1) (afterMet m number (valueOf (part s at e)) name o count) (linesAt s (e + 2))
     unfolding lineOf
     met-next o w =
         let x = lineOf (part s at e) in
         let d : length (name ∷ o) + 1 ≡ 10 - left = omega arith in
         r .decided o w
-        ∙ ap (nestingFrom number (inside (name ∷ o) count)) (lines-next h)
-        ∙ from-next number (inside (name ∷ o) count) x (linesAt s next)
-        ∙ ap (λ (v : Walk). nestingFrom (number + 1) v (linesAt s next))
+        ∙ ap (nestingFrom number (inside (name ∷ o) count)) (lines-next (ended-line (h .line)))
+        ∙ from-next number (inside (name ∷ o) count) x (linesAt s (e + 2))
+        ∙ ap (λ (v : Walk). nestingFrom (number + 1) v (linesAt s (e + 2)))
         (after-met (markOf x) x number name o count
         ∙ ap (λ (j : ℕ). afterMet (metBy (markOf x) (x .value) name j (count + 1)) number (x .value) name o count) d
         ∙ ap (λ (j : Met). afterMet j number (x .value) name o count) (sym q))
 
     met-case : (j : Met) → m ≡ j → (o : List (List ℕ)) → length o + left ≡ 8 → nestingFrom number₀ (inside (name ∷ o) count₀) (linesAt s at₀)
-        ≡ nestingFrom (number + 1) (afterMet j number (valueOf (part s at e)) name o count) (linesAt s next)
+        ≡ nestingFrom (number + 1) (afterMet j number (valueOf (part s at e)) name o count) (linesAt s (e + 2))
     met-case j p o w =
-        met-next o w ∙ ap (λ (i : Met). nestingFrom (number + 1) (afterMet i number (valueOf (part s at e)) name o count) (linesAt s next)) p
+        met-next o w ∙ ap (λ (i : Met). nestingFrom (number + 1) (afterMet i number (valueOf (part s at e)) name o count) (linesAt s (e + 2))) p
 
-    pub reading-stays : m ≡ Stays → Reading s name at₀ number₀ count₀ left next (number + 1) count
+    pub reading-stays : m ≡ Stays → Reading s name at₀ number₀ count₀ left (e + 2) (number + 1) count
     reading-stays p = record {
-      onward = omega (arith, r .onward, h .goes-on);
-      within = h .inside;
-      numbered = omega (arith, r .numbered, h .goes-on);
+      onward = omega (arith, r .onward, h .line .starts);
+      checked = checked-next (r .checked) h;
       counted = r .counted;
       decided = met-case Stays p;
     }
 
-    pub reading-closes : m ≡ Closes → ReadsTo s name at₀ number₀ count₀ left (At next (number + 1) count)
+    pub reading-closes : m ≡ Closes → ReadsTo s name at₀ number₀ count₀ left (At (e + 2) (number + 1) count)
     unfolding ReadsTo
     reading-closes p = record {
-      onward = omega (arith, r .onward, h .goes-on);
-      within = h .inside;
-      numbered = omega (arith, r .numbered, h .goes-on);
+      onward = omega (arith, r .onward, h .line .starts);
+      checked = checked-next (r .checked) h;
       counted = r .counted;
       decided = met-case Closes p;
     }
 
-    pub reading-breaks : m ≡ Breaks → ReadsTo s name at₀ number₀ count₀ left (Broken number)
+    pub reading-breaks : m ≡ Breaks → ReadsTo s name at₀ number₀ count₀ left (Broken number at)
     unfolding ReadsTo
-    reading-breaks p = record { decided = λ o w. met-case Breaks p o w ∙ from-broken (number + 1) number (linesAt s next) }
+    reading-breaks p = record { checked = r .checked; decided = λ o w. met-case Breaks p o w ∙ from-broken (number + 1) number (linesAt s (e + 2)) }
 
     pub reading-room : m ≡ Opens → Room left (count + 1)
     unfolding lineOf
     reading-room p = opens-room (markOf (lineOf (part s at e))) (lineOf (part s at e)) name left (count + 1) (sym q ∙ p)
 
-    module _ (p : m ≡ Opens) (v : List ℕ) (g : v ≡ valueOf (part s at e)) (u : Closed) (k : ReadsTo s v next (number + 1) (count + 1) (left - 1) u) where
+    module _ (p : m ≡ Opens) (v : List ℕ) (g : v ≡ valueOf (part s at e)) (u : Closed) (k : ReadsTo s v (e + 2) (number + 1) (count + 1) (left - 1) u) where
       -- the lines of the inner component, whatever is open around it
       inner-next : (o : List (List ℕ)) → length o + left ≡ 8 → nestingFrom number₀ (inside (name ∷ o) count₀) (linesAt s at₀)
-          ≡ nestingFrom (number + 1) (inside (v ∷ name ∷ o) (count + 1)) (linesAt s next)
+          ≡ nestingFrom (number + 1) (inside (v ∷ name ∷ o) (count + 1)) (linesAt s (e + 2))
       inner-next o w =
-          met-case Opens p o w ∙ ap (λ (n : List ℕ). nestingFrom (number + 1) (inside (n ∷ name ∷ o) (count + 1)) (linesAt s next)) (sym g)
+          met-case Opens p o w ∙ ap (λ (n : List ℕ). nestingFrom (number + 1) (inside (n ∷ name ∷ o) (count + 1)) (linesAt s (e + 2))) (sym g)
 
       inner-room : (o : List (List ℕ)) → length o + left ≡ 8 → length (name ∷ o) + (left - 1) ≡ 8
       inner-room o w = omega (arith, reading-room p .some)
@@ -149,18 +172,21 @@ module _ {s name : List ℕ} {at₀ number₀ count₀ left at number count : �
       reading-inner a i c f =
           let y = closes-at a i c k f in
           record {
-            onward = omega (arith, r .onward, h .goes-on, y .onward);
-            within = y .within;
-            numbered = y .numbered;
+            onward = omega (arith, r .onward, h .line .starts, y .onward);
+            checked = y .checked;
             counted = y .counted;
             decided = λ o w. inner-next o w ∙ y .decided (name ∷ o) (inner-room o w);
           }
 
-      pub reading-inner-breaks : (j : ℕ) → u ≡ Broken j → ReadsTo s name at₀ number₀ count₀ left (Broken j)
+      pub reading-inner-breaks : (j a : ℕ) → u ≡ Broken j a → ReadsTo s name at₀ number₀ count₀ left (Broken j a)
       unfolding ReadsTo
-      reading-inner-breaks j f =
-          let y = breaks-before j k f in
-          record { decided = λ o w. inner-next o w ∙ y .decided (name ∷ o) (inner-room o w) }
+      reading-inner-breaks j a f =
+          let y = breaks-before j a k f in
+          record { checked = y .checked; decided = λ o w. inner-next o w ∙ y .decided (name ∷ o) (inner-room o w) }
+
+      pub reading-inner-bad : (j : ℕ) → u ≡ Bad j → ReadsTo s name at₀ number₀ count₀ left (Bad j)
+      unfolding ReadsTo
+      reading-inner-bad j f = bad-before s v (e + 2) (number + 1) (count + 1) (left - 1) j k f
 
 -- ---- the whole file
 
@@ -220,8 +246,32 @@ module _ (s : List ℕ) {e next : ℕ} (h : LineFrom s 0 e next) {t : Bool} (b :
     named-line : nestingIn s ≡ nestingFrom 2 (inside (v ∷ []) 1) (linesAt s next)
     named-line = first-line true f ∙ ap (λ (n : List ℕ). nestingFrom 2 (inside (n ∷ []) 1) (linesAt s next)) (sym g)
 
-    pub check-closed : (a i c : ℕ) → u ≡ At a i c → (r : Nesting) → r ≡ nestingFrom i closed (linesAt s a) → r ≡ nestingIn s
-    check-closed a i c q r w = w ∙ sym (named-line ∙ closes-at a i c k q .decided [] refl)
+    pub check-closed : (a i c : ℕ) → u ≡ At a i c → nestingFrom i closed (linesAt s a) ≡ nestingIn s
+    check-closed a i c q = sym (named-line ∙ closes-at a i c k q .decided [] refl)
 
-    pub check-broken : (j : ℕ) → u ≡ Broken j → BadLine j ≡ nestingIn s
-    check-broken j q = sym (named-line ∙ breaks-before j k q .decided [] refl)
+    pub check-broken : (j a : ℕ) → u ≡ Broken j a → BadLine j ≡ nestingIn s
+    check-broken j a q = sym (named-line ∙ breaks-before j a k q .decided [] refl)
+
+    pub check-bad : (j : ℕ) → u ≡ Bad j → LineCheck.BadLine j ≡ lineCheck s
+    check-bad j q = bad-before s v next 2 1 8 j k q
+
+-- ---- lines and nesting in one answer
+
+structure-by : {c d : LineCheck} (k : Nesting) → c ≡ d → structureBy c k ≡ structureBy d k
+structure-by k p = ap (λ (x : LineCheck). structureBy x k) p
+
+pub structure-bad : (s : List ℕ) (n : ℕ) (k : Nesting) → LineCheck.BadLine n ≡ lineCheck s → Structure.BadLine n ≡ structureBy (lineCheck s) k
+unfolding structureBy
+structure-bad s n k p = structure-by k p
+
+pub structure-broken : (s : List ℕ) (n : ℕ) → LineCheck.Good ≡ lineCheck s → Structure.BadNesting n ≡ structureBy (lineCheck s) (BadLine n)
+unfolding structureBy
+structure-broken s n p = structure-by (BadLine n) p
+
+pub structure-good : (s : List ℕ) → LineCheck.Good ≡ lineCheck s → Structure.Good ≡ structureBy (lineCheck s) Good
+unfolding structureBy
+structure-good s p = structure-by Good p
+
+-- the same nesting gives the same answer
+pub structure-nested : (s : List ℕ) {k l : Nesting} {r : Structure} → k ≡ l → r ≡ structureBy (lineCheck s) k → r ≡ structureBy (lineCheck s) l
+structure-nested s q e = e ∙ ap (structureBy (lineCheck s)) q

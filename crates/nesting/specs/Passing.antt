@@ -8,6 +8,8 @@ use Rattle.ascii.specs.Names.{sameName}
 use Rattle.text.specs.Lines.{contentLines, part, LineFrom}
 use Rattle.line.specs.Grammar.{ContentLine}
 use Rattle.line.specs.Reading.{lineOf}
+use Rattle.line.specs.WellFormed.{lineCheck, Checked}
+use Rattle.line.specs.declared.check.LineCheck.{LineCheck}
 use Rattle.nesting.specs.Marks.{markOf}
 use Rattle.nesting.specs.Nesting.{isCalendar, mayBegin, Walk, inside, outside, walk, outcome, nestingOf}
 use Rattle.nesting.specs.Components.{Numbered, Marked, markedFrom, Items, none, property, component, endOf, itemsOf, treeOf}
@@ -20,7 +22,8 @@ use Rattle.nesting.specs.declared.Met.the-variants.{Opens, Stays, Closes
 use Rattle.nesting.specs.declared.items.Item.{Item}
 use Rattle.nesting.specs.declared.items.Place.{Place}
 use Rattle.nesting.specs.declared.Closed.{Closed}
-use Rattle.nesting.specs.declared.Closed.the-variants.{At, Broken}
+use Rattle.nesting.specs.declared.Closed.the-variants.{At, Broken, Bad}
+use Rattle.nesting.specs.declared.Structure.{Structure}
 use Rattle.nesting.specs.declared.items.Item.the-variants as Item
 
 -- the lines that begin at a place and after it
@@ -30,6 +33,12 @@ linesAt s at = map lineOf (contentLines (drop at s))
 -- is the nesting of a file right, and its tree
 unfoldable pub nestingIn : List ℕ → Nesting
 nestingIn s = nestingOf (map lineOf (contentLines s))
+
+-- lines and nesting in one answer: a badly formed line counts before a line that breaks the nesting
+unfoldable pub structureBy : LineCheck → Nesting → Structure
+structureBy (LineCheck.BadLine n) k = Structure.BadLine n
+structureBy LineCheck.Good (Nesting.BadLine n) = Structure.BadNesting n
+structureBy LineCheck.Good Nesting.Good = Structure.Good
 
 unfoldable pub treeIn : List ℕ → Items
 treeIn s = treeOf (map lineOf (contentLines s))
@@ -56,23 +65,24 @@ unfoldable pub beginsCalendar : ContentLine → Bool
 beginsCalendar x = beginsBy (markOf x) (x .value)
 
 -- The component of this name, open at this place, has ended; at most `left` components may be open inside each other from it on.
--- Whatever is open around it, the file's outcome is decided by the lines from place a on.
+-- The lines before place a are well formed, and whatever is open around it, the file's outcome is decided by the lines from there on.
 pub record ClosesAt (s name : List ℕ) (at number count left a i c : ℕ) : Type 0 where
   pub onward : at < a
-  pub within : a ≤ length s
-  pub numbered : i ≤ a + 1
+  pub checked : Checked s i a
   pub counted : c ≤ 256
   pub decided : (o : List (List ℕ)) → length o + left ≡ 8
       → nestingFrom number (inside (name ∷ o) count) (linesAt s at) ≡ nestingFrom i (outside o c) (linesAt s a)
 
--- the file breaks at line j before the component ends, whatever is open around it
-pub record BreaksBefore (s name : List ℕ) (at number count left j : ℕ) : Type 0 where
+-- the file breaks at line j, at place a, before the component ends, whatever is open around it, and the lines before are well formed
+pub record BreaksBefore (s name : List ℕ) (at number count left j a : ℕ) : Type 0 where
+  pub checked : Checked s j a
   pub decided : (o : List (List ℕ)) → length o + left ≡ 8 → nestingFrom number (inside (name ∷ o) count) (linesAt s at) ≡ BadLine j
 
 -- what reading a component answers
 unfoldable pub ReadsTo : List ℕ → List ℕ → ℕ → ℕ → ℕ → ℕ → Closed → Type 0
 ReadsTo s name at number count left (At a i c) = ClosesAt s name at number count left a i c
-ReadsTo s name at number count left (Broken j) = BreaksBefore s name at number count left j
+ReadsTo s name at number count left (Broken j a) = BreaksBefore s name at number count left j a
+ReadsTo s name at number count left (Bad j) = LineCheck.BadLine j ≡ lineCheck s
 
 -- the lines from a place on, as the tree takes them, the first of them number i
 unfoldable pub linesFrom : List ℕ → ℕ → ℕ → List Marked

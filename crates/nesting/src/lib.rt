@@ -1,15 +1,18 @@
-// The nesting of components: is it right, and if not at which line; and a walk from item to item of a component.
+// The lines of a file and the nesting of its components: are they right, and if not at which line; and a walk from item to item of a component.
 // Each function equals one definition of specs/.
 pub mod items;
 
-use text::Span;
+use line::check::LineCheck;
+use line::check::Next;
 ghost use mathlib.Core.Path.{_≡_};
-ghost use Prim.Native.Nat.{_+_, _≤_};
+ghost use Prim.Native.Nat.{_≤_};
 ghost use lib.ListN.{length};
 ghost use Rattle.line.specs.Reading.{nameOf, lineOf, valueOf};
+ghost use Rattle.line.specs.WellFormed.{lineCheck, Checked};
 ghost use Rattle.nesting.specs.Marks.{markOf, markedBy};
 ghost use Rattle.nesting.specs.Nesting.{mayBegin, Walk};
-ghost use Rattle.nesting.specs.Passing.{metBy, beginsCalendar, ReadsTo, linesAt, nestingFrom, nestingIn};
+ghost use Rattle.nesting.specs.Passing.{metBy, beginsCalendar, ReadsTo, linesAt, nestingFrom, nestingIn, structureBy};
+ghost use Rattle.nesting.specs.declared.Nesting.the-variants.{BadLine};
 
 // What a line is to the nesting.
 pub enum Mark {
@@ -42,8 +45,19 @@ enum Met {
 enum Closed {
     // The place behind its END line, the number of the line there, and how many components have begun.
     At(usize, usize, usize),
-    // The nesting breaks first, at this line.
-    Broken(usize),
+    // The nesting breaks first, at the line of this number, which begins at this place.
+    Broken(usize, usize),
+    // A badly formed line comes first: its number.
+    Bad(usize),
+}
+
+// Is each line well formed and the nesting right, or which line is the first that is not?
+pub enum Structure {
+    Good,
+    // The first badly formed line.
+    BadLine(usize),
+    // Each line is well formed, and this one breaks the nesting.
+    BadNesting(usize),
 }
 
 // Mostly the first byte tells that a line is a property. Only that is asked here, so that it can stand in the loops over lines.
@@ -131,17 +145,19 @@ fn meets(line: &[u8], name: &[u8], depth: usize, count: usize) -> Met
 // Reads the component of this name, whose lines begin at `from` with line number `first`, and each component in it by this same function.
 // `begun` components have begun, this one among them, and at most `left` may be open inside each other from this one on: 8 for VCALENDAR.
 fn component(s: &[u8], name: &[u8], from: usize, first: usize, begun: usize, left: usize) -> Closed
-    requires { ⌜ (from ≤ length (now s)) × (first ≤ from + 1) × (begun ≤ 256) × (left ≤ 8) ⌝ }
+    requires { ⌜ Checked (now s) first from × (begun ≤ 256) × (left ≤ 8) ⌝ }
     ensures { λ r. ⌜ ReadsTo (now (s .entry)) (now (name .entry)) from first begun left r ⌝ }
 {
     let mut at = from;
     let mut number = first;
     let mut count = begun;
     loop {
-        match text::next_line(s, at) {
-            Span::End => return Closed::Broken(number),
-            Span::Line(e, next) => {
+        match line::check::next_good(s, at) {
+            Next::End => return Closed::Broken(number, at),
+            Next::Bad => return Closed::Bad(number),
+            Next::Line(e) => {
                 let line = &s[at..e];
+                let next = e + 2;
                 let after = number + 1;
                 let more = count + 1;
                 match meets(line, name, 10 - left, more) {
@@ -152,7 +168,8 @@ fn component(s: &[u8], name: &[u8], from: usize, first: usize, begun: usize, lef
                                 number = i;
                                 count = c;
                             }
-                            Closed::Broken(j) => return Closed::Broken(j),
+                            Closed::Broken(j, a) => return Closed::Broken(j, a),
+                            Closed::Bad(j) => return Closed::Bad(j),
                         }
                     }
                     Met::Stays => {
@@ -160,7 +177,7 @@ fn component(s: &[u8], name: &[u8], from: usize, first: usize, begun: usize, lef
                         number = after;
                     }
                     Met::Closes => return Closed::At(next, after, count),
-                    Met::Breaks => return Closed::Broken(number),
+                    Met::Breaks => return Closed::Broken(number, at),
                 }
             }
         }
@@ -178,31 +195,46 @@ fn begins_calendar(line: &[u8]) -> bool
     }
 }
 
-// VCALENDAR has ended: no line may follow.
-fn after_calendar(s: &[u8], at: usize, number: usize) -> Nesting
-    ensures { λ r. ⌜ r ≡ nestingFrom number Walk.closed (linesAt (now (s .entry)) at) ⌝ }
+// The nesting breaks at this line; a badly formed line counts first, wherever it stands.
+fn broken_at(s: &[u8], at: usize, number: usize) -> Structure
+    requires { ⌜ Checked (now s) number at ⌝ }
+    ensures { λ r. ⌜ r ≡ structureBy (lineCheck (now (s .entry))) (BadLine number) ⌝ }
 {
-    match text::next_line(s, at) {
-        Span::End => Nesting::Good,
-        Span::Line(_, _) => Nesting::BadLine(number),
+    match line::check::check_lines_from(s, at, number) {
+        LineCheck::Good => Structure::BadNesting(number),
+        LineCheck::BadLine(n) => Structure::BadLine(n),
     }
 }
 
-// Is the nesting of these lines right, and if not at which line does it break?
-pub fn check_nesting(s: &[u8]) -> Nesting
-    ensures { λ r. ⌜ r ≡ nestingIn (now (s .entry)) ⌝ }
+// VCALENDAR has ended: no line may follow.
+fn after_calendar(s: &[u8], at: usize, number: usize) -> Structure
+    requires { ⌜ Checked (now s) number at ⌝ }
+    ensures { λ r. ⌜ r ≡ structureBy (lineCheck (now (s .entry))) (nestingFrom number Walk.closed (linesAt (now (s .entry)) at)) ⌝ }
+{
+    match line::check::next_good(s, at) {
+        Next::End => Structure::Good,
+        Next::Bad => Structure::BadLine(number),
+        Next::Line(_) => broken_at(s, at, number),
+    }
+}
+
+// Is each line well formed and the nesting right? One walk over the lines.
+pub fn check_structure(s: &[u8]) -> Structure
+    ensures { λ r. ⌜ r ≡ structureBy (lineCheck (now (s .entry))) (nestingIn (now (s .entry))) ⌝ }
 {
     let from = 0;
-    match text::next_line(s, from) {
-        Span::End => Nesting::BadLine(1),
-        Span::Line(e, next) => {
+    match line::check::next_good(s, from) {
+        Next::End => Structure::BadNesting(1),
+        Next::Bad => Structure::BadLine(1),
+        Next::Line(e) => {
             let line = &s[from..e];
             if !begins_calendar(line) {
-                return Nesting::BadLine(1);
+                return broken_at(s, from, 1);
             }
-            match component(s, line::read::value(line), next, 2, 1, 8) {
+            match component(s, line::read::value(line), e + 2, 2, 1, 8) {
                 Closed::At(at, number, _) => after_calendar(s, at, number),
-                Closed::Broken(j) => Nesting::BadLine(j),
+                Closed::Broken(j, at) => broken_at(s, at, j),
+                Closed::Bad(j) => Structure::BadLine(j),
             }
         }
     }

@@ -5,9 +5,9 @@ use mathlib.Core.Bool.{Bool, true, false, cond, _&&_, _||_, and-false, or-false,
 use mathlib.Core.Logic.{_⊎_, inl, inr}
 use mathlib.Core.List.{List, [], _∷_, _++_, append-assoc, append-nil, List·Memᴰ, List·Memᴰ·head, List·Memᴰ·tail, List·Memᴰ·not-nil, List·Memᴰ·append-cases, List·Memᴰ·eq-of-singleton}
 use native.Mathlib.Omega.{arith}
-use lib.Dec.{leb, ltb}
+use lib.Dec.{ltb}
 use lib.ListN.{length}
-use borrow.Author.Tests.{ltb-true, ltb-false, leb-true, lt-ltb, le-ltb, le-leb, eqb-true}
+use borrow.Author.Tests.{ltb-true, lt-ltb, le-ltb, eqb-true}
 use Rattle.ascii.proofs.Bools.{and-left, and-right, and-both, clash, not-so}
 use Rattle.values.specs.declared.period.Period.{Period}
 use Rattle.values.specs.declared.said.Busy.{Busy}
@@ -15,6 +15,7 @@ use Rattle.calendar.specs.BusyTypes.{reportPlace, isBusy, sameBusy}
 use Rattle.calendar.specs.Meaning.{BusyPeriod, Entry}
 use Rattle.table.specs.Runs.{period, within, covers}
 use Rattle.table.specs.Inserting.{lesser, greater}
+use Rattle.table.proofs.Stretches.{within-ends, within-true, greater-left, greater-right, greater-most, lesser-left, lesser-right, lesser-least, lesser-strict}
 use Rattle.pieces.specs.BusyPeriods.{busyPeriods}
 use Rattle.pieces.specs.Covered.{ofType, coveredBy, covered}
 use Rattle.pieces.specs.Pieces.{clipped, isPiece, pieceOf, piecesOf, busyPieces}
@@ -91,29 +92,6 @@ coveredBy-append b x ps qs = ap (λ (l : List Period). covers l x) (ofType-appen
 
 -- ---- one period
 
-pub within-true : (a e x : ℕ) → within a e x ≡ true → (a ≤ x) × (x < e)
-unfolding within
-within-true a e x h = (leb-true a x (and-left (leb a x) _ h), ltb-true x e (and-right (leb a x) _ h))
-
-pub within-holds : (a e x : ℕ) → a ≤ x → x < e → within a e x ≡ true
-unfolding within
-within-holds a e x p q = and-both (le-leb a x p) (lt-ltb x e q)
-
--- the later start and the earlier end
-pub greater-is : (a s : ℕ) → (a ≤ greater a s) × (s ≤ greater a s) × ((x : ℕ) → a ≤ x → s ≤ x → greater a s ≤ x)
-greater-is a s = go (ltb a s) refl
-  where
-    go : (t : Bool) → ltb a s ≡ t → (a ≤ cond t s a) × (s ≤ cond t s a) × ((x : ℕ) → a ≤ x → s ≤ x → cond t s a ≤ x)
-    go true q = (omega (arith, ltb-true a s q), omega arith, λ x p r. r)
-    go false q = (omega arith, ltb-false a s q, λ x p r. p)
-
-pub lesser-is : (e t : ℕ) → (lesser e t ≤ e) × (lesser e t ≤ t) × ((x : ℕ) → x < e → x < t → x < lesser e t)
-lesser-is e t = go (ltb t e) refl
-  where
-    go : (y : Bool) → ltb t e ≡ y → (cond y t e ≤ e) × (cond y t e ≤ t) × ((x : ℕ) → x < e → x < t → x < cond y t e)
-    go true q = (omega (arith, ltb-true t e q), omega arith, λ x p r. r)
-    go false q = (omega arith, ltb-false t e q, λ x p r. p)
-
 -- a choice by its test: greater a s and, with the two turned, lesser
 pub later : {x y t : ℕ} (e : ℕ) → x < y → t ≡ cond (ltb x y) t e
 later {x} {y} {t} e h = sym (ap (λ (z : Bool). cond z t e) (lt-ltb x y h))
@@ -122,24 +100,20 @@ pub earlier : {x y e : ℕ} (t : ℕ) → y ≤ x → e ≡ cond (ltb x y) t e
 earlier {x} {y} {e} t h = sym (ap (λ (z : Bool). cond z t e) (le-ltb x y h))
 
 lesser-same : (e t : ℕ) → t ≤ e → lesser e t ≡ t
-lesser-same e t p = go (ltb t e) refl
-  where
-    go : (y : Bool) → ltb t e ≡ y → cond y t e ≡ t
-    go true q = refl
-    go false q = omega (arith, ltb-false t e q)
+lesser-same e t p = omega (arith, lesser-right e t, lesser-least e t p (omega arith))
 
 -- a second of the part is one of the range and of the period
 clipped-within : (a e x s t : ℕ) → within (greater a s) (lesser e t) x ≡ (within a e x && within s t x)
 clipped-within a e x s t =
     each-other _ _
     (λ h.
-    let k = within-true _ _ x h in
-    and-both (within-holds a e x (omega (arith, k .0, greater-is a s .0)) (omega (arith, k .1, lesser-is e t .0)))
-    (within-holds s t x (omega (arith, k .0, greater-is a s .1)) (omega (arith, k .1, lesser-is e t .1))))
+    let k = within-ends _ _ x h in
+    and-both (within-true a e x (omega (arith, k .0, greater-left a s)) (omega (arith, k .1, lesser-left e t)))
+    (within-true s t x (omega (arith, k .0, greater-right a s)) (omega (arith, k .1, lesser-right e t))))
     (λ h.
-    let k = within-true a e x (and-left (within a e x) _ h) in
-    let m = within-true s t x (and-right (within a e x) _ h) in
-    within-holds _ _ x (greater-is a s .2 x (k .0) (m .0)) (lesser-is e t .2 x (k .1) (m .1)))
+    let k = within-ends a e x (and-left (within a e x) _ h) in
+    let m = within-ends s t x (and-right (within a e x) _ h) in
+    within-true _ _ x (greater-most a s (k .0) (m .0)) (lesser-strict e t (k .1) (m .1)))
 
 -- does the period, of its type, cover the second?
 unfoldable pub hits : Busy → BusyPeriod → ℕ → Bool
@@ -168,9 +142,9 @@ module _ (b : Busy) (u : isBusy b ≡ true) (a e x : ℕ) where
       let s = p .period .start in
       let t = p .period .end in
       let y = and-right (within a e x) _ h in
-      let k = within-true a e x (and-left (within a e x) _ h) in
-      let m = within-true s t x (and-right (sameBusy b (p .busy)) _ y) in
-      let w : greater a s < lesser e t = omega (arith, greater-is a s .2 x (k .0) (m .0), lesser-is e t .2 x (k .1) (m .1)) in
+      let k = within-ends a e x (and-left (within a e x) _ h) in
+      let m = within-ends s t x (and-right (sameBusy b (p .busy)) _ y) in
+      let w : greater a s < lesser e t = omega (arith, greater-most a s (k .0) (m .0), lesser-strict e t (k .1) (m .1)) in
       clash (and-both (same-is-busy b (p .busy) u (and-left (sameBusy b (p .busy)) _ y)) (lt-ltb (greater a s) (lesser e t) w)) z)
 
   clipped-hits : (p : BusyPeriod) → hits b (pieceIn a e p) x ≡ (within a e x && hits b p x)
@@ -230,9 +204,9 @@ module _ (a e : ℕ) where
   piece-inside p h =
       record {
         is-busy = and-left (isBusy (p .busy)) _ h;
-        from = greater-is a (p .period .start) .0;
+        from = greater-left a (p .period .start);
         rising = ltb-true _ _ (and-right (isBusy (p .busy)) _ h);
-        to = lesser-is e (p .period .end) .0;
+        to = lesser-left e (p .period .end);
       }
 
   listed-inside : (p : BusyPeriod) {q : BusyPeriod} → List·Memᴰ q (pieceOf a e p) → Inside a e q
@@ -255,7 +229,7 @@ module _ (a e : ℕ) where
   clipped-same : (s t : ℕ) → a ≤ s → t ≤ e → clipped a e (period s t) ≡ period s t
   unfolding clipped
   clipped-same s t p q =
-      let x : greater a s ≡ s = omega (arith, greater-is a s .1, greater-is a s .2 s p (omega arith)) in
+      let x : greater a s ≡ s = omega (arith, greater-right a s, greater-most a s p (omega arith)) in
       ap (λ (n : ℕ). period n (lesser e t)) x ∙ ap (λ (n : ℕ). period s n) (lesser-same e t q)
 
   pub piece-same : (p : BusyPeriod) → Inside a e p → pieceOf a e p ≡ p ∷ []

@@ -21,15 +21,16 @@ use Rattle.calendar.specs.declared.Block.{Block}
 use Rattle.calendar.specs.declared.BlockRead.{BlockRead}
 use Rattle.calendar.proofs.BusyPlaces.{sameBusy-iff}
 use Rattle.calendar.proofs.Sizes.{eventOf-small}
-use Rattle.busy.specs.Instances.{startOf, endOf, stands}
+use Rattle.busy.specs.Instances.{startOf, endOf, stands, instancesAtMost}
 use Rattle.busy.specs.Sizes.{Small}
 use Rattle.busy.proofs.Bounds.{starts-long}
-use Rattle.pieces.specs.BusyPeriods.{listBelow, instancesAtMost, instancePeriod, eventPeriods, entryPeriods, busyPeriods}
+use Rattle.pieces.specs.BusyPeriods.{listBelow, instancePeriod, eventPeriods, entryPeriods, busyPeriods}
 use Rattle.pieces.specs.Covered.{coveredBy, covered, Covers, by-instance, by-period}
 use Rattle.pieces.specs.Walks.{busyPeriod}
-use Rattle.pieces.proofs.Clipping.{covers-none, hits, hits-first, within-true, within-holds}
+use Rattle.pieces.proofs.Clipping.{covers-none, hits, hits-first}
 use Rattle.pieces.proofs.Events.{stands-period, fails-period}
 use Rattle.busy.proofs.EventSizes.{event-sizes}
+use Rattle.table.proofs.Stretches.{within-ends, within-true}
 
 -- some period of the list has the type and covers the second
 pub record CoveredIn (ps : List BusyPeriod) (b : Busy) (x : ℕ) : Type 0 where
@@ -42,12 +43,12 @@ pub record CoveredIn (ps : List BusyPeriod) (b : Busy) (x : ℕ) : Type 0 where
 module _ (b : Busy) (x : ℕ) where
   hits-holds : (p : BusyPeriod) → p .busy ≡ b → p .period .start ≤ x → x < p .period .end → hits b p x ≡ true
   unfolding hits
-  hits-holds p e f g = and-both (sameBusy-iff b (p .busy) .1 (sym e)) (within-holds _ _ x f g)
+  hits-holds p e f g = and-both (sameBusy-iff b (p .busy) .1 (sym e)) (within-true _ _ x f g)
 
   hits-true : (p : BusyPeriod) (ps : List BusyPeriod) → hits b p x ≡ true → CoveredIn (p ∷ ps) b x
   unfolding hits
   hits-true p ps h =
-      let k = within-true _ _ x (and-right (sameBusy b (p .busy)) _ h) in
+      let k = within-ends _ _ x (and-right (sameBusy b (p .busy)) _ h) in
       record {
         which = p;
         listed = List·Memᴰ·head refl;

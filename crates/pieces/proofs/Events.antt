@@ -13,19 +13,20 @@ use Rattle.values.specs.declared.said.Busy.{Busy}
 use Rattle.calendar.specs.BusyTypes.{reportPlace, isBusy}
 use Rattle.calendar.specs.Meaning.{BusyPeriod}
 use Rattle.calendar.specs.declared.Event.{Event}
-use Rattle.busy.specs.Instances.{startOf, endOf, stands, lengthBy}
+use Rattle.busy.specs.Instances.{startOf, endOf, stands, lengthBy, instancesAtMost}
 use Rattle.busy.specs.Sizes.{Small}
 use Rattle.busy.specs.TimeRange.{touches, instanceIn}
 use Rattle.busy.specs.Candidates.{FirstCandidate, startsBefore}
 use Rattle.busy.proofs.Searching.{few-before}
 use Rattle.busy.proofs.Starts.{none-after}
 use Rattle.table.specs.Inserting.{lesser, greater}
-use Rattle.pieces.specs.BusyPeriods.{listBelow, instancesAtMost, instancePeriod, eventPeriods}
+use Rattle.table.proofs.Stretches.{greater-left, greater-right, lesser-left, lesser-right}
+use Rattle.pieces.specs.BusyPeriods.{listBelow, instancePeriod, eventPeriods}
 use Rattle.pieces.specs.Columns.{Noted}
 use Rattle.pieces.specs.Pieces.{clipped, isPiece, pieceOf, piecesOf}
 use Rattle.pieces.specs.Walks.{busyPeriod}
 use Rattle.pieces.proofs.Adding.{noted-none, noted-full, noted-piece, noted-as, noted-then, noted-few, noted-long}
-use Rattle.pieces.proofs.Clipping.{greater-is, lesser-is, chosen, left-out, is-piece, is-none, one-piece, piecesOf-none, piecesOf-append}
+use Rattle.pieces.proofs.Clipping.{chosen, left-out, is-piece, is-none, one-piece, piecesOf-none, piecesOf-append}
 
 -- ---- one period
 
@@ -69,7 +70,7 @@ pub piece-small : {to : ℕ} (place from n b end : ℕ) → to ≡ lesser b end 
 piece-small {to} place from n b end t l h =
     let m = and-left (ltb n 513 && ltb place 3) _ h in
     let r = ltb-true from to (and-right (ltb n 513 && ltb place 3) _ h) in
-    let s : to ≤ 4102444799 = omega (arith, lesser-is b end .0) in
+    let s : to ≤ 4102444799 = omega (arith, lesser-left b end) in
     (ltb-true n 513 (and-left (ltb n 513) _ m), omega arith, s, omega (arith, ltb-true place 3 (and-right (ltb n 513) _ m)))
 
 -- ---- one instance
@@ -103,9 +104,9 @@ unfolding touches
 piece-touches a b s t h = go (eqb s t) refl
   where
     go : (y : Bool) → eqb s t ≡ y → cond y (leb a s && ltb s b) (ltb a t && ltb s b) ≡ true
-    go true q = absurd (omega (arith, eqb-true s t q, greater-is a s .1, lesser-is b t .1))
+    go true q = absurd (omega (arith, eqb-true s t q, greater-right a s, lesser-right b t))
     go false q =
-        and-both (lt-ltb a t (omega (arith, greater-is a s .0, lesser-is b t .1))) (lt-ltb s b (omega (arith, greater-is a s .1, lesser-is b t .0)))
+        and-both (lt-ltb a t (omega (arith, greater-left a s, lesser-right b t))) (lt-ltb s b (omega (arith, greater-right a s, lesser-left b t)))
 
 piece-in : (a b s t : ℕ) (y : Busy) → touches a b s t ≡ false → isPiece a b (busyPeriod y s t) ≡ false
 unfolding isPiece clipped

@@ -4,17 +4,13 @@ use mathlib.Core.Bool.{true, false}
 use mathlib.Core.List.{List, [], _∷_, _++_}
 use Rattle.calendar.specs.Meaning.{BusyPeriod, Entry, event, block}
 use Rattle.calendar.specs.declared.Event.{Event}
-use Rattle.busy.specs.Instances.{startOf, endOf, stands}
+use Rattle.busy.specs.Instances.{startOf, endOf, stands, instancesAtMost}
 use Rattle.table.specs.Runs.{period}
 
 -- the lists of 0, 1, .., n - 1 after each other
 unfoldable pub listBelow : ℕ → (ℕ → List BusyPeriod) → List BusyPeriod
 listBelow zero f = []
 listBelow (suc n) f = listBelow n f ++ f n
-
--- starts are a day or more apart, so that instances below this number are all that start by the last second
-abbrev pub instancesAtMost : ℕ
-instancesAtMost = 50000
 
 -- instance k, where it stands
 unfoldable pub instancePeriod : Event → ℕ → List BusyPeriod

@@ -83,6 +83,9 @@ lesser-right a b = chosen (λ n. n ≤ b) b a (λ h. omega arith) (λ h. omega a
 pub lesser-least : (a b : ℕ) {x : ℕ} → x ≤ a → x ≤ b → x ≤ lesser a b
 lesser-least a b {x} h k = chosen (λ n. x ≤ n) b a (λ i. k) (λ i. h)
 
+pub lesser-strict : (a b : ℕ) {x : ℕ} → x < a → x < b → x < lesser a b
+lesser-strict a b {x} h k = chosen (λ n. x < n) b a (λ i. k) (λ i. h)
+
 pub greater-left : (a b : ℕ) → a ≤ greater a b
 greater-left a b = chosen (λ n. a ≤ n) a b (λ h. omega arith) (λ h. omega arith)
 
