@@ -9,8 +9,8 @@ use borrow.Author.Tests.{ltb-true, ltb-false}
 use Rattle.time.specs.Duration.{durationSeconds}
 use Rattle.time.specs.declared.duration.Duration.{Duration}
 use Rattle.time.specs.declared.date_time.Kind.{Kind}
-use Rattle.calendar.specs.declared.Ending.{Ending}
-use Rattle.calendar.specs.declared.Event.{Event}
+use Rattle.rules.specs.declared.Ending.{Ending}
+use Rattle.rules.specs.declared.Event.{Event}
 use Rattle.busy.specs.Instances.{stepOf, startOf, defaultLength, lengthBy}
 use Rattle.busy.specs.Sizes.{Small}
 use Rattle.busy.specs.Candidates.{firstAt, spanOf}

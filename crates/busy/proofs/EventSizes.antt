@@ -1,10 +1,10 @@
 -- An event that is read has the sizes that its sums and products want.
 use mathlib.Core.Path.{subst}
 use Rattle.time.specs.Limits.{lastSecond}
-use Rattle.calendar.specs.Sizes.{EndingSmall, RepeatSmall, EventSmall}
-use Rattle.calendar.specs.declared.Ending.{Ending}
-use Rattle.calendar.specs.declared.Repeat.{Repeat}
-use Rattle.calendar.specs.declared.Event.{Event}
+use Rattle.rules.specs.Sizes.{EndingSmall, RepeatSmall, EventSmall}
+use Rattle.rules.specs.declared.Ending.{Ending}
+use Rattle.rules.specs.declared.Repeat.{Repeat}
+use Rattle.rules.specs.declared.Event.{Event}
 use Rattle.busy.specs.Sizes.{Small}
 
 pub event-sizes : {e : Event} → EventSmall e → Small e

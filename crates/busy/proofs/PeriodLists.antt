@@ -5,7 +5,7 @@ use mathlib.Core.Bool.{Bool, true, false, _||_, or-assoc}
 use mathlib.Core.List.{List, [], _∷_, _++_, List·Memᴰ, List·Memᴰ·head, List·Memᴰ·tail}
 use mathlib.Core.Logic.{_↔_}
 use Rattle.ascii.proofs.Bools.{clash}
-use Rattle.calendar.specs.Meaning.{BusyPeriod}
+use Rattle.rules.specs.BusyTypes.{BusyPeriod}
 use Rattle.busy.specs.TimeRange.{touches, periodsTouch, Decides}
 use Rattle.busy.specs.Blocks.{PeriodIn}
 

@@ -6,7 +6,7 @@ use native.Mathlib.Omega.{arith}
 use lib.Dec.{ltb}
 use borrow.Author.Tests.{ltb-true, ltb-false}
 use Rattle.ascii.proofs.Bools.{and-right, clash, not-so}
-use Rattle.calendar.specs.declared.Event.{Event}
+use Rattle.rules.specs.declared.Event.{Event}
 use Rattle.busy.specs.Instances.{stepOf, startOf, isInstance}
 use Rattle.busy.specs.Sizes.{Small}
 use Rattle.busy.specs.TimeRange.{instanceIn, EventIn, Decides}

@@ -7,8 +7,8 @@ use native.Mathlib.Nat.{mul-le-mul-right}
 use lib.Dec.{eqb, ltb, leb}
 use borrow.Author.Tests.{ltb-true, leb-true, eqb-true, lt-ltb, le-leb, eq-eqb}
 use Rattle.ascii.proofs.Bools.{and-left, and-right, and-both, clash, not-so}
-use Rattle.calendar.specs.declared.Repeat.{Repeat}
-use Rattle.calendar.specs.declared.Event.{Event}
+use Rattle.rules.specs.declared.Repeat.{Repeat}
+use Rattle.rules.specs.declared.Event.{Event}
 use Rattle.busy.specs.Instances.{stepOf, startOf, repeats, isInstance, stands, lengthBy, endOf}
 use Rattle.busy.specs.TimeRange.{touches, instanceIn}
 use Rattle.busy.specs.Candidates.{spanOf, startsBefore}

@@ -3,7 +3,7 @@ use Prim.Native.Nat.{ℕ}
 use mathlib.Core.Path.{_≡_}
 use mathlib.Core.Bool.{true}
 use mathlib.Core.List.{List, List·Memᴰ}
-use Rattle.calendar.specs.Meaning.{BusyPeriod}
+use Rattle.rules.specs.BusyTypes.{BusyPeriod}
 use Rattle.busy.specs.TimeRange.{touches}
 
 -- some period of the list touches the range

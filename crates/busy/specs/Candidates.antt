@@ -3,7 +3,7 @@ use Prim.Native.Nat.{ℕ, _+_, _-_, _*_, _/_, _≤_, _<_}
 use mathlib.Core.Path.{_≡_}
 use mathlib.Core.Bool.{Bool, false, cond, _&&_}
 use lib.Dec.{eqb, ltb}
-use Rattle.calendar.specs.declared.Event.{Event}
+use Rattle.rules.specs.declared.Event.{Event}
 use Rattle.busy.specs.Instances.{stepOf, startOf, isInstance, lengthBy}
 use Rattle.busy.specs.TimeRange.{instanceIn}
 

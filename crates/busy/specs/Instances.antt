@@ -4,9 +4,9 @@ use mathlib.Core.Bool.{Bool, true}
 use lib.Dec.{eqb, ltb, leb}
 use Rattle.time.specs.Duration.{durationSeconds}
 use Rattle.time.specs.declared.date_time.Kind.{Kind}
-use Rattle.calendar.specs.declared.Ending.{Ending}
-use Rattle.calendar.specs.declared.Repeat.{Repeat}
-use Rattle.calendar.specs.declared.Event.{Event}
+use Rattle.rules.specs.declared.Ending.{Ending}
+use Rattle.rules.specs.declared.Repeat.{Repeat}
+use Rattle.rules.specs.declared.Event.{Event}
 
 -- the seconds from one start to the next: INTERVAL times a day or a week
 unfoldable pub stepOf : Event → ℕ

@@ -3,9 +3,9 @@ use Prim.Native.Nat.{ℕ, _≤_, _<_}
 use mathlib.Core.Path.{_≡_}
 use Rattle.time.specs.Duration.{durationSeconds}
 use Rattle.time.specs.declared.duration.Duration.{Duration}
-use Rattle.calendar.specs.declared.Ending.{Ending}
-use Rattle.calendar.specs.declared.Repeat.{Repeat}
-use Rattle.calendar.specs.declared.Event.{Event}
+use Rattle.rules.specs.declared.Ending.{Ending}
+use Rattle.rules.specs.declared.Repeat.{Repeat}
+use Rattle.rules.specs.declared.Event.{Event}
 
 pub record Small (e : Event) : Type 0 where
   pub start-small : e .start ≤ 4102444799

@@ -4,10 +4,10 @@ use mathlib.Core.Path.{_≡_}
 use mathlib.Core.Bool.{Bool, true, false, cond, _&&_, _||_}
 use mathlib.Core.List.{List, [], _∷_}
 use lib.Dec.{eqb, ltb, leb}
-use Rattle.calendar.specs.Meaning.{BusyPeriod}
-use Rattle.calendar.specs.declared.Event.{Event}
-use Rattle.calendar.specs.declared.Bound.{Bound}
-use Rattle.calendar.specs.declared.Block.{Block}
+use Rattle.rules.specs.BusyTypes.{BusyPeriod}
+use Rattle.rules.specs.declared.Event.{Event}
+use Rattle.rules.specs.declared.Bound.{Bound}
+use Rattle.rules.specs.declared.Block.{Block}
 use Rattle.busy.specs.Instances.{startOf, endOf, stands}
 
 -- what stands from s to t, against the range: start < t and end > s; where it has no length, start ≤ s and s < end

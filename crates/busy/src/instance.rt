@@ -1,7 +1,8 @@
 // Recurrence instances of an event: when each starts, how long each is, and which there are.
-use calendar::Ending;
-use calendar::Event;
-use calendar::Repeat;
+// Starts go up by whole days; how many there are is the rule's limit alone.
+use rules::Ending;
+use rules::Event;
+use rules::Repeat;
 use time::date_time::Kind;
 use time::duration;
 ghost use mathlib.Core.Path.{_≡_};

@@ -1,6 +1,7 @@
 // The time range test: is an instance of an event, or a block with both ends, in the range from a up to, but not including, b?
+// One division finds the first instance that can be in a range; from there on each is tested.
 use crate::instance;
-use calendar::Event;
+use rules::Event;
 ghost use mathlib.Core.Path.{_≡_};
 ghost use Prim.Native.Nat.{_≤_};
 ghost use Rattle.busy.specs.Sizes.{Small};

@@ -15,11 +15,11 @@ use Rattle.nesting.specs.Passing.{linesFrom, PropertyAt, InnerAt, NoItemAt}
 use Rattle.nesting.specs.declared.Nesting.{Nesting}
 use Rattle.values.specs.declared.times.Context.{Context}
 use Rattle.values.specs.declared.said.Scope.{Scope}
+use Rattle.rules.specs.Events.{eventBy, blockBy, Entry}
+use Rattle.rules.specs.declared.Gathered.{Gathered}
 use Rattle.calendar.specs.Checks.{brokenBy, ruleElse, firstBroken}
-use Rattle.calendar.specs.Events.{eventBy, blockBy}
-use Rattle.calendar.specs.Meaning.{Entry, Meaning, fault, calendar, scopeOf, eventBroken, blockBroken, valueFault, brokenOr, ruleFault, entriesOf, fileLines, componentsOf, byRules, byValues, byNesting, byLines, contentsOf, meaningOf, faultOf, structureFault}
+use Rattle.calendar.specs.Meaning.{Meaning, fault, calendar, scopeOf, eventBroken, blockBroken, valueFault, brokenOr, ruleFault, entriesOf, fileLines, componentsOf, byRules, byValues, byNesting, byLines, contentsOf, meaningOf, faultOf, structureFault}
 use Rattle.calendar.specs.Places.{gatheredAt, eventAt, blockAt, brokenAt, faultElse, componentsFrom, BelowAt, NoneBelow, ReadsComponent, ChecksFrom}
-use Rattle.calendar.specs.declared.Gathered.{Gathered}
 use Rattle.calendar.specs.declared.ValueCheck.{ValueCheck}
 use Rattle.calendar.specs.declared.RuleCheck.{RuleCheck}
 use Rattle.calendar.specs.declared.Fault.{Fault}

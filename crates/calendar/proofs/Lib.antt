@@ -1,5 +1,3 @@
-pub mod Outcomes
-pub mod BusyPlaces
 pub mod Steps
 pub mod Loops
 pub mod Meanings

@@ -15,11 +15,12 @@ use Rattle.values.specs.Said.{sayingOf}
 use Rattle.values.specs.declared.times.Context.{Context}
 use Rattle.values.specs.declared.said.Scope.{Scope}
 use Rattle.values.specs.declared.said.Saying.{Saying}
-use Rattle.calendar.specs.Gathered.{nothingGathered, gatheredWith, gather}
-use Rattle.calendar.specs.Meaning.{Entry, entriesOf, scopeOf, componentScope, faultIn, valueFault, brokenOr, ruleFault, fileLines, componentsOf}
+use Rattle.rules.specs.Gathered.{nothingGathered, gatheredWith, gather}
+use Rattle.rules.specs.Events.{Entry}
+use Rattle.rules.specs.declared.Gathered.{Gathered}
+use Rattle.calendar.specs.Meaning.{entriesOf, scopeOf, componentScope, faultIn, valueFault, brokenOr, ruleFault, fileLines, componentsOf}
 use Rattle.calendar.specs.Places.{entryAt, sayingsAt, gatheredAt, brokenAt, faultAt, faultElse, componentsFrom, componentAt, BelowAt, NoneBelow, BelowIs}
 use Rattle.calendar.proofs.Steps.{entryOf-at, sayings-property, sayings-inner, sayings-none, components-property, components-first, components-skip, components-none, faultIn-else, isBroken-at}
-use Rattle.calendar.specs.declared.Gathered.{Gathered}
 use Rattle.calendar.specs.declared.ValueCheck.{ValueCheck}
 use Rattle.calendar.specs.declared.places.Below.{Below}
 

@@ -14,12 +14,12 @@ use Rattle.values.specs.Said.{sayingOf}
 use Rattle.values.specs.declared.times.Context.{Context}
 use Rattle.values.specs.declared.said.Scope.{Scope}
 use Rattle.values.specs.declared.said.Saying.{Saying}
-use Rattle.calendar.specs.Gathered.{nothingGathered, gatheredWith}
+use Rattle.rules.specs.Gathered.{nothingGathered, gatheredWith}
+use Rattle.rules.specs.declared.Gathered.{Gathered}
 use Rattle.calendar.specs.Meaning.{faultOr}
 use Rattle.calendar.specs.Places.{faultAt, faultElse, ReadsComponent}
 use Rattle.calendar.proofs.Steps.{fault-property, fault-inner, fault-none, faultOr-else, fault-else-twice}
 use Rattle.calendar.proofs.Loops.{Gathering, gathering-start, gathering-property, gathering-inner, gathering-end}
-use Rattle.calendar.specs.declared.Gathered.{Gathered}
 use Rattle.calendar.specs.declared.ValueCheck.{ValueCheck}
 
 -- ---- the first fault so far

@@ -1,254 +1,81 @@
--- An event and a block that are read are small, since what their lines say is.
-use Prim.Native.Nat.{ℕ, _≤_}
-use mathlib.Core.Path.{_≡_, refl, subst}
-use mathlib.Core.Bool.{Bool, true, false, cond, _&&_}
-use mathlib.Core.List.{List, [], _∷_}
-use native.Mathlib.Omega.{arith}
-use lib.Dec.{ltb, leb}
-use borrow.Author.Tests.{ltb-true, leb-true}
-use Rattle.ascii.proofs.Bools.{and-right}
+-- An event and a block of a calendar are small, since what any line says is.
+use Prim.Native.Nat.{ℕ}
+use mathlib.Core.Path.{_≡_, refl, sym, ap, subst}
+use mathlib.Core.Bool.{Bool, true, false}
+use mathlib.Core.Logic.{_⊎_, inl, inr}
+use mathlib.Core.List.{List, [], _∷_, List·Memᴰ, List·Memᴰ·not-nil, List·Memᴰ·append-cases, List·Memᴰ·eq-of-singleton}
+use Rattle.ascii.proofs.Bools.{clash}
 use Rattle.nesting.specs.Components.{Numbered, Component, itemsOf, propertiesIn}
 use Rattle.nesting.specs.Passing.{linesFrom}
-use Rattle.time.specs.Limits.{lastSecond}
-use Rattle.time.specs.declared.duration.Duration.{Duration}
-use Rattle.values.specs.Period.{DurationSmall}
-use Rattle.values.specs.Rule.{LimitSmall, RuleSmall}
-use Rattle.values.specs.Said.{sayingOf, SayingSmall}
 use Rattle.values.specs.declared.times.Context.{Context}
-use Rattle.values.specs.declared.times.Time.{Time}
-use Rattle.values.specs.declared.rule.Limit.{Limit}
 use Rattle.values.specs.declared.said.Scope.{Scope}
-use Rattle.values.specs.declared.said.Saying.{Saying}
 use Rattle.values.proofs.Sayings.{sayingOf-small}
-use Rattle.calendar.specs.Gathered.{nothingGathered, gatheredWith, gather}
-use Rattle.calendar.specs.Events.{sameKind, isDate, statedEnd, statedDuration, endingBy, limitBy, repeatBy, daysBy, intervalBy, eventMade, eventWith, eventFrom, eventBy, blockBetween, blockFrom, blockBy}
-use Rattle.calendar.specs.Meaning.{sayingsIn, eventOf, blockOf}
+use Rattle.rules.specs.BusyTypes.{BusyPeriod}
+use Rattle.rules.specs.Events.{Entry, event, block}
+use Rattle.rules.specs.Sizes.{EventSmall, BlockSmall}
+use Rattle.rules.specs.declared.Event.{Event}
+use Rattle.rules.specs.declared.Block.{Block}
+use Rattle.rules.specs.declared.EventRead.{EventRead}
+use Rattle.rules.specs.declared.BlockRead.{BlockRead}
+use Rattle.rules.proofs.Sizes.{AllSmall, event-small, block-small}
+use Rattle.calendar.specs.Meaning.{sayingsIn, eventOf, blockOf, eventEntry, blockEntry, entryOf, entriesOf, componentScope}
 use Rattle.calendar.specs.Places.{sayingsAt, gatheredAt, eventAt, blockAt}
-use Rattle.calendar.specs.Sizes.{EndingSmall, RepeatSmall, EventSmall, BlockSmall}
-use Rattle.calendar.specs.declared.Ending.{Ending}
-use Rattle.calendar.specs.declared.Repeat.{Repeat}
-use Rattle.calendar.specs.declared.Event.{Event}
-use Rattle.calendar.specs.declared.Bound.{Bound}
-use Rattle.calendar.specs.declared.Block.{Block}
-use Rattle.calendar.specs.declared.Gathered.{Gathered}
-use Rattle.calendar.specs.declared.TimeGiven.{TimeGiven}
-use Rattle.calendar.specs.declared.DurationGiven.{DurationGiven}
-use Rattle.calendar.specs.declared.RuleGiven.{RuleGiven}
-use Rattle.calendar.specs.declared.EndingRead.{EndingRead}
-use Rattle.calendar.specs.declared.RepeatRead.{RepeatRead}
-use Rattle.calendar.specs.declared.EventRead.{EventRead}
-use Rattle.calendar.specs.declared.BlockRead.{BlockRead}
 
--- ---- what lines say together
-
-abbrev TimeSmall : TimeGiven → Type 0
-TimeSmall (TimeGiven.Given t) = t .second ≤ lastSecond
-TimeSmall TimeGiven.Absent = Unit {0}
-
-abbrev LastsSmall : DurationGiven → Type 0
-LastsSmall (DurationGiven.Given d) = DurationSmall d
-LastsSmall DurationGiven.Absent = Unit {0}
-
-abbrev RepeatsSmall : RuleGiven → Type 0
-RepeatsSmall (RuleGiven.Given r) = RuleSmall r
-RepeatsSmall RuleGiven.Absent = Unit {0}
-
-record GatheredSmall (g : Gathered) : Type 0 where
-  start-small : TimeSmall (g .start)
-  end-small : TimeSmall (g .end)
-  lasts-small : LastsSmall (g .lasts)
-  repeats-small : RepeatsSmall (g .repeats)
-
-nothing-small : GatheredSmall nothingGathered
-unfolding nothingGathered
-nothing-small = record { start-small = tt; end-small = tt; lasts-small = tt; repeats-small = tt }
-
-with-small : (g : Gathered) (x : Saying) → GatheredSmall g → SayingSmall x → GatheredSmall (gatheredWith g x)
-unfolding gatheredWith
-with-small g Saying.Nothing r h = r
-with-small g Saying.Unsupported r h = r
-with-small g Saying.Bad r h = r
-with-small g (Saying.Start t) r h =
-    record { start-small = h; end-small = r .end-small; lasts-small = r .lasts-small; repeats-small = r .repeats-small }
-with-small g (Saying.End t) r h =
-    record { start-small = r .start-small; end-small = h; lasts-small = r .lasts-small; repeats-small = r .repeats-small }
-with-small g (Saying.Lasts d) r h =
-    record { start-small = r .start-small; end-small = r .end-small; lasts-small = h; repeats-small = r .repeats-small }
-with-small g (Saying.Repeats x) r h =
-    record { start-small = r .start-small; end-small = r .end-small; lasts-small = r .lasts-small; repeats-small = h }
-with-small g (Saying.HasStatus x) r h =
-    record { start-small = r .start-small; end-small = r .end-small; lasts-small = r .lasts-small; repeats-small = r .repeats-small }
-with-small g (Saying.Transparent x) r h =
-    record { start-small = r .start-small; end-small = r .end-small; lasts-small = r .lasts-small; repeats-small = r .repeats-small }
-with-small g (Saying.HasPeriods b) r h = r
-
-gather-small : (c : Context) (o : Scope) (xs : List Numbered) (g : Gathered) → GatheredSmall g → GatheredSmall (gather g (sayingsIn c o xs))
-unfolding gather sayingsIn
-gather-small c o [] g r = r
-gather-small c o (x ∷ xs) g r =
-    gather-small c o xs (gatheredWith g (sayingOf c o (x .line))) (with-small g (sayingOf c o (x .line)) r (sayingOf-small c o (x .line)))
-
-gathered-small : (c : Context) (o : Scope) (xs : List Numbered) → GatheredSmall (gather nothingGathered (sayingsIn c o xs))
-gathered-small c o xs = gather-small c o xs nothingGathered nothing-small
-
--- ---- the ending and the limit
-
-stated-end-small : (s e : Time) (x : Ending) → e .second ≤ lastSecond → statedEnd s e ≡ EndingRead.Of x → EndingSmall (s .second) x
-unfolding statedEnd
-stated-end-small s e x h q = go (sameKind e s && ltb (s .second) (e .second)) refl q
-  where
-    go : (t : Bool) → (sameKind e s && ltb (s .second) (e .second)) ≡ t
-        → cond t (EndingRead.Of (Ending.End (e .second))) EndingRead.Broken ≡ EndingRead.Of x → EndingSmall (s .second) x
-    go true p k =
-        let z : Ending.End (e .second) ≡ x = cc in
-        rw (← z) (ltb-true (s .second) (e .second) (and-right (sameKind e s) _ p), h)
-    go false p k = let z : _≡_ {A = ℕ} 0 1 = cc in absurd (omega arith)
-
-stated-duration-small : (s : Time) (d : Duration) (x : Ending) → DurationSmall d → statedDuration s d ≡ EndingRead.Of x → EndingSmall (s .second) x
-unfolding statedDuration
-stated-duration-small s d x h q = go (isDate s && d .timed) q
-  where
-    go : (t : Bool) → cond t EndingRead.Broken (EndingRead.Of (Ending.Lasts d)) ≡ EndingRead.Of x → EndingSmall (s .second) x
-    go true k = let z : _≡_ {A = ℕ} 0 1 = cc in absurd (omega arith)
-    go false k = let z : Ending.Lasts d ≡ x = cc in rw (← z) h
-
-ending-small : (s : Time) (e : TimeGiven) (d : DurationGiven) (x : Ending) → TimeSmall e → LastsSmall d → endingBy s e d ≡ EndingRead.Of x
-    → EndingSmall (s .second) x
-unfolding endingBy
-ending-small s TimeGiven.Absent DurationGiven.Absent x h k q = let z : Ending.None ≡ x = cc in rw (← z) tt
-ending-small s (TimeGiven.Given e) DurationGiven.Absent x h k q = stated-end-small s e x h q
-ending-small s TimeGiven.Absent (DurationGiven.Given d) x h k q = stated-duration-small s d x k q
-ending-small s (TimeGiven.Given e) (DurationGiven.Given d) x h k q = let z : _≡_ {A = ℕ} 0 1 = cc in absurd (omega arith)
-
-limit-small : (s : Time) (l : Limit) (x : Repeat) → LimitSmall l → limitBy s l ≡ RepeatRead.Of x → RepeatSmall (s .second) x
-unfolding limitBy
-limit-small s Limit.Forever x h q = let z : Repeat.Forever ≡ x = cc in rw (← z) tt
-limit-small s (Limit.Count n) x h q = let z : Repeat.Count n ≡ x = cc in rw (← z) h
-limit-small s (Limit.Until u) x h q = go (sameKind u s && leb (s .second) (u .second)) refl q
-  where
-    go : (t : Bool) → (sameKind u s && leb (s .second) (u .second)) ≡ t
-        → cond t (RepeatRead.Of (Repeat.Until (u .second))) RepeatRead.Broken ≡ RepeatRead.Of x → RepeatSmall (s .second) x
-    go true p k =
-        let z : Repeat.Until (u .second) ≡ x = cc in
-        rw (← z) (leb-true (s .second) (u .second) (and-right (sameKind u s) _ p), h)
-    go false p k = let z : _≡_ {A = ℕ} 0 1 = cc in absurd (omega arith)
-
-repeat-small : (s : Time) (g : RuleGiven) (x : Repeat) → RepeatsSmall g → repeatBy s g ≡ RepeatRead.Of x → RepeatSmall (s .second) x
-unfolding repeatBy
-repeat-small s RuleGiven.Absent x h q = let z : Repeat.Once ≡ x = cc in rw (← z) tt
-repeat-small s (RuleGiven.Given r) x h q = limit-small s (r .limit) x (h .limit-small) q
-
-days-small : (g : RuleGiven) → RepeatsSmall g → (1 ≤ daysBy g) × (daysBy g ≤ 7)
-unfolding daysBy
-days-small RuleGiven.Absent h = (omega arith, omega arith)
-days-small (RuleGiven.Given r) h = (h .some-days, h .few-days)
-
-interval-small : (g : RuleGiven) → RepeatsSmall g → (1 ≤ intervalBy g) × (intervalBy g ≤ 999)
-unfolding intervalBy
-interval-small RuleGiven.Absent h = (omega arith, omega arith)
-interval-small (RuleGiven.Given r) h = (h .some-interval, h .few-interval)
-
--- ---- the event
-
-made-small : (s : Time) (g : Gathered) (x : Ending) (y : Repeat) → s .second ≤ lastSecond → GatheredSmall g → EndingSmall (s .second) x
-    → RepeatSmall (s .second) y → EventSmall (eventMade s g x y)
-unfolding eventMade
-made-small s g x y h r k m =
-    record {
-      start-small = h;
-      some-days = days-small (g .repeats) (r .repeats-small) .0;
-      few-days = days-small (g .repeats) (r .repeats-small) .1;
-      some-interval = interval-small (g .repeats) (r .repeats-small) .0;
-      few-interval = interval-small (g .repeats) (r .repeats-small) .1;
-      ending-small = k;
-      repeat-small = m;
-    }
-
-with-event-small : (s : Time) (g : Gathered) (a : EndingRead) (b : RepeatRead) (e : Event) → s .second ≤ lastSecond → GatheredSmall g
-    → ((x : Ending) → a ≡ EndingRead.Of x → EndingSmall (s .second) x) → ((y : Repeat) → b ≡ RepeatRead.Of y → RepeatSmall (s .second) y)
-    → eventWith s g a b ≡ EventRead.Of e → EventSmall e
-unfolding eventWith
-with-event-small s g (EndingRead.Of x) (RepeatRead.Of y) e h r k m q =
-    let z : eventMade s g x y ≡ e = cc in
-    subst EventSmall z (made-small s g x y h r (k x refl) (m y refl))
-with-event-small s g (EndingRead.Of x) RepeatRead.Broken e h r k m q = let z : _≡_ {A = ℕ} 0 1 = cc in absurd (omega arith)
-with-event-small s g EndingRead.Broken b e h r k m q = let z : _≡_ {A = ℕ} 0 1 = cc in absurd (omega arith)
-
-from-small : (t : TimeGiven) (g : Gathered) (e : Event) → TimeSmall t → GatheredSmall g → eventFrom t g ≡ EventRead.Of e → EventSmall e
-unfolding eventFrom
-from-small TimeGiven.Absent g e h r q = let z : _≡_ {A = ℕ} 0 1 = cc in absurd (omega arith)
-from-small (TimeGiven.Given s) g e h r q =
-    with-event-small s g (endingBy s (g .end) (g .lasts)) (repeatBy s (g .repeats)) e h r
-    (λ x. ending-small s (g .end) (g .lasts) x (r .end-small) (r .lasts-small))
-    (λ y. repeat-small s (g .repeats) y (r .repeats-small))
-    q
-
-eventBy-small : (g : Gathered) (e : Event) → GatheredSmall g → eventBy g ≡ EventRead.Of e → EventSmall e
-unfolding eventBy
-eventBy-small g e r q = go (g .surplus) q
-  where
-    go : (t : Bool) → cond t EventRead.Broken (eventFrom (g .start) g) ≡ EventRead.Of e → EventSmall e
-    go true k = let z : _≡_ {A = ℕ} 0 1 = cc in absurd (omega arith)
-    go false k = from-small (g .start) g e (r .start-small) r k
+sayings-small : (c : Context) (o : Scope) (xs : List Numbered) → AllSmall (sayingsIn c o xs)
+unfolding sayingsIn
+sayings-small c o [] = AllSmall.none
+sayings-small c o (x ∷ xs) = AllSmall.then (sayingOf-small c o (x .line)) (sayings-small c o xs)
 
 pub eventOf-small : (c : Context) (k : Component) (e : Event) → eventOf c k ≡ EventRead.Of e → EventSmall e
 unfolding eventOf
-eventOf-small c k e q = eventBy-small _ e (gathered-small c Scope.Event (propertiesIn (k .items))) q
+eventOf-small c k e q = event-small _ e (sayings-small c Scope.Event (propertiesIn (k .items))) q
 
 pub eventAt-small : (c : Context) (s : List ℕ) (at : ℕ) (e : Event) → eventAt c s at ≡ EventRead.Of e → EventSmall e
 unfolding eventAt gatheredAt sayingsAt
-eventAt-small c s at e q = eventBy-small _ e (gathered-small c Scope.Event (propertiesIn (itemsOf 0 (linesFrom s at 1)))) q
-
--- ---- the block
-
-between-small : (s e : ℕ) (b : Block) → s ≤ lastSecond → e ≤ lastSecond → blockBetween s e ≡ BlockRead.Of b → BlockSmall b
-unfolding blockBetween
-between-small s e b h k q = go (ltb s e) refl q
-  where
-    go : (t : Bool) → ltb s e ≡ t → cond t (BlockRead.Of (record { start = Bound.At s; end = Bound.At e })) BlockRead.Broken ≡ BlockRead.Of b
-        → BlockSmall b
-    go true p m =
-        let z : record { start = Bound.At s; end = Bound.At e } ≡ b = cc in
-        let w : BlockSmall (record { start = Bound.At s; end = Bound.At e }) =
-        record {
-          start-small = h;
-          end-small = k;
-          rising = λ x y a d. let i : s ≡ x = cc in let j : e ≡ y = cc in omega (arith, ltb-true s e p);
-        } in
-        subst BlockSmall z w
-    go false p m = let z : _≡_ {A = ℕ} 0 1 = cc in absurd (omega arith)
-
-blockFrom-small : (s e : TimeGiven) (b : Block) → TimeSmall s → TimeSmall e → blockFrom s e ≡ BlockRead.Of b → BlockSmall b
-unfolding blockFrom
-blockFrom-small TimeGiven.Absent TimeGiven.Absent b h k q =
-    let z : record { start = Bound.None; end = Bound.None } ≡ b = cc in
-    let w : BlockSmall (record { start = Bound.None; end = Bound.None }) =
-    record { start-small = tt; end-small = tt; rising = λ x y a d. let i : _≡_ {A = ℕ} 0 1 = cc in absurd (omega arith) } in
-    subst BlockSmall z w
-blockFrom-small (TimeGiven.Given s) TimeGiven.Absent b h k q =
-    let z : record { start = Bound.At (s .second); end = Bound.None } ≡ b = cc in
-    let w : BlockSmall (record { start = Bound.At (s .second); end = Bound.None }) =
-    record { start-small = h; end-small = tt; rising = λ x y a d. let i : _≡_ {A = ℕ} 0 1 = cc in absurd (omega arith) } in
-    subst BlockSmall z w
-blockFrom-small TimeGiven.Absent (TimeGiven.Given e) b h k q =
-    let z : record { start = Bound.None; end = Bound.At (e .second) } ≡ b = cc in
-    let w : BlockSmall (record { start = Bound.None; end = Bound.At (e .second) }) =
-    record { start-small = tt; end-small = k; rising = λ x y a d. let i : _≡_ {A = ℕ} 0 1 = cc in absurd (omega arith) } in
-    subst BlockSmall z w
-blockFrom-small (TimeGiven.Given s) (TimeGiven.Given e) b h k q = between-small (s .second) (e .second) b h k q
-
-blockBy-small : (g : Gathered) (b : Block) → GatheredSmall g → blockBy g ≡ BlockRead.Of b → BlockSmall b
-unfolding blockBy
-blockBy-small g b r q = go (g .surplus) q
-  where
-    go : (t : Bool) → cond t BlockRead.Broken (blockFrom (g .start) (g .end)) ≡ BlockRead.Of b → BlockSmall b
-    go true k = let z : _≡_ {A = ℕ} 0 1 = cc in absurd (omega arith)
-    go false k = blockFrom-small (g .start) (g .end) b (r .start-small) (r .end-small) k
+eventAt-small c s at e q = event-small _ e (sayings-small c Scope.Event (propertiesIn (itemsOf 0 (linesFrom s at 1)))) q
 
 pub blockOf-small : (c : Context) (k : Component) (b : Block) → blockOf c k ≡ BlockRead.Of b → BlockSmall b
 unfolding blockOf
-blockOf-small c k b q = blockBy-small _ b (gathered-small c Scope.FreeBusy (propertiesIn (k .items))) q
+blockOf-small c k b q = block-small _ b (sayings-small c Scope.FreeBusy (propertiesIn (k .items))) q
 
 pub blockAt-small : (c : Context) (s : List ℕ) (at : ℕ) (b : Block) → blockAt c s at ≡ BlockRead.Of b → BlockSmall b
 unfolding blockAt gatheredAt sayingsAt
-blockAt-small c s at b q = blockBy-small _ b (gathered-small c Scope.FreeBusy (propertiesIn (itemsOf 0 (linesFrom s at 1)))) q
+blockAt-small c s at b q = block-small _ b (sayings-small c Scope.FreeBusy (propertiesIn (itemsOf 0 (linesFrom s at 1)))) q
+
+-- ---- the entries of a calendar
+
+-- the event of an entry that is one
+eventOr : Event → Entry → Event
+eventOr y (event e) = e
+eventOr y (block k ps) = y
+
+isOne : Entry → Bool
+isOne (event e) = true
+isOne (block k ps) = false
+
+event-entry-small : (c : Context) (k : Component) (r : EventRead) → eventOf c k ≡ r → (e : Event) → List·Memᴰ (event e) (eventEntry r) → EventSmall e
+unfolding eventOr
+event-entry-small c k (EventRead.Of y) q e d = subst EventSmall (sym (ap (eventOr e) (List·Memᴰ·eq-of-singleton d))) (eventOf-small c k y q)
+event-entry-small c k EventRead.Broken q e d = absurd (List·Memᴰ·not-nil d)
+
+no-block-entry : (r : BlockRead) (ps : List BusyPeriod) (e : Event) → List·Memᴰ (event e) (blockEntry r ps) → ⊥
+unfolding isOne
+no-block-entry (BlockRead.Of k) ps e d = clash refl (ap isOne (List·Memᴰ·eq-of-singleton d))
+no-block-entry BlockRead.Broken ps e d = List·Memᴰ·not-nil d
+
+entry-small : (c : Context) (o : Scope) (k : Component) (e : Event) → List·Memᴰ (event e) (entryOf c o k) → EventSmall e
+unfolding entryOf
+entry-small c Scope.Event k e d = event-entry-small c k (eventOf c k) refl e d
+entry-small c Scope.FreeBusy k e d = absurd (no-block-entry (blockOf c k) _ e d)
+entry-small c Scope.Other k e d = absurd (List·Memᴰ·not-nil d)
+
+-- the events of a calendar are small
+pub entries-small : (c : Context) (ks : List Component) (e : Event) → List·Memᴰ (event e) (entriesOf c ks) → EventSmall e
+unfolding entriesOf
+entries-small c [] e d = absurd (List·Memᴰ·not-nil d)
+entries-small c (k ∷ ks) e d = go (List·Memᴰ·append-cases (entryOf c (componentScope k) k) d) (entries-small c ks e)
+  where
+    go : List·Memᴰ (event e) (entryOf c (componentScope k) k) ⊎ List·Memᴰ (event e) (entriesOf c ks) → (List·Memᴰ (event e) (entriesOf c ks) → EventSmall e)
+        → EventSmall e
+    go (inl m) r = entry-small c (componentScope k) k e m
+    go (inr m) r = r m

@@ -5,21 +5,22 @@ use mathlib.Core.List.{List, [], _∷_, _++_, map}
 use Rattle.text.specs.Lines.{part}
 use Rattle.line.specs.Grammar.{ContentLine}
 use Rattle.line.specs.Reading.{lineOf}
-use Rattle.nesting.specs.Marks.{markOf}
+use Rattle.marks.specs.Marks.{markOf}
+use Rattle.marks.specs.declared.Mark.{Mark}
+use Rattle.marks.specs.declared.Mark.the-variants.{Begins, Ends, Property, Wrong}
 use Rattle.nesting.specs.Components.{Numbered, markedAs, markedFrom, Items, itemsOf, Component, componentsIn, propertiesIn}
 use Rattle.nesting.specs.Passing.{linesAt, linesFrom, numbered, PropertyAt, InnerAt, NoItemAt, SkipsTo}
-use Rattle.nesting.specs.declared.Mark.{Mark}
-use Rattle.nesting.specs.declared.Mark.the-variants.{Begins, Ends, Property, Wrong}
 use Rattle.nesting.specs.declared.items.Place.{Place}
 use Rattle.values.specs.Said.{sayingOf}
 use Rattle.values.specs.declared.times.Context.{Context}
 use Rattle.values.specs.declared.said.Scope.{Scope}
 use Rattle.values.specs.declared.said.Saying.{Saying}
-use Rattle.calendar.specs.Gathered.{nothingGathered, gather}
-use Rattle.calendar.specs.Events.{eventBy, blockBy}
-use Rattle.calendar.specs.Meaning.{sayingsIn, faultOr, faultIn, eventOf, blockOf, eventBroken, blockBroken, isBroken, BusyPeriod, periodsBy, blockPeriods, eventEntry, blockEntry, entryOf}
+use Rattle.rules.specs.Gathered.{nothingGathered, gather}
+use Rattle.rules.specs.Events.{eventBy, blockBy}
+use Rattle.rules.specs.BusyTypes.{BusyPeriod}
+use Rattle.rules.specs.declared.BlockRead.{BlockRead}
+use Rattle.calendar.specs.Meaning.{sayingsIn, faultOr, faultIn, eventOf, blockOf, eventBroken, blockBroken, isBroken, periodsBy, blockPeriods, eventEntry, blockEntry, entryOf}
 use Rattle.calendar.specs.Places.{sayingsAt, gatheredAt, eventAt, blockAt, brokenAt, blockPeriodsAt, entryAt, faultAt, faultElse, componentsFrom, componentAt}
-use Rattle.calendar.specs.declared.BlockRead.{BlockRead}
 use Rattle.calendar.specs.declared.ValueCheck.{ValueCheck}
 
 -- ---- line numbers play no part in what lines say

@@ -2,9 +2,9 @@
 use Prim.Native.Nat.{ℕ}
 use mathlib.Core.Bool.{Bool, false}
 use Rattle.values.specs.declared.said.Scope.{Scope}
-use Rattle.calendar.specs.Events.{eventBy, blockBy}
+use Rattle.rules.specs.Events.{eventBy, blockBy}
+use Rattle.rules.specs.declared.Gathered.{Gathered}
 use Rattle.calendar.specs.Meaning.{eventBroken, blockBroken, brokenOr}
-use Rattle.calendar.specs.declared.Gathered.{Gathered}
 use Rattle.calendar.specs.declared.RuleCheck.{RuleCheck}
 
 -- does a component of this scope break a rule whose lines say this together

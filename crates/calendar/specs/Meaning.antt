@@ -2,27 +2,26 @@
 use Prim.Native.Nat.{ℕ}
 use mathlib.Core.Bool.{Bool, true, false, cond}
 use mathlib.Core.List.{List, [], _∷_, _++_, map}
+use Rattle.text.specs.Lines.{contentLines}
 use Rattle.line.specs.Grammar.{ContentLine}
 use Rattle.line.specs.Reading.{lineOf}
 use Rattle.line.specs.WellFormed.{lineCheck}
 use Rattle.line.specs.declared.check.LineCheck.{LineCheck}
-use Rattle.text.specs.Lines.{contentLines}
-use Rattle.nesting.specs.Nesting.{isEvent, isFreeBusy, nestingOf}
+use Rattle.marks.specs.Innermost.{isEvent, isFreeBusy}
+use Rattle.nesting.specs.Nesting.{nestingOf}
 use Rattle.nesting.specs.Components.{Numbered, Component, treeOf, itemsBelow, componentsIn, propertiesIn}
 use Rattle.nesting.specs.declared.Nesting.{Nesting}
 use Rattle.values.specs.Said.{sayingOf}
 use Rattle.values.specs.Period.{periodsIn, goodPeriods}
-use Rattle.values.specs.declared.period.Period.{Period}
 use Rattle.values.specs.declared.times.Context.{Context}
 use Rattle.values.specs.declared.said.Scope.{Scope}
-use Rattle.values.specs.declared.said.Busy.{Busy}
 use Rattle.values.specs.declared.said.Saying.{Saying}
-use Rattle.calendar.specs.Gathered.{nothingGathered, gather}
-use Rattle.calendar.specs.Events.{eventBy, blockBy}
-use Rattle.calendar.specs.declared.Event.{Event}
-use Rattle.calendar.specs.declared.Block.{Block}
-use Rattle.calendar.specs.declared.EventRead.{EventRead}
-use Rattle.calendar.specs.declared.BlockRead.{BlockRead}
+use Rattle.rules.specs.Gathered.{nothingGathered, gather}
+use Rattle.rules.specs.BusyTypes.{BusyPeriod, typed}
+use Rattle.rules.specs.Events.{eventBy, blockBy, Entry, event, block}
+use Rattle.rules.specs.declared.Event.{Event}
+use Rattle.rules.specs.declared.EventRead.{EventRead}
+use Rattle.rules.specs.declared.BlockRead.{BlockRead}
 use Rattle.calendar.specs.declared.ValueCheck.{ValueCheck}
 use Rattle.calendar.specs.declared.RuleCheck.{RuleCheck}
 use Rattle.calendar.specs.declared.Fault.{Fault}
@@ -95,15 +94,6 @@ ruleFault c (k ∷ ks) = brokenOr (isBroken c (componentScope k) k) (k .begin .n
 
 -- ---- the meaning
 
--- a FREEBUSY period with its type
-pub record BusyPeriod : Type 0 where
-  pub busy : Busy
-  pub period : Period
-
-abbrev pub typed : Busy → List Period → List BusyPeriod
-typed b [] = []
-typed b (p ∷ ps) = record { busy = b; period = p } ∷ typed b ps
-
 -- the periods that a line gives
 unfoldable pub periodsBy : Saying → ContentLine → List BusyPeriod
 periodsBy Saying.Nothing x = []
@@ -121,11 +111,6 @@ periodsBy (Saying.HasPeriods b) x = typed b (goodPeriods (periodsIn (x .value)))
 unfoldable pub blockPeriods : Context → List Numbered → List BusyPeriod
 blockPeriods c [] = []
 blockPeriods c (x ∷ xs) = periodsBy (sayingOf c Scope.FreeBusy (x .line)) (x .line) ++ blockPeriods c xs
-
--- an event, or a block with its periods
-pub data Entry : Type 0 where
-  event : Event → Entry
-  block : Block → List BusyPeriod → Entry
 
 abbrev pub eventEntry : EventRead → List Entry
 eventEntry (EventRead.Of e) = event e ∷ []

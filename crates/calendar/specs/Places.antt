@@ -11,12 +11,13 @@ use Rattle.nesting.specs.Passing.{linesFrom, numbered, SkipsTo}
 use Rattle.values.specs.declared.times.Context.{Context}
 use Rattle.values.specs.declared.said.Scope.{Scope}
 use Rattle.values.specs.declared.said.Saying.{Saying}
-use Rattle.calendar.specs.Gathered.{nothingGathered, gather}
-use Rattle.calendar.specs.Events.{eventBy, blockBy}
-use Rattle.calendar.specs.Meaning.{sayingsIn, faultIn, valueFault, ruleFault, eventBroken, blockBroken, fileLines, BusyPeriod, blockPeriods, Entry, eventEntry, blockEntry}
-use Rattle.calendar.specs.declared.Gathered.{Gathered}
-use Rattle.calendar.specs.declared.EventRead.{EventRead}
-use Rattle.calendar.specs.declared.BlockRead.{BlockRead}
+use Rattle.rules.specs.Gathered.{nothingGathered, gather}
+use Rattle.rules.specs.Events.{eventBy, blockBy, Entry}
+use Rattle.rules.specs.BusyTypes.{BusyPeriod}
+use Rattle.rules.specs.declared.Gathered.{Gathered}
+use Rattle.rules.specs.declared.EventRead.{EventRead}
+use Rattle.rules.specs.declared.BlockRead.{BlockRead}
+use Rattle.calendar.specs.Meaning.{sayingsIn, faultIn, valueFault, ruleFault, eventBroken, blockBroken, fileLines, blockPeriods, eventEntry, blockEntry}
 use Rattle.calendar.specs.declared.ValueCheck.{ValueCheck}
 use Rattle.calendar.specs.declared.places.Below.{Below}
 use Rattle.calendar.specs.declared.component.ComponentRead.{ComponentRead}

@@ -1,10 +1,11 @@
 // One walk over the items of a component: its first fault, what its lines say together, and where it ends.
-use crate::Gathered;
+// Each line is asked once what it says, for all that the callers want to know.
 use crate::ValueCheck;
-use crate::gather;
 use nesting::items;
 use nesting::items::Item;
 use nesting::items::Place;
+use rules::Gathered;
+use rules::gather;
 use values::said;
 use values::said::Saying;
 use values::said::Scope;

@@ -1,15 +1,16 @@
 // One walk over the components of a calendar, each read once: the first fault of a value, and the first component that breaks a rule.
-use crate::BlockRead;
-use crate::EventRead;
+// The fault of a value ends the walk, since it goes before any rule.
 use crate::Fault;
-use crate::Gathered;
 use crate::RuleCheck;
 use crate::ValueCheck;
 use crate::component;
-use crate::events;
 use crate::places;
 use nesting::items;
 use nesting::items::Item;
+use rules::BlockRead;
+use rules::EventRead;
+use rules::Gathered;
+use rules::events;
 use values::said::Scope;
 use values::times::Context;
 ghost use mathlib.Core.Path.{_≡_};

@@ -1,4 +1,5 @@
 // Is a calendar good, or which refusal does it earn at which line?
+// Lines and nesting first, then values, then rules: the lowest refusal is told.
 use crate::Fault;
 use crate::contents;
 use crate::places;

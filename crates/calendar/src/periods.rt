@@ -1,4 +1,5 @@
 // From period to period of a FREEBUSY value, in place.
+// A period that cannot be read is passed over; refusal 9 was asked before.
 use line::split;
 use values::period;
 use values::period::Period;

@@ -1,11 +1,12 @@
 // From place to place in the bytes of a file: the events and blocks there.
-use crate::BlockRead;
-use crate::EventRead;
-use crate::Gathered;
-use crate::events;
-use crate::gather;
+// A component is known by the place where its items begin; nothing of it is kept in memory.
 use nesting::items;
 use nesting::items::Item;
+use rules::BlockRead;
+use rules::EventRead;
+use rules::Gathered;
+use rules::events;
+use rules::gather;
 use values::said;
 use values::said::Scope;
 use values::times::Context;

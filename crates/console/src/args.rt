@@ -1,4 +1,5 @@
 // The numbers among the arguments; what is wrong with one is said here.
+// A caller that gets none has nothing more to print.
 use crate::out;
 use desk::arguments::Number;
 use desk::arguments::Offset;

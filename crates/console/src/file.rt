@@ -1,4 +1,5 @@
 // Files: read whole up to a buffer's length, and written anew.
+// A buffer is longer than any calendar that is answered, so a longer file is refused by the engine.
 use crate::out;
 
 // How many bytes were read, or the system's error.

@@ -1,4 +1,5 @@
 // Printing.
+// Standard output alone; its first word is the status.
 use libc::STDOUT_FILENO;
 
 pub fn print(s: &[u8]) {

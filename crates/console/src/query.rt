@@ -1,4 +1,5 @@
 // The query's file: binary, or hex by its name.
+// A file in bad hex is a wrong argument, and no refusal.
 use crate::file;
 use crate::file::Got;
 use crate::out;

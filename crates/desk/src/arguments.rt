@@ -1,4 +1,5 @@
 // What an argument means: a command, a second, an offset, a file name.
+// Any bytes are read: as what they mean, or as a wrong argument.
 use time::date_time::DateTime;
 use time::date_time::Kind;
 use time::limits::Second;

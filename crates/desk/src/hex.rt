@@ -1,4 +1,5 @@
 // Bytes written in hex: pairs of digits, blanks and line ends between pairs, and comments from # to the end of the line.
+// What does not fit the lent memory is told apart from what is no hex.
 ghost use mathlib.Core.Path.{_≡_};
 ghost use Rattle.desk.specs.Hex.{hexDigit, isBlank, fromBetween, fromHalf, fromComment, stepOf, atEnd, Decodes};
 

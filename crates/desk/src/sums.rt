@@ -1,4 +1,5 @@
 // The busy seconds of a table.
+// The periods of a table never touch, so their lengths add up.
 use table::Table;
 ghost use mathlib.Core.Path.{_≡_};
 ghost use Prim.Native.Nat.{_-_, _≤_};

@@ -1,4 +1,5 @@
 // The words for the refusals.
+// One short text for each number of the refusal table.
 ghost use Prim.Native.Nat.{_≤_};
 ghost use lib.ListN.{length};
 ghost use Rattle.desk.specs.Words.{Says, meaningOf};

@@ -8,22 +8,23 @@ use native.Mathlib.Omega.{arith}
 use Rattle.text.specs.Unfolding.{unfolded}
 use Rattle.nesting.specs.Passing.{treeIn}
 use Rattle.calendar.specs.declared.Fault.{Fault}
-use Rattle.query.specs.Paper.{WellFormedQuery}
-use Rattle.query.specs.WellFormed.{queryGood}
 use Rattle.query.proofs.Laying.{layout-fits, layout-sections}
-use Rattle.query.proofs.Refusing.{query-records}
-use Rattle.query.proofs.WellFormed.{queryGood-iff}
+use Rattle.paper.specs.Paper.{WellFormedQuery}
+use Rattle.paper.specs.WellFormed.{queryGood}
+use Rattle.paper.proofs.Refusing.{query-records}
+use Rattle.paper.proofs.WellFormed.{queryGood-iff}
 use Rattle.filter.proofs.Sentences.{query-iff}
 use Rattle.filter.specs.Paper.{QueryPasses}
 use Rattle.filter.specs.Tests.{queryHolds}
-use Rattle.engine.specs.Answers.{Outcome, verdict, refusal}
-use Rattle.engine.specs.Refusals.{lowest, unlessRefused, Rising, ends, sizeRows}
-use Rattle.engine.specs.Offsets.{offsetGood, contextOf}
+use Rattle.refusals.specs.Refusals.{lowest, Rising, ends, sizeRows}
+use Rattle.refusals.specs.Offsets.{offsetGood, contextOf}
+use Rattle.refusals.proofs.Tables.{none-iff, lowest-iff}
+use Rattle.refusals.proofs.Passing.{rises, sizes-rising, calendar-rising}
+use Rattle.engine.specs.Answers.{verdict, unlessRefused}
 use Rattle.engine.specs.Matching.{MatchCall, queryRows, matchRows, verdictBy, verdictOf, matchOutcome, Matched}
 use Rattle.engine.specs.Demands.{NoneApplies, AnswersOrRefuses, MatchesWhen}
 use Rattle.engine.specs.declared.Answer.{Answer}
-use Rattle.engine.proofs.Tables.{none-iff, lowest-iff}
-use Rattle.engine.proofs.Passing.{rises, sizes-rising, query-rising, calendar-rising}
+use Rattle.engine.proofs.QueryRows.{query-rising}
 use Rattle.engine.proofs.Outcomes.{refused, let-through, verdict-apart, refusal-found, answer-found}
 
 -- ---- the table of a match call

@@ -8,16 +8,17 @@ use lib.ListN.{length, take}
 use lib.Seq.{take-at}
 use Rattle.text.specs.Unfolding.{unfolded}
 use Rattle.nesting.specs.Passing.{treeIn}
-use Rattle.query.specs.Paper.{WellFormedQuery}
-use Rattle.filter.specs.Paper.{QueryPasses}
 use Rattle.calendar.specs.declared.Fault.{Fault}
-use Rattle.engine.specs.Answers.{verdict, report, outcomeOf, refusedEarly}
-use Rattle.engine.specs.Refusals.{lowest, unlessRefused}
-use Rattle.engine.specs.Offsets.{contextOf}
+use Rattle.paper.specs.Paper.{WellFormedQuery}
+use Rattle.filter.specs.Paper.{QueryPasses}
+use Rattle.refusals.specs.Refusals.{lowest}
+use Rattle.refusals.specs.Offsets.{contextOf}
+use Rattle.refusals.specs.Stages.{earlyFault}
+use Rattle.engine.specs.Answers.{verdict, report, Outcome, outcomeOf, refusalIn, unlessRefused}
 use Rattle.engine.specs.Matching.{MatchCall, matchRows, verdictOf, matchOutcome, Matched}
 use Rattle.engine.specs.Demands.{NoneApplies}
 use Rattle.engine.specs.declared.Answer.{Answer}
-use Rattle.engine.proofs.Outcomes.{work-by}
+use Rattle.engine.proofs.Outcomes.{left-by}
 use Rattle.engine.proofs.Demands.{answers-or-refuses, matches-when}
 
 -- outcomes of two kinds are apart
@@ -51,8 +52,8 @@ module _ {m : MatchCall} {left : List ℕ} where
 -- an answer that leaves the work buffer as it was: only where the unfolded calendar stood in it before
 pub work-unwritten : {m : MatchCall} {b : Bool} → Matched m (Answer.Verdict b) (m .work)
     → take (length (unfolded (m .calendar))) (m .work) ≡ unfolded (m .calendar)
-unfolding outcomeOf refusedEarly
+unfolding outcomeOf refusalIn earlyFault
 work-unwritten {m} {b} p =
     let cal = m .calendar in
     let n = length (unfolded cal) in
-    ap (take n) (p .work-left ∙ work-by cal (m .work) (matchOutcome m) (ap refusedEarly (sym (p .answered)))) ∙ take-at (unfolded cal) _ n refl
+    ap (take n) (p .work-left ∙ left-by cal (m .work) (matchOutcome m) (ap (λ (x : Outcome). earlyFault (refusalIn x)) (sym (p .answered)))) ∙ take-at (unfolded cal) _ n refl

@@ -1,9 +1,5 @@
-pub mod Offsets
-pub mod Tables
-pub mod Passing
 pub mod Outcomes
-pub mod CollectTables
-pub mod CollectCalls
+pub mod QueryRows
 pub mod Demands
 pub mod Frauds
 pub mod Examples
@@ -15,4 +11,3 @@ pub mod Returning
 pub mod ReportFrauds
 pub mod ReportStages
 pub mod ReportWriting
-pub mod TwiceCalls

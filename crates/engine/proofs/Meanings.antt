@@ -8,10 +8,11 @@ use native.Mathlib.Omega.{arith}
 use lib.IntN.{pos}
 use lib.ListN.{length, take}
 use Rattle.values.specs.declared.said.Busy.{Busy}
-use Rattle.calendar.specs.BusyTypes.{isBusy}
+use Rattle.rules.specs.BusyTypes.{isBusy}
 use Rattle.table.proofs.Runs.{runs-same}
 use Rattle.report.specs.Bytes.{reportBytes}
-use Rattle.engine.specs.Reporting.{ReportCall, coveredIn, reportFor, Reported}
+use Rattle.collecting.specs.ReportCalls.{ReportCall, coveredIn, reportFor}
+use Rattle.engine.specs.Reporting.{Reported}
 use Rattle.engine.specs.Meanings.{NoRefusal, IsReport, SameRange, SameSeconds, OneMeaning}
 use Rattle.engine.specs.declared.Answer.{Answer}
 use Rattle.engine.proofs.Reports.{reports-or-refuses, report-stands}

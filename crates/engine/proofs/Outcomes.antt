@@ -13,22 +13,24 @@ use Rattle.nesting.specs.Passing.{treeIn}
 use Rattle.values.specs.declared.times.Context.{Context}
 use Rattle.calendar.specs.declared.Fault.{Fault}
 use Rattle.query.specs.Sections.{sectionsOf}
-use Rattle.query.specs.WellFormed.{queryRead}
 use Rattle.query.specs.declared.Sections.{Sections}
 use Rattle.query.specs.declared.SectionsRead.{SectionsRead}
-use Rattle.query.specs.declared.QueryRead.{QueryRead}
+use Rattle.paper.specs.WellFormed.{queryRead}
+use Rattle.paper.specs.declared.QueryRead.{QueryRead}
 use Rattle.filter.specs.Tests.{queryHolds}
-use Rattle.engine.specs.Answers.{Outcome, verdict, report, refusal, outcomeOf, refusedEarly, workAfter}
-use Rattle.engine.specs.Refusals.{lowest, unlessRefused, sizeRows, calendarRows}
-use Rattle.engine.specs.Offsets.{contextOf, offsetRead}
+use Rattle.refusals.specs.Refusals.{lowest, sizeRows, calendarRows}
+use Rattle.refusals.specs.Offsets.{contextOf, offsetRead}
+use Rattle.refusals.specs.Stages.{sizeFault, CalendarRead, earlyFault}
+use Rattle.refusals.specs.declared.OffsetRead.{OffsetRead}
+use Rattle.refusals.specs.declared.Reading.{Reading}
+use Rattle.refusals.proofs.Offsets.{read-good, read-out}
+use Rattle.refusals.proofs.Tables.{row-applies, row-passed}
+use Rattle.refusals.proofs.Passing.{sizes-early, sizes-passed, sizes-refused, calendar-lowest, calendar-late, work-by}
+use Rattle.engine.specs.Answers.{Outcome, verdict, report, refusal, outcomeOf, refusalIn, workAfter, unlessRefused}
 use Rattle.engine.specs.Matching.{MatchCall, queryRows, matchRows, verdictBy, verdictOf, matchOutcome, Matched}
-use Rattle.engine.specs.Stages.{sizeFault, CalendarRead, Answered, calendarOutcome, holdsBy, queryOutcome}
+use Rattle.engine.specs.MatchStages.{Answered, calendarOutcome, holdsBy, queryOutcome}
 use Rattle.engine.specs.declared.Answer.{Answer}
-use Rattle.engine.specs.declared.stages.OffsetRead.{OffsetRead}
-use Rattle.engine.specs.declared.stages.Reading.{Reading}
-use Rattle.engine.proofs.Offsets.{read-good, read-out}
-use Rattle.engine.proofs.Tables.{row-applies, row-passed}
-use Rattle.engine.proofs.Passing.{sizes-early, sizes-passed, sizes-refused, query-refused-4, query-refused-5, query-passed, query-sections, calendar-lowest, calendar-late}
+use Rattle.engine.proofs.QueryRows.{query-refused-4, query-refused-5, query-passed, query-sections}
 
 -- ---- refused or not
 
@@ -59,26 +61,26 @@ answer-found o h Fault.None e = (refl, e)
 answer-found o h (Fault.At n i) e = absurd (h n (sym e))
 
 module _ (cal work : List ℕ) where
-  pub work-by : {t : Bool} (o : Outcome) → refusedEarly o ≡ t
+  pub left-by : {t : Bool} (o : Outcome) → earlyFault (refusalIn o) ≡ t
       → workAfter o cal work ≡ elim t as (λ y. List ℕ) [ true ↦ work | false ↦ unfolded cal ++ drop (length (unfolded cal)) work ]
   unfolding workAfter
-  work-by o e = ap (λ (t : Bool). elim t as (λ y. List ℕ) [ true ↦ work | false ↦ unfolded cal ++ drop (length (unfolded cal)) work ]) e
+  left-by o e = work-by cal work (refusalIn o) e
 
   -- a refusal by 1 to 5 leaves the buffer as it was; any other answer leaves the unfolded calendar in it
   pub early : {o : Outcome} (n : ℕ) → leb n 5 ≡ true → o ≡ refusal n → Answered o cal work (Answer.Refused n) work
-  unfolding refusedEarly outcomeOf
-  early n h e = rw e (record { answered = refl; work-left = sym (work-by (refusal n) h) })
+  unfolding refusalIn earlyFault outcomeOf
+  early n h e = rw e (record { answered = refl; work-left = sym (left-by (refusal n) h) })
 
   module _ {left : List ℕ} {c : Context} {r : Reading} (k : CalendarRead c cal work left r) where
-    pub late : {o : Outcome} (a : Answer) → outcomeOf a ≡ o → refusedEarly o ≡ false → Answered o cal work a left
-    late {o} a e h = record { answered = e; work-left = k .unfolds .bytes ∙ sym (work-by o h) }
+    pub late : {o : Outcome} (a : Answer) → outcomeOf a ≡ o → earlyFault (refusalIn o) ≡ false → Answered o cal work a left
+    late {o} a e h = record { answered = e; work-left = k .unfolds .bytes ∙ sym (left-by o h) }
 
     pub lowest-fault : lowest (calendarRows c (unfolded cal) []) ≡ r .fault
     lowest-fault = calendar-lowest c (unfolded cal) ∙ sym (k .fault-is)
 
     module _ (s : List ℕ) (q : Sections) where
       pub match-refused : {n i : ℕ} → r .fault ≡ Fault.At n i → Answered (calendarOutcome c cal s q) cal work (Answer.Refused n) left
-      unfolding calendarOutcome refusedEarly outcomeOf
+      unfolding calendarOutcome refusalIn earlyFault outcomeOf
       match-refused {n} {i} e =
           let f = lowest-fault ∙ e in
           rw (refused (verdict (queryHolds c s q (treeIn (unfolded cal)))) f)
@@ -86,7 +88,7 @@ module _ (cal work : List ℕ) where
 
       pub match-verdict : {t : Bool} → r .fault ≡ Fault.None → t ≡ queryHolds c s q (treeIn (take (r .length) left))
           → Answered (calendarOutcome c cal s q) cal work (Answer.Verdict t) left
-      unfolding calendarOutcome refusedEarly outcomeOf
+      unfolding calendarOutcome refusalIn earlyFault outcomeOf
       match-verdict {t} e h =
           let v = h ∙ ap (λ (u : List ℕ). queryHolds c s q (treeIn u)) (unfolded-front (k .unfolds)) in
           rw (let-through (verdict (queryHolds c s q (treeIn (unfolded cal)))) (lowest-fault ∙ e)) (late (Answer.Verdict t) (ap verdict v) refl)

@@ -8,14 +8,15 @@ use lib.ListN.{length, take}
 use Rattle.ascii.proofs.Bools.{clash}
 use Rattle.values.specs.declared.period.Period.{Period}
 use Rattle.values.specs.declared.said.Busy.{Busy}
-use Rattle.calendar.specs.BusyTypes.{reportPlace, isBusy}
+use Rattle.rules.specs.BusyTypes.{reportPlace, isBusy}
 use Rattle.calendar.specs.declared.Fault.{Fault}
 use Rattle.table.specs.Runs.{covers}
 use Rattle.report.specs.Bytes.{Report, reportBytes, reportLength}
 use Rattle.report.proofs.Lengths.{report-length}
-use Rattle.engine.specs.Answers.{Outcome, verdict, report, outcomeOf}
-use Rattle.engine.specs.Refusals.{lowest, unlessRefused}
-use Rattle.engine.specs.Reporting.{ReportCall, coveredIn, reportFor, reportRows, reportOutcome, outputAfter, Reported}
+use Rattle.refusals.specs.Refusals.{lowest}
+use Rattle.collecting.specs.ReportCalls.{ReportCall, coveredIn, reportFor}
+use Rattle.engine.specs.Answers.{Outcome, verdict, report, outcomeOf, unlessRefused}
+use Rattle.engine.specs.Reporting.{reportRows, reportOutcome, outputAfter, Reported}
 use Rattle.engine.specs.Meanings.{NoRefusal, IsReport}
 use Rattle.engine.specs.declared.Answer.{Answer}
 use Rattle.engine.proofs.Reports.{reports-or-refuses, report-stands}

@@ -8,20 +8,22 @@ use lib.ListN.{length}
 use borrow.Author.Tests.{not-false}
 use Rattle.ascii.proofs.Bools.{and-left, and-right, not-so}
 use Rattle.values.specs.declared.said.Busy.{Busy}
-use Rattle.calendar.specs.BusyTypes.{isBusy, reportPlace}
+use Rattle.rules.specs.BusyTypes.{isBusy, reportPlace}
 use Rattle.calendar.specs.declared.Fault.{Fault}
 use Rattle.report.specs.Bytes.{Report, reportBytes, GoodPeriods, Writable}
 use Rattle.report.specs.Writing.{byType, reportOf}
-use Rattle.engine.specs.Answers.{Outcome, report, refusal, outcomeOf, refusedEarly, workAfter}
-use Rattle.engine.specs.Refusals.{Row, lowest, unlessRefused, sizeRows, calendarRows}
-use Rattle.engine.specs.Offsets.{offsetGood}
-use Rattle.engine.specs.Reporting.{ReportCall, rangeGood, stampGood, reportFor, collectRows, reportRows, reportOutcome, outputAfter, Reported}
-use Rattle.engine.specs.Collecting.{earlyFault, workBy, periodsBy, Collects}
+use Rattle.refusals.specs.Refusals.{Row, lowest, sizeRows, calendarRows, contentsRows}
+use Rattle.refusals.specs.Offsets.{offsetGood}
+use Rattle.refusals.proofs.Tables.{none-iff, stage-passed, stage-refused}
+use Rattle.refusals.specs.Stages.{earlyFault, workBy}
+use Rattle.collecting.specs.ReportCalls.{ReportCall, rangeGood, stampGood, reportFor, collectRows}
+use Rattle.collecting.specs.Collecting.{periodsBy, Collects}
+use Rattle.collecting.specs.declared.Collected.{Collected}
+use Rattle.engine.specs.Answers.{Outcome, report, refusal, outcomeOf, refusalIn, workAfter, unlessRefused}
+use Rattle.engine.specs.Reporting.{reportRows, reportOutcome, outputAfter, Reported}
 use Rattle.engine.specs.ReportWriting.{writeOutcome, Wrote}
 use Rattle.engine.specs.declared.Answer.{Answer}
-use Rattle.engine.specs.declared.collecting.Collected.{Collected}
-use Rattle.engine.proofs.Tables.{none-iff, stage-passed, stage-refused}
-use Rattle.engine.proofs.Outcomes.{refused, work-by}
+use Rattle.engine.proofs.Outcomes.{refused, left-by}
 use Rattle.engine.proofs.Written.{writable, equal-bytes}
 use Rattle.engine.proofs.ReportWriting.{write-late}
 
@@ -29,11 +31,11 @@ use Rattle.engine.proofs.ReportWriting.{write-late}
 
 module _ (m : ReportCall) where
   pub collect-passed : (rows : List Row) → lowest (collectRows m []) ≡ Fault.None → lowest (collectRows m rows) ≡ lowest rows
-  unfolding collectRows sizeRows calendarRows
+  unfolding collectRows sizeRows calendarRows contentsRows
   collect-passed rows e = stage-passed (collectRows m []) rows e
 
   pub collect-refused : {n i : ℕ} (rows : List Row) → lowest (collectRows m []) ≡ Fault.At n i → lowest (collectRows m rows) ≡ Fault.At n i
-  unfolding collectRows sizeRows calendarRows
+  unfolding collectRows sizeRows calendarRows contentsRows
   collect-refused rows e = stage-refused (collectRows m []) rows e
 
   first-good : lowest (collectRows m []) ≡ Fault.None → (rangeGood (m .start) (m .end) && stampGood (m .stamp) && offsetGood (m .offset)) ≡ true
@@ -91,7 +93,7 @@ module _ {m : ReportCall} {r : Collected} {left : List ℕ} (k : Collects m r le
     unfolding workBy earlyFault
     work-left =
         k .work-left-is ∙ ap (λ (f : Fault). workBy f (m .calendar) (m .work)) none-collected
-        ∙ sym (work-by (m .calendar) (m .work) (reportOutcome m) (ap refusedEarly outcome-left ∙ write-late (reportBytes (reportFor m)) (m .output)))
+        ∙ sym (left-by (m .calendar) (m .work) (reportOutcome m) (ap (λ (x : Outcome). earlyFault (refusalIn x)) outcome-left ∙ write-late (reportBytes (reportFor m)) (m .output)))
 
     pub report-written : {a : Answer} {out-left : List ℕ} → Wrote (reportBytes told) (m .output) a out-left → Reported m a left out-left
     report-written {a} {out-left} w =
@@ -103,7 +105,7 @@ module _ {m : ReportCall} {r : Collected} {left : List ℕ} (k : Collects m r le
         }
 
   pub report-refused : {n i : ℕ} → r .fault ≡ Fault.At n i → Reported m (Answer.Refused n) left (m .output)
-  unfolding reportOutcome reportRows outcomeOf outputAfter workAfter workBy refusedEarly earlyFault
+  unfolding reportOutcome reportRows outcomeOf outputAfter workAfter workBy refusalIn earlyFault
   report-refused {n} e =
       let f = sym (k .fault-is) ∙ e in
       let o : reportOutcome m ≡ refusal n = refused _ (collect-refused m _ f) in

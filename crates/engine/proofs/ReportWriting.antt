@@ -13,8 +13,9 @@ use Rattle.table.specs.declared.Table.{Table}
 use Rattle.report.specs.Bytes.{reportBytes, reportLength}
 use Rattle.report.specs.Writing.{reportOf, Put}
 use Rattle.report.proofs.Lengths.{tables-length}
-use Rattle.engine.specs.Answers.{Outcome, report, refusal, outcomeOf, refusedEarly}
-use Rattle.engine.specs.Refusals.{lowest, unlessRefused}
+use Rattle.refusals.specs.Refusals.{lowest}
+use Rattle.refusals.specs.Stages.{earlyFault}
+use Rattle.engine.specs.Answers.{Outcome, report, refusal, outcomeOf, refusalIn, unlessRefused}
 use Rattle.engine.specs.Reporting.{outputAfter}
 use Rattle.engine.specs.ReportWriting.{writeOutcome, Wrote}
 use Rattle.engine.specs.declared.Answer.{Answer}
@@ -37,13 +38,13 @@ module _ (bytes out : List ℕ) where
   outcome-room h = rw (le-ltb (length out) (length bytes) h)
 
   -- neither is a refusal by 1 to 5
-  pub write-late : refusedEarly (writeOutcome bytes out) ≡ false
-  unfolding refusedEarly
+  pub write-late : earlyFault (refusalIn (writeOutcome bytes out)) ≡ false
+  unfolding refusalIn earlyFault
   write-late = go (ltb (length out) (length bytes)) refl
     where
-      go : (t : Bool) → ltb (length out) (length bytes) ≡ t → refusedEarly (writeOutcome bytes out) ≡ false
-      go true e = ap refusedEarly (outcome-short (ltb-true _ _ e))
-      go false e = ap refusedEarly (outcome-room (ltb-false _ _ e))
+      go : (t : Bool) → ltb (length out) (length bytes) ≡ t → earlyFault (refusalIn (writeOutcome bytes out)) ≡ false
+      go true e = ap (λ (x : Outcome). earlyFault (refusalIn x)) (outcome-short (ltb-true _ _ e))
+      go false e = ap (λ (x : Outcome). earlyFault (refusalIn x)) (outcome-room (ltb-false _ _ e))
 
   wrote : {a : Answer} {left : List ℕ} {o : Outcome} → writeOutcome bytes out ≡ o → outcomeOf a ≡ o → left ≡ outputAfter o bytes out → Wrote bytes out a left
   wrote e f g = record { answered = f ∙ sym e; output-left-is = g ∙ ap (λ (o : Outcome). outputAfter o bytes out) (sym e) }

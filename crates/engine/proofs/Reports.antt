@@ -10,15 +10,16 @@ use Rattle.ascii.proofs.Bools.{not-so}
 use Rattle.text.specs.Unfolding.{unfolded}
 use Rattle.calendar.specs.declared.Fault.{Fault}
 use Rattle.report.specs.Bytes.{reportBytes}
-use Rattle.engine.specs.Answers.{Outcome, report, refusal}
-use Rattle.engine.specs.Refusals.{Row, lowest, unlessRefused, Rising, ends, goes-on}
-use Rattle.engine.specs.Offsets.{contextOf}
-use Rattle.engine.specs.Reporting.{ReportCall, reportFor, collectRows, reportRows, reportOutcome, outputAfter, Reported}
+use Rattle.refusals.specs.Refusals.{Row, lowest, Rising, ends, goes-on}
+use Rattle.refusals.specs.Offsets.{contextOf}
+use Rattle.refusals.proofs.Tables.{none-iff, lowest-iff}
+use Rattle.refusals.proofs.Passing.{rises, sizes-rising, calendar-rising}
+use Rattle.collecting.specs.ReportCalls.{ReportCall, reportFor, collectRows}
+use Rattle.engine.specs.Answers.{Outcome, report, refusal, unlessRefused}
+use Rattle.engine.specs.Reporting.{reportRows, reportOutcome, outputAfter, Reported}
 use Rattle.engine.specs.Meanings.{NoRefusal, IsReport}
 use Rattle.engine.specs.ReportAnswers.{ReportsOrRefuses, ReportStands}
 use Rattle.engine.specs.declared.Answer.{Answer}
-use Rattle.engine.proofs.Tables.{none-iff, lowest-iff}
-use Rattle.engine.proofs.Passing.{rises, sizes-rising, calendar-rising}
 use Rattle.engine.proofs.Outcomes.{refused, let-through, report-apart, refusal-found, answer-found}
 
 -- ---- the table of a report call

@@ -12,26 +12,27 @@ use Rattle.ascii.proofs.Bools.{and-both}
 use Rattle.text.specs.Unfolding.{unfolded}
 use Rattle.values.specs.declared.period.Period.{Period}
 use Rattle.values.specs.declared.said.Busy.{Busy}
-use Rattle.calendar.specs.BusyTypes.{reportPlace, isBusy}
-use Rattle.calendar.specs.Meaning.{BusyPeriod, typed, faultOf}
+use Rattle.rules.specs.BusyTypes.{reportPlace, isBusy, BusyPeriod, typed}
+use Rattle.calendar.specs.Meaning.{faultOf}
 use Rattle.calendar.specs.declared.Fault.{Fault}
 use Rattle.table.specs.Runs.{Rising, Lies}
 use Rattle.table.proofs.Runs.{rising-lies, runs-only}
+use Rattle.report.specs.Bytes.{Report, reportBytes, Writable, periodCount}
 use Rattle.pieces.specs.Pieces.{busyPieces}
 use Rattle.pieces.proofs.Clipping.{Inside, piecesOf-same}
-use Rattle.report.specs.Bytes.{Report, reportBytes, Writable, periodCount}
 use Rattle.readback.specs.Reading.{reportPeriods, reportMeaning}
 use Rattle.readback.proofs.Lines.{report-unfolds}
 use Rattle.readback.proofs.Meaning.{report-means}
 use Rattle.readback.proofs.Sizes.{report-short}
-use Rattle.engine.specs.Refusals.{lowest, calendarRows}
-use Rattle.engine.specs.Offsets.{offsetGood, contextOf}
-use Rattle.engine.specs.Reporting.{ReportCall, rangeGood, stampGood, coveredIn, piecesFor, reportFor, collectRows, reportRows, Reported}
+use Rattle.refusals.specs.Refusals.{lowest, calendarRows}
+use Rattle.refusals.specs.Offsets.{offsetGood, contextOf}
+use Rattle.refusals.proofs.Tables.{none-iff, row-passed}
+use Rattle.refusals.proofs.Passing.{sizes-good, sizes-passed, calendar-lowest, calendar-passed}
+use Rattle.collecting.specs.ReportCalls.{ReportCall, rangeGood, stampGood, coveredIn, piecesFor, reportFor, collectRows}
+use Rattle.engine.specs.Reporting.{reportRows, Reported}
 use Rattle.engine.specs.Meanings.{NoRefusal, IsReport, OnReport, ReadsBack}
 use Rattle.engine.specs.ReportAnswers.{ReportStands}
 use Rattle.engine.specs.declared.Answer.{Answer}
-use Rattle.engine.proofs.Tables.{none-iff, row-passed}
-use Rattle.engine.proofs.Passing.{sizes-good, sizes-passed, calendar-lowest, calendar-passed}
 use Rattle.engine.proofs.Reports.{reports-or-refuses, report-stands}
 use Rattle.engine.proofs.Written.{range-good, stamp-good, rising-writable, range-width, periods-rising, few-periods, equal-bytes}
 use Rattle.engine.proofs.Saying.{read-periods, read-covered}

@@ -10,19 +10,22 @@ use lib.ListN.{take}
 use Rattle.text.specs.Unfolding.{unfolded}
 use Rattle.values.specs.declared.period.Period.{Period}
 use Rattle.values.specs.declared.said.Busy.{Busy}
-use Rattle.calendar.specs.BusyTypes.{isBusy}
-use Rattle.calendar.specs.Meaning.{BusyPeriod, block, entriesOf, componentsOf}
+use Rattle.rules.specs.BusyTypes.{isBusy, BusyPeriod}
+use Rattle.rules.specs.Events.{block}
+use Rattle.calendar.specs.Meaning.{entriesOf, componentsOf}
+use Rattle.calendar.proofs.Sizes.{entries-small}
 use Rattle.table.specs.Runs.{covers}
+use Rattle.report.specs.Bytes.{Report, reportBytes, Writable}
 use Rattle.pieces.specs.BusyPeriods.{entryPeriods, busyPeriods}
 use Rattle.pieces.specs.Covered.{ofType, coveredBy, covered, Covers}
-use Rattle.pieces.proofs.Covering.{covered-iff, entries-small}
-use Rattle.report.specs.Bytes.{Report, reportBytes, Writable}
+use Rattle.pieces.proofs.Covering.{covered-iff}
 use Rattle.readback.specs.Reading.{reportPeriods}
 use Rattle.readback.proofs.Lines.{report-unfolds}
 use Rattle.readback.proofs.Meaning.{reportBlock, report-entries}
 use Rattle.readback.proofs.Types.{report-types}
-use Rattle.engine.specs.Offsets.{offsetGood, contextOf}
-use Rattle.engine.specs.Reporting.{ReportCall, rangeGood, stampGood, entriesIn, coveredIn, reportFor, Reported}
+use Rattle.refusals.specs.Offsets.{offsetGood, contextOf}
+use Rattle.collecting.specs.ReportCalls.{ReportCall, rangeGood, stampGood, entriesIn, coveredIn, reportFor}
+use Rattle.engine.specs.Reporting.{Reported}
 use Rattle.engine.specs.Meanings.{IsReport, StandsUnder, SaysCovered}
 use Rattle.engine.specs.declared.Answer.{Answer}
 use Rattle.engine.proofs.Reports.{report-stands}

@@ -12,21 +12,21 @@ use borrow.Author.Tests.{ltb-true, ltb-false, leb-true, not-false}
 use Rattle.ascii.proofs.Bools.{and-left, and-right}
 use Rattle.values.specs.declared.period.Period.{Period}
 use Rattle.values.specs.declared.said.Busy.{Busy}
-use Rattle.calendar.specs.BusyTypes.{reportPlace, isBusy, sameBusy}
-use Rattle.calendar.specs.Meaning.{BusyPeriod}
+use Rattle.rules.specs.BusyTypes.{reportPlace, isBusy, sameBusy, BusyPeriod}
 use Rattle.table.specs.Runs.{covers, Rising, Lies}
 use Rattle.table.specs.Runs.Rising.{none, then}
 use Rattle.table.proofs.Runs.{runs-rising, runs-same, runs-here}
 use Rattle.table.proofs.Inserting.{fewest}
 use Rattle.table.proofs.Stretches.{within-true}
+use Rattle.report.specs.Bytes.{Report, busyLines, reportLines, reportBytes, GoodPeriods, Writable, periodCount}
 use Rattle.pieces.specs.BusyPeriods.{busyPeriods}
 use Rattle.pieces.specs.Covered.{ofType, coveredBy, covered}
 use Rattle.pieces.specs.Pieces.{busyPieces}
 use Rattle.pieces.proofs.Clipping.{clipped-covers, pieces-inside, pieces-count}
-use Rattle.report.specs.Bytes.{Report, busyLines, reportLines, reportBytes, GoodPeriods, Writable, periodCount}
-use Rattle.engine.specs.Refusals.{sizeRows, calendarRows}
-use Rattle.engine.specs.Offsets.{offsetGood}
-use Rattle.engine.specs.Reporting.{ReportCall, rangeGood, stampGood, entriesIn, coveredIn, piecesFor, reportFor, collectRows, reportRows}
+use Rattle.refusals.specs.Refusals.{sizeRows, calendarRows, contentsRows}
+use Rattle.refusals.specs.Offsets.{offsetGood}
+use Rattle.collecting.specs.ReportCalls.{ReportCall, rangeGood, stampGood, entriesIn, coveredIn, piecesFor, reportFor, collectRows}
+use Rattle.engine.specs.Reporting.{reportRows}
 use Rattle.engine.specs.Meanings.{NoRefusal}
 use Rattle.engine.proofs.Reports.{not-applied}
 
@@ -44,7 +44,7 @@ module _ (m : ReportCall) (h : NoRefusal m) where
   stamp-good = and-right (rangeGood (m .start) (m .end)) _ (and-left (rangeGood (m .start) (m .end) && stampGood (m .stamp)) _ first-row)
 
   pub few-pieces : length (piecesFor m) ≤ 512
-  unfolding reportRows collectRows sizeRows calendarRows
+  unfolding reportRows collectRows sizeRows calendarRows contentsRows
   few-pieces =
       ltb-false _ _
       (not-applied m h

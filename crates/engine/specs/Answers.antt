@@ -1,10 +1,9 @@
 -- An answer (document 01, Refusal numbers) is one of three kinds: a verdict, a report's length, or a refusal with its number.
 use Prim.Native.Nat.{ℕ}
-use mathlib.Core.Bool.{Bool, true, false}
-use mathlib.Core.List.{List, _++_}
-use lib.Dec.{leb}
-use lib.ListN.{length, drop}
-use Rattle.text.specs.Unfolding.{unfolded}
+use mathlib.Core.Bool.{Bool}
+use mathlib.Core.List.{List}
+use Rattle.calendar.specs.declared.Fault.{Fault}
+use Rattle.refusals.specs.Stages.{workBy}
 use Rattle.engine.specs.declared.Answer.{Answer}
 
 pub data Outcome : Type 0 where
@@ -18,12 +17,17 @@ outcomeOf (Answer.Verdict b) = verdict b
 outcomeOf (Answer.Length n) = report n
 outcomeOf (Answer.Refused n) = refusal n
 
--- a refusal by number 1 to 5: the calendar was not unfolded
-unfoldable pub refusedEarly : Outcome → Bool
-refusedEarly (verdict b) = false
-refusedEarly (report n) = false
-refusedEarly (refusal n) = leb n 5
+-- the refusal of an outcome, if it is one; the line plays no part in the buffers
+unfoldable pub refusalIn : Outcome → Fault
+refusalIn (verdict b) = Fault.None
+refusalIn (report n) = Fault.None
+refusalIn (refusal n) = Fault.At n 0
 
--- the work buffer afterwards: unchanged on 1 to 5; otherwise the unfolded calendar stands first and later bytes are unchanged
+-- the work buffer afterwards
 unfoldable pub workAfter : Outcome → List ℕ → List ℕ → List ℕ
-workAfter o cal work = elim (refusedEarly o) [ true ↦ work | false ↦ unfolded cal ++ drop (length (unfolded cal)) work ]
+workAfter o cal work = workBy (refusalIn o) cal work
+
+-- the lowest refusal that applies, else the answer
+unfoldable pub unlessRefused : Fault → Outcome → Outcome
+unlessRefused Fault.None o = o
+unlessRefused (Fault.At n i) o = refusal n

@@ -5,11 +5,11 @@ use mathlib.Core.Bool.{Bool, true}
 use mathlib.Core.Logic.{_↔_}
 use Rattle.text.specs.Unfolding.{unfolded}
 use Rattle.nesting.specs.Passing.{treeIn}
-use Rattle.query.specs.Paper.{WellFormedQuery}
+use Rattle.paper.specs.Paper.{WellFormedQuery}
 use Rattle.filter.specs.Paper.{QueryPasses}
+use Rattle.refusals.specs.Refusals.{RowApplies, Lowest}
+use Rattle.refusals.specs.Offsets.{contextOf}
 use Rattle.engine.specs.Answers.{verdict, refusal, outcomeOf}
-use Rattle.engine.specs.Refusals.{RowApplies, Lowest}
-use Rattle.engine.specs.Offsets.{contextOf}
 use Rattle.engine.specs.Matching.{MatchCall, matchRows}
 use Rattle.engine.specs.declared.Answer.{Answer}
 

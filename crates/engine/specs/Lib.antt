@@ -1,13 +1,8 @@
 pub mod Answers
-pub mod Refusals
-pub mod Offsets
 pub mod Matching
+pub mod MatchStages
 pub mod Demands
-pub mod Stages
 pub mod Reporting
-pub mod Meanings
-pub mod ReportAnswers
-pub mod Collecting
-pub mod CollectStages
 pub mod ReportWriting
-pub mod Twice
+pub mod ReportAnswers
+pub mod Meanings

@@ -7,12 +7,12 @@ use lib.IntN.{ℤ}
 use Rattle.text.specs.Unfolding.{unfolded}
 use Rattle.nesting.specs.Passing.{treeIn}
 use Rattle.query.specs.Sections.{sectionsOf}
-use Rattle.query.specs.WellFormed.{queryGood, rangeMisplaced}
 use Rattle.query.specs.declared.SectionsRead.{SectionsRead}
+use Rattle.paper.specs.WellFormed.{queryGood, rangeMisplaced}
 use Rattle.filter.specs.Tests.{queryHolds}
-use Rattle.engine.specs.Answers.{Outcome, verdict, outcomeOf, workAfter}
-use Rattle.engine.specs.Refusals.{Row, row, lowest, unlessRefused, sizeRows, calendarRows}
-use Rattle.engine.specs.Offsets.{offsetGood, contextOf}
+use Rattle.refusals.specs.Refusals.{Row, row, lowest, sizeRows, calendarRows}
+use Rattle.refusals.specs.Offsets.{offsetGood, contextOf}
+use Rattle.engine.specs.Answers.{Outcome, verdict, outcomeOf, workAfter, unlessRefused}
 use Rattle.engine.specs.declared.Answer.{Answer}
 
 -- what is handed in

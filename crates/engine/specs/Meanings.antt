@@ -7,12 +7,13 @@ use mathlib.Core.Logic.{_↔_}
 use lib.ListN.{length, take}
 use lib.IntN.{ℤ}
 use Rattle.values.specs.declared.said.Busy.{Busy}
-use Rattle.calendar.specs.BusyTypes.{isBusy}
+use Rattle.rules.specs.BusyTypes.{isBusy}
 use Rattle.pieces.specs.Covered.{Covers}
+use Rattle.refusals.specs.Refusals.{RowApplies}
+use Rattle.refusals.specs.Offsets.{offsetGood}
+use Rattle.collecting.specs.ReportCalls.{ReportCall, entriesIn, coveredIn}
 use Rattle.engine.specs.Answers.{report, outcomeOf}
-use Rattle.engine.specs.Refusals.{RowApplies}
-use Rattle.engine.specs.Offsets.{offsetGood}
-use Rattle.engine.specs.Reporting.{ReportCall, entriesIn, coveredIn, reportRows}
+use Rattle.engine.specs.Reporting.{reportRows}
 use Rattle.engine.specs.declared.Answer.{Answer}
 
 -- no numbered refusal applies to the call

@@ -5,9 +5,10 @@ use mathlib.Core.List.{List}
 use mathlib.Core.Logic.{_↔_}
 use lib.ListN.{length, take}
 use Rattle.report.specs.Bytes.{reportBytes}
+use Rattle.refusals.specs.Refusals.{Lowest}
+use Rattle.collecting.specs.ReportCalls.{ReportCall, reportFor}
 use Rattle.engine.specs.Answers.{refusal, outcomeOf}
-use Rattle.engine.specs.Refusals.{Lowest}
-use Rattle.engine.specs.Reporting.{ReportCall, reportFor, reportRows}
+use Rattle.engine.specs.Reporting.{reportRows}
 use Rattle.engine.specs.Meanings.{NoRefusal, IsReport}
 use Rattle.engine.specs.declared.Answer.{Answer}
 

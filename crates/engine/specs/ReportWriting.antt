@@ -4,8 +4,8 @@ use Prim.Native.Nat.{ℕ}
 use mathlib.Core.List.{List, [], _∷_}
 use lib.Dec.{ltb}
 use lib.ListN.{length}
-use Rattle.engine.specs.Answers.{Outcome, report, outcomeOf}
-use Rattle.engine.specs.Refusals.{row, lowest, unlessRefused}
+use Rattle.refusals.specs.Refusals.{row, lowest}
+use Rattle.engine.specs.Answers.{Outcome, report, outcomeOf, unlessRefused}
 use Rattle.engine.specs.Reporting.{outputAfter}
 use Rattle.engine.specs.declared.Answer.{Answer}
 

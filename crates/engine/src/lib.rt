@@ -1,13 +1,10 @@
 // The public calls: does a calendar match a query, and what is its report over a range?
 // No call has a `requires`, and each contract fixes the answer and every byte lent for writing.
-pub mod collecting;
 pub mod matching;
 pub mod reporting;
-pub mod stages;
-pub mod twice;
 
 use calendar::Fault;
-use stages::OffsetRead;
+use refusals::OffsetRead;
 use values::times::Context;
 ghost use Rattle.engine.specs.Matching.{Matched};
 ghost use Rattle.engine.specs.Reporting.{Reported};
@@ -26,9 +23,9 @@ pub enum Answer {
 pub fn matches(cal: &[u8], query: &[u8], offset: i64, work: &mut [u8]) -> Answer
     ensures { λ r. ⌜ Matched (record { calendar = now (cal .entry); query = now (query .entry); offset = offset; work = now (work .entry) }) r (now (work .exit)) ⌝ }
 {
-    match stages::read_offset(offset) {
+    match refusals::read_offset(offset) {
         OffsetRead::Bad => Answer::Refused(1),
-        OffsetRead::Of(shift) => match stages::check_sizes(cal, work) {
+        OffsetRead::Of(shift) => match refusals::check_sizes(cal, work) {
             Fault::At(n, line) => Answer::Refused(n),
             Fault::None => matching::match_query(work, cal, query, Context { shift: shift }),
         },

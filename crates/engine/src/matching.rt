@@ -1,8 +1,8 @@
 // What is left of a match call once offset and sizes are good.
+// The query is read before the calendar, as the table has it.
 use crate::Answer;
-use crate::stages;
 use calendar::Fault;
-use query::QueryRead;
+use paper::QueryRead;
 use query::Sections;
 use values::times::Context;
 ghost use mathlib.Core.Path.{_≡_};
@@ -10,8 +10,8 @@ ghost use mathlib.Core.Bool.{true};
 ghost use Prim.Native.Nat.{_≤_};
 ghost use lib.ListN.{length};
 ghost use Rattle.query.specs.Fits.{Fits};
-ghost use Rattle.query.specs.WellFormed.{recordsGood};
-ghost use Rattle.engine.specs.Stages.{Answered, queryOutcome, calendarOutcome};
+ghost use Rattle.paper.specs.WellFormed.{recordsGood};
+ghost use Rattle.engine.specs.MatchStages.{Answered, queryOutcome, calendarOutcome};
 
 // Refusals 6 to 10, then the filter.
 fn match_calendar(work: &mut [u8], cal: &[u8], paper: &[u8], q: Sections, c: Context) -> Answer
@@ -21,7 +21,7 @@ fn match_calendar(work: &mut [u8], cal: &[u8], paper: &[u8], q: Sections, c: Con
     requires { ⌜ c .shift ≤ 100800 ⌝ }
     ensures { λ r. ⌜ Answered (calendarOutcome c (now (cal .entry)) (now (paper .entry)) q) (now (cal .entry)) (now (work .entry)) r (now (work .exit)) ⌝ }
 {
-    let read = stages::read_calendar(work, cal, c);
+    let read = refusals::read_calendar(work, cal, c);
     let n = read.length;
     let f = read.fault;
     match f {
@@ -39,7 +39,7 @@ pub fn match_query(work: &mut [u8], cal: &[u8], paper: &[u8], c: Context) -> Ans
     requires { ⌜ c .shift ≤ 100800 ⌝ }
     ensures { λ r. ⌜ Answered (queryOutcome c (now (cal .entry)) (now (paper .entry))) (now (cal .entry)) (now (work .entry)) r (now (work .exit)) ⌝ }
 {
-    match query::good::read_query(paper) {
+    match paper::read_query(paper) {
         QueryRead::Bad => Answer::Refused(4),
         QueryRead::Misplaced => Answer::Refused(5),
         QueryRead::Of(q) => match_calendar(work, cal, paper, q, c),

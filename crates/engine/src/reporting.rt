@@ -1,4 +1,5 @@
 // What is left of a report call once its period tables are collected.
+// The length is counted before a byte is written, so an output that is too short stays as it was.
 use crate::Answer;
 use report::lines;
 use table::Table;

@@ -21,9 +21,9 @@ use Rattle.values.specs.Times.{atSecond, timeBy, readTime, formOf, timeOf}
 use Rattle.values.specs.declared.period.Period.{Period}
 use Rattle.values.specs.declared.said.Busy.{Busy}
 use Rattle.values.specs.declared.said.Saying.{Saying}
-use Rattle.calendar.specs.BusyTypes.{reportPlace, sameBusy}
+use Rattle.rules.specs.BusyTypes.{reportPlace, sameBusy}
+use Rattle.rules.specs.declared.Event.{Event}
 use Rattle.calendar.specs.Meaning.{faultOr, byValues, faultOf}
-use Rattle.calendar.specs.declared.Event.{Event}
 use Rattle.calendar.specs.declared.Fault.{Fault}
 use Rattle.table.specs.Runs.{period, within, covers, lead, leadIf, runs}
 use Rattle.busy.specs.Candidates.{firstAt, spanOf, candidateOf, startsBefore}

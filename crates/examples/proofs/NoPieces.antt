@@ -7,15 +7,14 @@ use native.Mathlib.Omega.{arith}
 use borrow.Author.Tests.{ltb-true}
 use Rattle.ascii.proofs.Bools.{and-right, not-so}
 use Rattle.values.specs.declared.said.Busy.{Busy}
-use Rattle.calendar.specs.BusyTypes.{isBusy}
-use Rattle.calendar.specs.Meaning.{BusyPeriod, event}
-use Rattle.calendar.specs.declared.Event.{Event}
-use Rattle.busy.specs.Instances.{startOf, endOf, stands, lengthBy, instancesAtMost}
+use Rattle.rules.specs.BusyTypes.{isBusy, BusyPeriod}
+use Rattle.rules.specs.Events.{event}
+use Rattle.rules.specs.declared.Event.{Event}
 use Rattle.table.specs.Inserting.{lesser, greater}
 use Rattle.table.proofs.Stretches.{greater-right, lesser-right}
-use Rattle.pieces.specs.BusyPeriods.{listBelow, instancePeriod, eventPeriods, entryPeriods, busyPeriods}
+use Rattle.busy.specs.Instances.{startOf, endOf, stands, lengthBy, instancesAtMost}
+use Rattle.pieces.specs.BusyPeriods.{listBelow, instancePeriod, eventPeriods, entryPeriods, busyPeriods, busyPeriod}
 use Rattle.pieces.specs.Pieces.{clipped, isPiece, piecesOf, busyPieces}
-use Rattle.pieces.specs.Walks.{busyPeriod}
 use Rattle.pieces.proofs.Clipping.{is-none, one-piece, piecesOf-none, piecesOf-append}
 use Rattle.pieces.proofs.Events.{stands-period, fails-period}
 

@@ -14,12 +14,14 @@ use Rattle.values.specs.declared.period.Period.{Period}
 use Rattle.values.specs.declared.said.Busy.{Busy}
 use Rattle.values.specs.declared.said.Saying.{Saying}
 use Rattle.values.specs.declared.said.Scope.{Scope}
-use Rattle.calendar.specs.Meaning.{BusyPeriod, Entry, event, block, calendar, faultOr, byValues, faultOf}
-use Rattle.calendar.specs.declared.Bound.{Bound}
-use Rattle.calendar.specs.declared.Ending.{Ending}
-use Rattle.calendar.specs.declared.Event.{Event}
+use Rattle.rules.specs.Events.{Entry, event, block}
+use Rattle.rules.specs.BusyTypes.{BusyPeriod}
+use Rattle.rules.specs.declared.Bound.{Bound}
+use Rattle.rules.specs.declared.Ending.{Ending}
+use Rattle.rules.specs.declared.Event.{Event}
+use Rattle.rules.specs.declared.Repeat.{Repeat}
+use Rattle.calendar.specs.Meaning.{calendar, faultOr, byValues, faultOf}
 use Rattle.calendar.specs.declared.Fault.{Fault}
-use Rattle.calendar.specs.declared.Repeat.{Repeat}
 use Rattle.calendar.specs.declared.ValueCheck.{ValueCheck}
 use Rattle.table.specs.Runs.{period, runs}
 use Rattle.busy.specs.Instances.{startOf, stands}

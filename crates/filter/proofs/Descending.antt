@@ -19,16 +19,17 @@ use Rattle.calendar.specs.Meaning.{scopeOf, componentScope}
 use Rattle.calendar.specs.Places.{componentsFrom, componentAt as placedAt}
 use Rattle.query.specs.Fits.{Fits}
 use Rattle.query.specs.Records.{textOf, componentAt}
-use Rattle.query.specs.Paper.{GoodComponent}
-use Rattle.query.specs.WellFormed.{recordsGood, implies}
+use Rattle.query.specs.Counting.{implies}
 use Rattle.query.specs.declared.Sections.{Sections}
 use Rattle.query.specs.declared.ComponentRecord.{ComponentRecord}
-use Rattle.query.proofs.WellFormed.{records-say}
-use Rattle.filter.specs.Tests.{propertiesHold, rangeHolds, someComponentNamed, someComponent, componentHolds, childrenHold, componentTest, queryHolds}
-use Rattle.filter.specs.Places.{propertiesAt}
+use Rattle.paper.specs.Paper.{GoodComponent}
+use Rattle.paper.specs.WellFormed.{recordsGood}
+use Rattle.paper.proofs.WellFormed.{records-say}
+use Rattle.properties.specs.PropertyTests.{propertiesHold, propertiesAt}
+use Rattle.properties.proofs.Properly.{properties-by-place}
+use Rattle.filter.specs.Tests.{rangeHolds, someComponentNamed, someComponent, componentHolds, childrenHold, componentTest, queryHolds}
 use Rattle.filter.specs.Trials.{trialOf, trialWhere, hereAlone, trialHere, trialHolds, SmallTrial}
 use Rattle.filter.specs.declared.trials.Trial.{Trial}
-use Rattle.filter.proofs.Parts.{properties-by-place}
 use Rattle.filter.proofs.Trying.{trial-of-small, where-small, small-as, trial-by-place, where-holds}
 
 -- ---- what a good paper gives

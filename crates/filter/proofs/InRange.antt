@@ -16,12 +16,13 @@ use Rattle.values.specs.declared.said.Scope.{Scope}
 use Rattle.values.specs.declared.said.Saying.{Saying}
 use Rattle.values.specs.declared.said.Busy.{Busy}
 use Rattle.values.specs.declared.period.Period.{Period}
-use Rattle.calendar.specs.Meaning.{BusyPeriod, typed, periodsBy, blockPeriods}
+use Rattle.rules.specs.BusyTypes.{BusyPeriod, typed}
+use Rattle.rules.specs.declared.Event.{Event}
+use Rattle.rules.specs.declared.Block.{Block}
+use Rattle.rules.specs.declared.BlockRead.{BlockRead}
+use Rattle.rules.specs.declared.Bound.{Bound}
+use Rattle.calendar.specs.Meaning.{periodsBy, blockPeriods}
 use Rattle.calendar.specs.Periods.{periodsFrom, NextPeriod, NoPeriod}
-use Rattle.calendar.specs.declared.Event.{Event}
-use Rattle.calendar.specs.declared.Block.{Block}
-use Rattle.calendar.specs.declared.BlockRead.{BlockRead}
-use Rattle.calendar.specs.declared.Bound.{Bound}
 use Rattle.calendar.proofs.Listed.{periods-all}
 use Rattle.calendar.proofs.Steps.{periods-number}
 use Rattle.busy.specs.Sizes.{Small}
@@ -30,11 +31,12 @@ use Rattle.busy.proofs.Searching.{few-before}
 use Rattle.busy.proofs.Starts.{in-range-starts}
 use Rattle.busy.proofs.PeriodLists.{periods-append}
 use Rattle.busy.specs.Instances.{instancesAtMost}
-use Rattle.query.specs.WellFormed.{someBelow}
+use Rattle.query.specs.Counting.{someBelow}
 use Rattle.query.proofs.Counting.{none-at}
+use Rattle.properties.specs.PropertyTests.{propertiesAt}
+use Rattle.properties.proofs.Lines.{SomeOf}
 use Rattle.filter.specs.Tests.{blockRangeIn}
-use Rattle.filter.specs.Places.{propertiesAt, somePeriodIn, saysPeriods, lineIn, linesIn, blockLinesIn}
-use Rattle.filter.proofs.Lines.{SomeOf}
+use Rattle.filter.specs.Places.{somePeriodIn, saysPeriods, lineIn, linesIn, blockLinesIn}
 
 -- ---- the periods of a value: none before `at` touches the range
 

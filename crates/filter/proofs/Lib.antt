@@ -1,6 +1,3 @@
-pub mod Searches
-pub mod Lines
-pub mod Properly
 pub mod InRange
 pub mod Parts
 pub mod Trying

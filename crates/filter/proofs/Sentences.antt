@@ -15,12 +15,13 @@ use Rattle.line.specs.Reading.{hasParameter, valuesNamed}
 use Rattle.nesting.specs.Components.{Numbered, Items, Component, componentsIn, propertiesIn}
 use Rattle.values.specs.declared.times.Context.{Context}
 use Rattle.values.specs.declared.said.Scope.{Scope}
-use Rattle.calendar.specs.Meaning.{BusyPeriod, componentScope, eventOf, blockOf, blockPeriods}
-use Rattle.calendar.specs.declared.Event.{Event}
-use Rattle.calendar.specs.declared.EventRead.{EventRead}
-use Rattle.calendar.specs.declared.Bound.{Bound}
-use Rattle.calendar.specs.declared.Block.{Block}
-use Rattle.calendar.specs.declared.BlockRead.{BlockRead}
+use Rattle.rules.specs.BusyTypes.{BusyPeriod}
+use Rattle.rules.specs.declared.Event.{Event}
+use Rattle.rules.specs.declared.EventRead.{EventRead}
+use Rattle.rules.specs.declared.Bound.{Bound}
+use Rattle.rules.specs.declared.Block.{Block}
+use Rattle.rules.specs.declared.BlockRead.{BlockRead}
+use Rattle.calendar.specs.Meaning.{componentScope, eventOf, blockOf, blockPeriods}
 use Rattle.calendar.proofs.Sizes.{eventOf-small}
 use Rattle.busy.specs.TimeRange.{EventIn, betweenIn, periodsTouch, boundsIn, blockIn, Decides}
 use Rattle.busy.proofs.PeriodLists.{periods-iff}
@@ -28,16 +29,18 @@ use Rattle.busy.proofs.Searching.{search-finds, decided-once}
 use Rattle.busy.proofs.EventSizes.{event-sizes}
 use Rattle.busy.specs.Instances.{instancesAtMost}
 use Rattle.query.specs.Records.{rangeStart, rangeEnd, textOf, componentAt, propertyAt, parameterAt}
-use Rattle.query.specs.WellFormed.{recordsGood, everyBelow, implies}
+use Rattle.query.specs.Counting.{everyBelow, implies}
 use Rattle.query.specs.declared.Sections.{Sections}
 use Rattle.query.specs.declared.PropertyRecord.{PropertyRecord}
 use Rattle.query.specs.declared.ParameterRecord.{ParameterRecord}
 use Rattle.query.proofs.Counting.{every-at, every-all, or-left, or-right}
-use Rattle.query.proofs.WellFormed.{records-say}
-use Rattle.filter.specs.Tests.{collationOf, textHolds, someValue, parameterHolds, parameterPasses, parametersHold, someNamed, lineHolds, someLine, propertyHolds, propertyPasses, propertiesHold, eventIn, blockRangeIn, componentIn, rangeHolds, someComponentNamed, someComponent, componentHolds, childrenHold, componentTest, queryHolds}
+use Rattle.paper.specs.WellFormed.{recordsGood}
+use Rattle.paper.proofs.WellFormed.{records-say}
+use Rattle.properties.specs.PropertyTests.{collationOf, textHolds, someValue, parameterHolds, parameterPasses, parametersHold, someNamed, lineHolds, someLine, propertyHolds, propertyPasses, propertiesHold}
+use Rattle.properties.proofs.Lines.{SomeOf}
+use Rattle.properties.proofs.Properly.{named-lines, holding-lines}
+use Rattle.filter.specs.Tests.{eventIn, blockRangeIn, componentIn, rangeHolds, someComponentNamed, someComponent, componentHolds, childrenHold, componentTest, queryHolds}
 use Rattle.filter.specs.Paper.{ValuePasses, ParameterPasses, LinePasses, PropertyPasses, ComponentIn, RangePasses, ComponentPasses, QueryPasses}
-use Rattle.filter.proofs.Lines.{SomeOf}
-use Rattle.filter.proofs.Properly.{named-lines, holding-lines}
 use Rattle.filter.proofs.InRange.{both-ends, some-at, some-decides}
 
 -- ---- Bools and searches

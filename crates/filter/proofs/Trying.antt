@@ -11,11 +11,11 @@ use Rattle.nesting.specs.Components.{Component, itemsOf}
 use Rattle.nesting.specs.Passing.{linesFrom}
 use Rattle.values.specs.declared.times.Context.{Context}
 use Rattle.values.specs.declared.said.Scope.{Scope}
+use Rattle.rules.specs.declared.Event.{Event}
+use Rattle.rules.specs.declared.EventRead.{EventRead}
+use Rattle.rules.specs.declared.BlockRead.{BlockRead}
 use Rattle.calendar.specs.Meaning.{componentScope}
 use Rattle.calendar.specs.Places.{eventAt, blockAt}
-use Rattle.calendar.specs.declared.Event.{Event}
-use Rattle.calendar.specs.declared.EventRead.{EventRead}
-use Rattle.calendar.specs.declared.BlockRead.{BlockRead}
 use Rattle.calendar.proofs.Sizes.{eventAt-small}
 use Rattle.calendar.proofs.Steps.{eventOf-at, blockOf-at}
 use Rattle.busy.specs.Sizes.{Small}
@@ -23,11 +23,12 @@ use Rattle.busy.specs.Candidates.{FirstCandidate}
 use Rattle.busy.proofs.EventSizes.{event-sizes}
 use Rattle.busy.proofs.Searching.{search-finds, search-ends, decided-once, few-before}
 use Rattle.query.specs.Records.{rangeStart, rangeEnd}
-use Rattle.query.specs.WellFormed.{recordsGood}
 use Rattle.query.specs.declared.Sections.{Sections}
-use Rattle.query.proofs.WellFormed.{records-say}
+use Rattle.paper.specs.WellFormed.{recordsGood}
+use Rattle.paper.proofs.WellFormed.{records-say}
+use Rattle.properties.specs.PropertyTests.{propertiesAt}
 use Rattle.filter.specs.Tests.{eventIn, blockRangeIn, componentIn, rangeHolds}
-use Rattle.filter.specs.Places.{propertiesAt, blockLinesIn}
+use Rattle.filter.specs.Places.{blockLinesIn}
 use Rattle.filter.specs.Trials.{eventTrial, trialIn, trialOf, trialWhere, trialHolds, trialPasses, trialGoesOn, Tried, SmallTrial}
 use Rattle.filter.specs.declared.trials.Trial.{Trial}
 use Rattle.filter.proofs.InRange.{some-decides, range-at}

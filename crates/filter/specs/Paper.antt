@@ -10,19 +10,19 @@ use Rattle.line.specs.Reading.{hasParameter, valuesNamed}
 use Rattle.nesting.specs.Components.{Numbered, Items, Component, componentsIn, propertiesIn}
 use Rattle.values.specs.declared.times.Context.{Context}
 use Rattle.values.specs.declared.said.Scope.{Scope}
+use Rattle.rules.specs.declared.Event.{Event}
+use Rattle.rules.specs.declared.EventRead.{EventRead}
+use Rattle.rules.specs.declared.Bound.{Bound}
+use Rattle.rules.specs.declared.Block.{Block}
+use Rattle.rules.specs.declared.BlockRead.{BlockRead}
 use Rattle.calendar.specs.Meaning.{componentScope, eventOf, blockOf, blockPeriods}
-use Rattle.calendar.specs.declared.Event.{Event}
-use Rattle.calendar.specs.declared.EventRead.{EventRead}
-use Rattle.calendar.specs.declared.Bound.{Bound}
-use Rattle.calendar.specs.declared.Block.{Block}
-use Rattle.calendar.specs.declared.BlockRead.{BlockRead}
 use Rattle.busy.specs.TimeRange.{EventIn, betweenIn}
 use Rattle.busy.specs.Blocks.{PeriodIn}
 use Rattle.query.specs.Records.{rangeStart, rangeEnd, textOf, componentAt, propertyAt, parameterAt}
 use Rattle.query.specs.declared.Sections.{Sections}
 use Rattle.query.specs.declared.PropertyRecord.{PropertyRecord}
 use Rattle.query.specs.declared.ParameterRecord.{ParameterRecord}
-use Rattle.filter.specs.Tests.{collationOf}
+use Rattle.properties.specs.PropertyTests.{collationOf}
 
 -- ---- a value against a record's text, its collation and its flag
 

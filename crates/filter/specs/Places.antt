@@ -3,22 +3,15 @@ use Prim.Native.Nat.{ℕ}
 use mathlib.Core.Bool.{Bool, true, false, _||_}
 use mathlib.Core.List.{List, [], _∷_}
 use Rattle.line.specs.Grammar.{ContentLine}
-use Rattle.nesting.specs.Components.{Numbered, itemsOf, propertiesIn}
-use Rattle.nesting.specs.Passing.{linesFrom}
+use Rattle.nesting.specs.Components.{Numbered}
 use Rattle.values.specs.Said.{sayingOf}
 use Rattle.values.specs.declared.times.Context.{Context}
 use Rattle.values.specs.declared.said.Scope.{Scope}
 use Rattle.values.specs.declared.said.Saying.{Saying}
 use Rattle.values.specs.declared.period.Period.{Period}
+use Rattle.rules.specs.declared.BlockRead.{BlockRead}
 use Rattle.calendar.specs.Meaning.{periodsBy, blockPeriods}
-use Rattle.calendar.specs.declared.BlockRead.{BlockRead}
 use Rattle.busy.specs.TimeRange.{touches, periodsTouch, blockIn}
-
--- the lines directly in it; by which number they begin plays no part in a test
-unfoldable pub propertiesAt : List ℕ → ℕ → List Numbered
-propertiesAt s at = propertiesIn (itemsOf 0 (linesFrom s at 1))
-
--- ---- the time range
 
 -- some period of a value touches the range
 unfoldable pub somePeriodIn : ℕ → ℕ → List Period → Bool

@@ -1,87 +1,31 @@
--- The tests of a query on a calendar (document 01, The query paper): component, property and parameter tests over the component tree.
+-- The tests of a query on a calendar (document 01, The query paper): component tests over the component tree, each with its time range.
 -- A component test and the tests of its children go down the records: those of higher numbers are left.
 use Prim.Native.Nat.{ℕ, zero, suc, _-_}
 use mathlib.Core.Bool.{Bool, true, false, cond, not, _&&_, _||_}
 use mathlib.Core.List.{List, [], _∷_}
 use lib.Dec.{eqb}
 use Rattle.ascii.specs.Names.{sameName}
-use Rattle.text.specs.TextMatch.{contains}
-use Rattle.text.specs.declared.Collation.{Collation}
-use Rattle.line.specs.Grammar.{ContentLine}
-use Rattle.line.specs.Reading.{hasParameter, valuesNamed}
-use Rattle.nesting.specs.Components.{Numbered, Items, Component, componentsIn, propertiesIn}
+use Rattle.nesting.specs.Components.{Items, Component, componentsIn, propertiesIn}
 use Rattle.values.specs.declared.times.Context.{Context}
 use Rattle.values.specs.declared.said.Scope.{Scope}
+use Rattle.rules.specs.declared.Event.{Event}
+use Rattle.rules.specs.declared.EventRead.{EventRead}
+use Rattle.rules.specs.declared.BlockRead.{BlockRead}
 use Rattle.calendar.specs.Meaning.{componentScope, eventOf, blockOf, blockPeriods}
-use Rattle.calendar.specs.declared.Event.{Event}
-use Rattle.calendar.specs.declared.EventRead.{EventRead}
-use Rattle.calendar.specs.declared.BlockRead.{BlockRead}
 use Rattle.busy.specs.TimeRange.{instanceIn, blockIn}
 use Rattle.busy.specs.Instances.{instancesAtMost}
-use Rattle.query.specs.Records.{rangeStart, rangeEnd, textOf, componentAt, propertyAt, parameterAt}
-use Rattle.query.specs.WellFormed.{everyBelow, someBelow, implies}
+use Rattle.query.specs.Records.{rangeStart, rangeEnd, textOf, componentAt}
+use Rattle.query.specs.Counting.{someBelow, implies}
 use Rattle.query.specs.declared.Sections.{Sections}
 use Rattle.query.specs.declared.ComponentRecord.{ComponentRecord}
-use Rattle.query.specs.declared.PropertyRecord.{PropertyRecord}
-use Rattle.query.specs.declared.ParameterRecord.{ParameterRecord}
+use Rattle.properties.specs.PropertyTests.{propertiesHold}
 
--- the collation of a record: 0 is i;octet, 1 i;ascii-casemap
-unfoldable pub collationOf : ℕ → Collation
-collationOf zero = Collation.Octet
-collationOf (suc n) = Collation.AsciiCasemap
-
--- does a value hold up against a record's text? Flag 2 asks that it does not contain it; without a text any value does
-unfoldable pub textHolds : List ℕ → Sections → ℕ → ℕ → ℕ → List ℕ → Bool
-textHolds s q zero c f v = true
-textHolds s q (suc t) c f v = cond (eqb f 2) (not (contains (collationOf c) v (textOf s q t))) (contains (collationOf c) v (textOf s q t))
-
--- some one value holds up
-unfoldable pub someValue : List ℕ → Sections → ParameterRecord → List (List ℕ) → Bool
-someValue s q r [] = false
-someValue s q r (v ∷ vs) = textHolds s q (r .text) (r .collation) (r .flag) v || someValue s q r vs
-
--- a parameter test on one line: flag 1 asks that no parameter has the name
-unfoldable pub parameterHolds : List ℕ → Sections → ContentLine → ParameterRecord → Bool
-parameterHolds s q x r =
-    cond (eqb (r .flag) 1) (not (hasParameter (textOf s q (r .name)) x)) (someValue s q r (valuesNamed (textOf s q (r .name)) (x .parameters)))
-
--- parameter record k, where it is one of property record i
-unfoldable pub parameterPasses : List ℕ → Sections → ℕ → ContentLine → ℕ → Bool
-parameterPasses s q i x k = implies (eqb (parameterAt s q k .property) i) (parameterHolds s q x (parameterAt s q k))
-
--- every parameter test of property record i
-unfoldable pub parametersHold : List ℕ → Sections → ℕ → ContentLine → Bool
-parametersHold s q i x = everyBelow (q .parameters .count) (parameterPasses s q i x)
-
--- one line has the name
-unfoldable pub someNamed : List ℕ → List Numbered → Bool
-someNamed n [] = false
-someNamed n (x ∷ xs) = sameName (x .line .name) n || someNamed n xs
-
--- a line has the name, its value holds up, and that same line passes every parameter test
-unfoldable pub lineHolds : List ℕ → Sections → ℕ → PropertyRecord → ContentLine → Bool
-lineHolds s q i r x =
-    sameName (x .name) (textOf s q (r .name)) && textHolds s q (r .text) (r .collation) (r .flag) (x .value) && parametersHold s q i x
-
-unfoldable pub someLine : List ℕ → Sections → ℕ → PropertyRecord → List Numbered → Bool
-someLine s q i r [] = false
-someLine s q i r (x ∷ xs) = lineHolds s q i r (x .line) || someLine s q i r xs
-
-unfoldable pub propertyHolds : List ℕ → Sections → ℕ → PropertyRecord → List Numbered → Bool
-propertyHolds s q i r xs = cond (eqb (r .flag) 1) (not (someNamed (textOf s q (r .name)) xs)) (someLine s q i r xs)
-
--- property record i, where it is one of component record k
-unfoldable pub propertyPasses : List ℕ → Sections → ℕ → List Numbered → ℕ → Bool
-propertyPasses s q k xs i = implies (eqb (propertyAt s q i .component) k) (propertyHolds s q i (propertyAt s q i) xs)
-
--- every property test of component record k
-unfoldable pub propertiesHold : List ℕ → Sections → ℕ → List Numbered → Bool
-propertiesHold s q k xs = everyBelow (q .properties .count) (propertyPasses s q k xs)
-
+-- some instance of the event is in the range
 unfoldable pub eventIn : EventRead → ℕ → ℕ → Bool
 eventIn (EventRead.Of e) a b = someBelow instancesAtMost (instanceIn e a b)
 eventIn EventRead.Broken a b = false
 
+-- the block is, by its ends or by its periods
 unfoldable pub blockRangeIn : Context → Component → BlockRead → ℕ → ℕ → Bool
 blockRangeIn c k (BlockRead.Of b) from to = blockIn b (blockPeriods c (propertiesIn (k .items))) from to
 blockRangeIn c k BlockRead.Broken from to = false

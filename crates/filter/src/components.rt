@@ -1,5 +1,5 @@
 // The component tests of a query, and the query on a whole file.
-use crate::properties;
+// The search is left at the first component and instance that pass; a record's children have higher numbers.
 use crate::trials;
 use crate::trials::Trial;
 use calendar::places;
@@ -17,7 +17,7 @@ ghost use Rattle.nesting.specs.Components.{itemsOf};
 ghost use Rattle.nesting.specs.Passing.{linesFrom, treeIn};
 ghost use Rattle.calendar.specs.Places.{componentsFrom};
 ghost use Rattle.query.specs.Fits.{Fits};
-ghost use Rattle.query.specs.WellFormed.{recordsGood};
+ghost use Rattle.paper.specs.WellFormed.{recordsGood};
 ghost use Rattle.filter.specs.Tests.{someComponentNamed, childrenHold, componentTest, queryHolds};
 ghost use Rattle.filter.specs.Trials.{hereAlone, trialHere};
 

@@ -1,8 +1,5 @@
-// The tests of a query on a calendar.
+// The tests of a query on a calendar: components, each in its time range.
 // Each function equals one definition of specs/.
 pub mod components;
-pub mod parameters;
-pub mod properties;
 pub mod ranges;
-pub mod texts;
 pub mod trials;

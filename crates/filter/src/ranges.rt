@@ -1,14 +1,15 @@
 // Is a block in a time range, from a up to, but not including, b?
+// A block with both ends is tested by them alone, any other by its periods.
 use busy::time_range;
-use calendar::Block;
-use calendar::BlockRead;
-use calendar::Bound;
 use calendar::periods;
 use calendar::periods::PeriodStep;
 use calendar::places;
 use line::read;
 use nesting::items;
 use nesting::items::Item;
+use rules::Block;
+use rules::BlockRead;
+use rules::Bound;
 use values::said;
 use values::said::Saying;
 use values::said::Scope;
@@ -20,7 +21,8 @@ ghost use Rattle.calendar.specs.Meaning.{blockPeriods};
 ghost use Rattle.calendar.specs.Periods.{periodsFrom};
 ghost use Rattle.calendar.specs.Places.{blockAt};
 ghost use Rattle.busy.specs.TimeRange.{blockIn};
-ghost use Rattle.filter.specs.Places.{propertiesAt, somePeriodIn, saysPeriods, lineIn, linesIn, blockLinesIn};
+ghost use Rattle.properties.specs.PropertyTests.{propertiesAt};
+ghost use Rattle.filter.specs.Places.{somePeriodIn, saysPeriods, lineIn, linesIn, blockLinesIn};
 
 // Does some period of a value touch the range?
 fn value_in(v: &[u8], a: u64, b: u64) -> bool

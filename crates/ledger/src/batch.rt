@@ -1,4 +1,5 @@
 // Many calendars: their names on standard input, a ledger line each, and each report beside its file.
+// The engine answers; here answers are counted and printed.
 use console::args;
 use console::args::Plan;
 use console::args::Planned;
@@ -68,7 +69,7 @@ fn print_busy(t: Table) {
 
 // Three columns.
 fn print_seconds(p: Plan, cal: &[u8], work: &mut [u8]) {
-    let c = engine::collecting::collect(cal, p.start, p.end, p.offset, p.stamp, work);
+    let c = collecting::collect(cal, p.start, p.end, p.offset, p.stamp, work);
     let busy = c.busy;
     let tentative = c.tentative;
     let unavailable = c.unavailable;

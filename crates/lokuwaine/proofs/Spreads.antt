@@ -4,9 +4,10 @@ use mathlib.Core.Path.{_≡_, refl, sym, ap, _∙_, subst}
 use mathlib.Core.Bool.{Bool}
 use mathlib.Core.List.{List}
 use lib.IntN.{ℤ}
+use Rattle.collecting.specs.ReportCalls.{ReportCall}
 use Rattle.engine.specs.Answers.{outcomeOf}
 use Rattle.engine.specs.Matching.{MatchCall, Matched}
-use Rattle.engine.specs.Reporting.{ReportCall, Reported}
+use Rattle.engine.specs.Reporting.{Reported}
 use Rattle.engine.specs.declared.Answer.{Answer}
 use Rattle.lokuwaine.specs.Spreading.{verdictValue, kindOf, valueOf, spreadOf, MatchSpread, ReportSpread}
 use Rattle.lokuwaine.specs.declared.Spread.{Spread}

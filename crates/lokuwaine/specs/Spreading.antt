@@ -3,10 +3,11 @@ use Prim.Native.Nat.{ℕ}
 use mathlib.Core.Path.{_≡_}
 use mathlib.Core.Bool.{Bool, true, false}
 use mathlib.Core.List.{List}
-use Rattle.engine.specs.Answers.{Outcome, verdict, report, refusal, outcomeOf, workAfter}
 use Rattle.report.specs.Bytes.{reportBytes}
+use Rattle.collecting.specs.ReportCalls.{ReportCall, reportFor}
+use Rattle.engine.specs.Answers.{Outcome, verdict, report, refusal, outcomeOf, workAfter}
 use Rattle.engine.specs.Matching.{MatchCall, matchOutcome}
-use Rattle.engine.specs.Reporting.{ReportCall, reportFor, reportOutcome, outputAfter}
+use Rattle.engine.specs.Reporting.{reportOutcome, outputAfter}
 use Rattle.engine.specs.declared.Answer.{Answer}
 use Rattle.lokuwaine.specs.declared.Spread.{Spread}
 

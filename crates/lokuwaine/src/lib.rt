@@ -1,4 +1,5 @@
 // The public calls under fixed names, for C and Rust: the answer's kind is the result, its value and its line go out through two numbers.
+// Each makes one call and spreads its answer, nothing more.
 use engine::Answer;
 ghost use mathlib.Core.Path.{_≡_};
 ghost use Rattle.lokuwaine.specs.Spreading.{verdictValue, spreadOf, MatchSpread, ReportSpread};

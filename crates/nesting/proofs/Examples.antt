@@ -13,8 +13,9 @@ use Rattle.ascii.proofs.Bools.{and-left, and-right, clash}
 use Rattle.line.specs.Grammar.{ContentLine}
 use Rattle.line.specs.Pieces.{firstOutside, before, after, pieces}
 use Rattle.line.specs.Reading.{lineOf, nameOf, headOf, valueOf, parameterTexts}
-use Rattle.nesting.specs.Marks.{markOf}
-use Rattle.nesting.specs.Nesting.{isCalendar, isEvent, isFreeBusy, mayBegin, afterBegin, afterEnd, afterProperty, afterWrong, walk, outcome, nestingOf}
+use Rattle.marks.specs.Marks.{markOf}
+use Rattle.marks.specs.Innermost.{isCalendar, isEvent, isFreeBusy, mayBegin}
+use Rattle.nesting.specs.Nesting.{afterBegin, afterEnd, afterProperty, afterWrong, walk, outcome, nestingOf}
 use Rattle.nesting.specs.declared.Nesting.{Nesting}
 use Rattle.nesting.specs.declared.Nesting.the-variants.{Good, BadLine}
 

@@ -13,12 +13,13 @@ use Rattle.ascii.specs.Words.{ascii}
 use Rattle.ascii.proofs.Bools.{and-left, and-right, and-both, clash}
 use Rattle.ascii.proofs.Names.{sameName-iff}
 use Rattle.line.specs.Grammar.{ContentLine, contentLine}
-use Rattle.nesting.specs.Marks.{markOf, noParameters}
-use Rattle.nesting.specs.Nesting.{isCalendar, mayBegin, Walk, start, inside, closed, broken, afterBegin, outside, afterEnd, afterProperty, afterWrong, afterMark, walk, outcome, nestingOf}
+use Rattle.marks.specs.Marks.{markOf, noParameters}
+use Rattle.marks.specs.Innermost.{isCalendar, mayBegin}
+use Rattle.marks.specs.declared.Mark.{Mark}
+use Rattle.marks.specs.declared.Mark.the-variants.{Begins, Ends, Property, Wrong}
+use Rattle.nesting.specs.Nesting.{Walk, start, inside, closed, broken, afterBegin, outside, afterEnd, afterProperty, afterWrong, afterMark, walk, outcome, nestingOf}
 use Rattle.nesting.specs.WellNested.{numberedFrom}
 use Rattle.nesting.specs.Faults.{GoesOn, BreaksAt, StopsAt, FaultAt, breaks, stops}
-use Rattle.nesting.specs.declared.Mark.{Mark}
-use Rattle.nesting.specs.declared.Mark.the-variants.{Begins, Ends, Property, Wrong}
 use Rattle.nesting.specs.declared.Nesting.the-variants.{Good, BadLine}
 use Rattle.nesting.proofs.Walks.{walk-numbered, stays-broken, step-end}
 

@@ -6,11 +6,11 @@ use native.Mathlib.Omega.{arith}
 use lib.ListN.{length}
 use Rattle.text.specs.Lines.{part, LineFrom, NoLineFrom}
 use Rattle.line.specs.Reading.{lineOf}
-use Rattle.nesting.specs.Marks.{markOf}
+use Rattle.marks.specs.Marks.{markOf}
+use Rattle.marks.specs.declared.Mark.{Mark}
+use Rattle.marks.specs.declared.Mark.the-variants.{Begins, Ends, Property, Wrong}
 use Rattle.nesting.specs.Components.{Items, none, property, component, itemsOf}
 use Rattle.nesting.specs.Passing.{linesFrom, PropertyAt, InnerAt, NoItemAt, depthAfter, SkipsTo}
-use Rattle.nesting.specs.declared.Mark.{Mark}
-use Rattle.nesting.specs.declared.Mark.the-variants.{Begins, Ends, Property, Wrong}
 use Rattle.nesting.specs.declared.items.Place.{Place}
 use Rattle.nesting.proofs.Stepping.{item-inner, item-done, item-property, item-wrong, property-at, inner-at, no-item-at, Skipping, skipping-start, skipping-next, skipping-end, skipping-done}
 

@@ -1,7 +1,7 @@
 pub mod Walks
 pub mod Trees
 pub mod Faults
-pub mod Marking
+pub mod Meeting
 pub mod Passing
 pub mod Stepping
 pub mod Leaving

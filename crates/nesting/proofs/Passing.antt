@@ -5,8 +5,6 @@ use mathlib.Core.Bool.{Bool, true, false, cond}
 use mathlib.Core.List.{List, [], _∷_, map}
 use native.Mathlib.Omega.{arith}
 use lib.ListN.{length}
-use Rattle.ascii.specs.Names.{sameName}
-use Rattle.ascii.specs.Words.{ascii}
 use Rattle.text.specs.Lines.{contentLines, part, LineAt, NoPiece, LineFrom, NoLineFrom}
 use Rattle.text.proofs.Lines.{steps-at, steps-none, line-from, no-line-from}
 use Rattle.line.specs.Grammar.{ContentLine}
@@ -14,21 +12,22 @@ use Rattle.line.specs.Reading.{lineOf, valueOf}
 use Rattle.line.specs.WellFormed.{lineCheck, GoodLineAt, BadLineAt, Checked}
 use Rattle.line.specs.declared.check.LineCheck.{LineCheck}
 use Rattle.line.proofs.WellFormed.{checked-next, checked-bad}
-use Rattle.nesting.specs.Marks.{markOf}
-use Rattle.nesting.specs.Nesting.{isCalendar, Walk, start, inside, closed, broken, afterBegin, afterEnd, afterProperty, afterWrong, afterMark, walk, outcome, nestingOf}
+use Rattle.marks.specs.Marks.{markOf}
+use Rattle.marks.specs.Innermost.{metBy, beginsBy, beginsCalendar}
+use Rattle.marks.specs.declared.Mark.{Mark}
+use Rattle.marks.specs.declared.Mark.the-variants.{Begins, Ends, Property, Wrong}
+use Rattle.marks.specs.declared.Met.{Met}
+use Rattle.marks.specs.declared.Met.the-variants.{Opens, Stays, Closes, Breaks}
+use Rattle.nesting.specs.Nesting.{Walk, start, inside, closed, broken, afterBegin, afterEnd, afterProperty, afterWrong, afterMark, walk, outcome, nestingOf}
 use Rattle.nesting.specs.WellNested.{numberedFrom}
-use Rattle.nesting.specs.Passing.{linesAt, nestingIn, nestingFrom, structureBy, metBy, beginsBy, beginsCalendar, ClosesAt, BreaksBefore, ReadsTo}
-use Rattle.nesting.specs.declared.Mark.{Mark}
-use Rattle.nesting.specs.declared.Mark.the-variants.{Begins, Ends, Property, Wrong}
+use Rattle.nesting.specs.Passing.{linesAt, nestingIn, nestingFrom, structureBy, ClosesAt, BreaksBefore, ReadsTo}
 use Rattle.nesting.specs.declared.Nesting.{Nesting}
 use Rattle.nesting.specs.declared.Nesting.the-variants.{Good, BadLine}
-use Rattle.nesting.specs.declared.Met.{Met}
-use Rattle.nesting.specs.declared.Met.the-variants.{Opens, Stays, Closes, Breaks}
 use Rattle.nesting.specs.declared.Structure.{Structure}
 use Rattle.nesting.specs.declared.Closed.{Closed}
 use Rattle.nesting.specs.declared.Closed.the-variants.{At, Broken, Bad}
 use Rattle.nesting.proofs.Walks.{walk-numbered, stays-broken, after-closed}
-use Rattle.nesting.proofs.Marking.{afterMet, after-met, Room, opens-room}
+use Rattle.nesting.proofs.Meeting.{afterMet, after-met, Room, opens-room}
 
 -- ---- lines from a place on
 
@@ -203,13 +202,6 @@ after-start Begins i x = refl
 after-start Ends i x = refl
 after-start Property i x = refl
 after-start Wrong i x = refl
-
-pub begins-yes : {m r : Mark} {v w : List ℕ} (t : Bool) → r ≡ m → w ≡ v → r ≡ Begins → t ≡ sameName w (ascii "VCALENDAR") → t ≡ beginsBy m v
-unfolding isCalendar
-begins-yes t p g b e = rw (sym p ∙ b, sym g) e
-
-pub begins-no : {m r : Mark} (v : List ℕ) (q : Mark) → r ≡ m → r ≡ q → beginsBy q v ≡ false → false ≡ beginsBy m v
-begins-no v q p b e = sym (ap (λ (j : Mark). beginsBy j v) (sym p ∙ b) ∙ e)
 
 pub calendar-last : (s : List ℕ) (at i : ℕ) → NoLineFrom s at → Good ≡ nestingFrom i closed (linesAt s at)
 unfolding outcome

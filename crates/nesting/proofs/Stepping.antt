@@ -6,11 +6,11 @@ use native.Mathlib.Omega.{arith}
 use lib.ListN.{length}
 use Rattle.text.specs.Lines.{part, LineFrom, NoLineFrom}
 use Rattle.line.specs.Reading.{lineOf}
-use Rattle.nesting.specs.Marks.{markOf}
+use Rattle.marks.specs.Marks.{markOf}
+use Rattle.marks.specs.declared.Mark.{Mark}
+use Rattle.marks.specs.declared.Mark.the-variants.{Begins, Ends, Property, Wrong}
 use Rattle.nesting.specs.Components.{Numbered, Marked, begins, ends, other, markedAs, markedFrom, itemsOf, treeOf}
 use Rattle.nesting.specs.Passing.{linesAt, treeIn, linesFrom, numbered, PropertyAt, InnerAt, NoItemAt, ItemAt, depthAfter, SkipsTo}
-use Rattle.nesting.specs.declared.Mark.{Mark}
-use Rattle.nesting.specs.declared.Mark.the-variants.{Begins, Ends, Property, Wrong}
 use Rattle.nesting.specs.declared.items.Item.{Item}
 use Rattle.nesting.proofs.Passing.{lines-next, lines-none}
 use Rattle.nesting.specs.declared.items.Item.the-variants as Item

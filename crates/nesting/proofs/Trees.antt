@@ -12,12 +12,13 @@ use native.Mathlib.Omega.{arith}
 use lib.ListN.{length, length-append}
 use Rattle.ascii.specs.Names.{sameName}
 use Rattle.line.specs.Grammar.{ContentLine}
-use Rattle.nesting.specs.Marks.{markOf}
-use Rattle.nesting.specs.Nesting.{isCalendar, mayBegin, Walk, start, inside, closed, broken, afterBegin, outside, afterEnd, afterProperty, afterWrong, walk, outcome, nestingOf}
+use Rattle.marks.specs.Marks.{markOf}
+use Rattle.marks.specs.Innermost.{isCalendar, mayBegin}
+use Rattle.marks.specs.declared.Mark.{Mark}
+use Rattle.marks.specs.declared.Mark.the-variants.{Begins, Ends, Property, Wrong}
+use Rattle.nesting.specs.Nesting.{Walk, start, inside, closed, broken, afterBegin, outside, afterEnd, afterProperty, afterWrong, walk, outcome, nestingOf}
 use Rattle.nesting.specs.Components.{Numbered, begins, ends, other, Items, none, property, component, endOf, itemsOf, treeOf, renderedItems}
 use Rattle.nesting.specs.WellNested.{numberedFrom, componentCount, StandsAt, NestedAt, nothing, with-property, with-component, WellNested, calendar}
-use Rattle.nesting.specs.declared.Mark.{Mark}
-use Rattle.nesting.specs.declared.Mark.the-variants.{Begins, Ends, Property, Wrong}
 use Rattle.nesting.specs.declared.Nesting.the-variants.{Good}
 use Rattle.nesting.proofs.Walks.{stepped, walked, marks, walk-numbered, marks-numbered, may-begin-stands, step-begin, step-end, step-property, broken-step, closed-last}
 

@@ -10,12 +10,13 @@ use borrow.Author.Tests.{not-true, leb-true, le-leb, eqb-true, eq-eqb}
 use Rattle.ascii.proofs.Bools.{and-left, and-right, and-both, clash}
 use Rattle.ascii.specs.Names.{sameName}
 use Rattle.line.specs.Grammar.{ContentLine}
-use Rattle.nesting.specs.Marks.{markOf}
-use Rattle.nesting.specs.Nesting.{isCalendar, isEvent, isFreeBusy, mayBegin, Walk, inside, closed, broken, afterBegin, outside, afterEnd, afterProperty, afterWrong, afterMark, walk}
+use Rattle.marks.specs.Marks.{markOf}
+use Rattle.marks.specs.Innermost.{isCalendar, isEvent, isFreeBusy, mayBegin}
+use Rattle.marks.specs.declared.Mark.{Mark}
+use Rattle.marks.specs.declared.Mark.the-variants.{Begins, Ends, Property, Wrong}
+use Rattle.nesting.specs.Nesting.{Walk, inside, closed, broken, afterBegin, outside, afterEnd, afterProperty, afterWrong, afterMark, walk}
 use Rattle.nesting.specs.Components.{Numbered, Marked, markedAs, markedFrom}
 use Rattle.nesting.specs.WellNested.{numberedFrom, StandsAt}
-use Rattle.nesting.specs.declared.Mark.{Mark}
-use Rattle.nesting.specs.declared.Mark.the-variants.{Begins, Ends, Property, Wrong}
 
 -- ---- the walk and the marks over lines that carry their numbers
 

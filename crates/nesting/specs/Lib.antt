@@ -1,4 +1,3 @@
-pub mod Marks
 pub mod Nesting
 pub mod Components
 pub mod WellNested

@@ -1,32 +1,17 @@
 -- Right nesting (document 01, Nesting), as one walk over the content lines that knows the components still open.
 -- The line where the walk breaks is the first after which no continuation keeps the rules.
 use Prim.Native.Nat.{ℕ, suc, _+_}
-use mathlib.Core.Bool.{Bool, cond, not, _&&_, _||_}
+use mathlib.Core.Bool.{cond, not}
 use mathlib.Core.List.{List, [], _∷_}
-use lib.Dec.{eqb, leb}
 use lib.ListN.{length}
 use Rattle.ascii.specs.Names.{sameName}
-use Rattle.ascii.specs.Words.{ascii}
 use Rattle.line.specs.Grammar.{ContentLine}
-use Rattle.nesting.specs.Marks.{markOf}
-use Rattle.nesting.specs.declared.Mark.{Mark}
-use Rattle.nesting.specs.declared.Mark.the-variants.{Begins, Ends, Property, Wrong}
+use Rattle.marks.specs.Marks.{markOf}
+use Rattle.marks.specs.Innermost.{isCalendar, mayBegin}
+use Rattle.marks.specs.declared.Mark.{Mark}
+use Rattle.marks.specs.declared.Mark.the-variants.{Begins, Ends, Property, Wrong}
 use Rattle.nesting.specs.declared.Nesting.{Nesting}
 use Rattle.nesting.specs.declared.Nesting.the-variants.{Good, BadLine}
-
-unfoldable pub isCalendar : List ℕ → Bool
-isCalendar n = sameName n (ascii "VCALENDAR")
-
-unfoldable pub isEvent : List ℕ → Bool
-isEvent n = sameName n (ascii "VEVENT")
-
-unfoldable pub isFreeBusy : List ℕ → Bool
-isFreeBusy n = sameName n (ascii "VFREEBUSY")
-
--- may a component inside VCALENDAR begin, of this name, at depth d, as component number k?
--- No other VCALENDAR; at most 8 deep; at most 256 in all; VEVENT and VFREEBUSY at depth 2 alone
-unfoldable pub mayBegin : List ℕ → ℕ → ℕ → Bool
-mayBegin n d k = not (isCalendar n) && leb d 8 && leb k 256 && (eqb d 2 || not (isEvent n || isFreeBusy n))
 
 -- how far the walk is
 pub data Walk : Type 0 where

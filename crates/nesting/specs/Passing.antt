@@ -1,24 +1,20 @@
 -- How the code goes over the lines of a file: from a place in the bytes, with the number of the line that begins there.
 use Prim.Native.Nat.{ℕ, suc, _+_, _-_, _≤_, _<_}
 use mathlib.Core.Path.{_≡_}
-use mathlib.Core.Bool.{Bool, false, cond}
 use mathlib.Core.List.{List, _∷_, map}
 use lib.ListN.{length, drop}
-use Rattle.ascii.specs.Names.{sameName}
 use Rattle.text.specs.Lines.{contentLines, part, LineFrom}
 use Rattle.line.specs.Grammar.{ContentLine}
 use Rattle.line.specs.Reading.{lineOf}
 use Rattle.line.specs.WellFormed.{lineCheck, Checked}
 use Rattle.line.specs.declared.check.LineCheck.{LineCheck}
-use Rattle.nesting.specs.Marks.{markOf}
-use Rattle.nesting.specs.Nesting.{isCalendar, mayBegin, Walk, inside, outside, walk, outcome, nestingOf}
+use Rattle.marks.specs.Marks.{markOf}
+use Rattle.marks.specs.declared.Mark.{Mark}
+use Rattle.marks.specs.declared.Mark.the-variants.{Begins, Ends, Property, Wrong}
+use Rattle.nesting.specs.Nesting.{Walk, inside, outside, walk, outcome, nestingOf}
 use Rattle.nesting.specs.Components.{Numbered, Marked, markedFrom, Items, none, property, component, endOf, itemsOf, treeOf}
-use Rattle.nesting.specs.declared.Mark.{Mark}
-use Rattle.nesting.specs.declared.Mark.the-variants.{Begins, Ends, Property, Wrong}
 use Rattle.nesting.specs.declared.Nesting.{Nesting}
 use Rattle.nesting.specs.declared.Nesting.the-variants.{BadLine}
-use Rattle.nesting.specs.declared.Met.{Met}
-use Rattle.nesting.specs.declared.Met.the-variants.{Opens, Stays, Closes, Breaks}
 use Rattle.nesting.specs.declared.items.Item.{Item}
 use Rattle.nesting.specs.declared.items.Place.{Place}
 use Rattle.nesting.specs.declared.Closed.{Closed}
@@ -46,23 +42,6 @@ treeIn s = treeOf (map lineOf (contentLines s))
 -- the outcome for a file whose walk is w where line number i is next
 unfoldable pub nestingFrom : ℕ → Walk → List ContentLine → Nesting
 nestingFrom i w xs = outcome (i + length xs) (walk i w xs)
-
--- what a line does to the innermost open component, of name n, where one more would be at depth d and number k
-unfoldable pub metBy : Mark → List ℕ → List ℕ → ℕ → ℕ → Met
-metBy Begins v n d k = cond (mayBegin v d k) Opens Breaks
-metBy Ends v n d k = cond (sameName v n) Closes Breaks
-metBy Property v n d k = Stays
-metBy Wrong v n d k = Breaks
-
--- the line begins VCALENDAR
-abbrev pub beginsBy : Mark → List ℕ → Bool
-beginsBy Begins n = isCalendar n
-beginsBy Ends n = false
-beginsBy Property n = false
-beginsBy Wrong n = false
-
-unfoldable pub beginsCalendar : ContentLine → Bool
-beginsCalendar x = beginsBy (markOf x) (x .value)
 
 -- The component of this name, open at this place, has ended; at most `left` components may be open inside each other from it on.
 -- The lines before place a are well formed, and whatever is open around it, the file's outcome is decided by the lines from there on.

@@ -6,10 +6,10 @@ use mathlib.Core.Bool.{true, false}
 use mathlib.Core.List.{List, [], _∷_}
 use Rattle.ascii.specs.Names.{sameName}
 use Rattle.line.specs.Grammar.{ContentLine}
-use Rattle.nesting.specs.Marks.{markOf}
-use Rattle.nesting.specs.Nesting.{isCalendar, isEvent, isFreeBusy}
+use Rattle.marks.specs.Marks.{markOf}
+use Rattle.marks.specs.Innermost.{isCalendar, isEvent, isFreeBusy}
+use Rattle.marks.specs.declared.Mark.the-variants.{Begins, Ends, Property}
 use Rattle.nesting.specs.Components.{Numbered, Items, none, property, component}
-use Rattle.nesting.specs.declared.Mark.the-variants.{Begins, Ends, Property}
 
 -- content lines with their numbers, the first of them number i
 unfoldable pub numberedFrom : ℕ → List ContentLine → List Numbered

@@ -1,6 +1,6 @@
 // From item to item of a component, and past an inner component.
 // The items are those of the tree in specs/Components.
-use crate::Mark;
+use marks::Mark;
 use text::Span;
 ghost use mathlib.Core.Path.{_≡_};
 ghost use Prim.Native.Nat.{_+_, _≤_, _<_};
@@ -28,7 +28,7 @@ pub fn next_item(s: &[u8], at: usize) -> Item
 {
     match text::next_line(s, at) {
         Span::End => Item::Done,
-        Span::Line(e, next) => match crate::mark_of(&s[at..e]) {
+        Span::Line(e, next) => match marks::mark_of(&s[at..e]) {
             Mark::Begins => Item::Inner(e, next),
             Mark::Ends => Item::Done,
             Mark::Property => Item::Property(e, next),
@@ -49,7 +49,7 @@ pub fn skip_component(s: &[u8], from: usize, first: usize) -> Place
         match text::next_line(s, at) {
             Span::End => return Place { at, number },
             Span::Line(e, next) => {
-                depth = depth_after(crate::mark_of(&s[at..e]), depth);
+                depth = depth_after(marks::mark_of(&s[at..e]), depth);
                 at = next;
                 number += 1;
             }

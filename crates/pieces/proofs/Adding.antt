@@ -6,8 +6,7 @@ use native.Mathlib.Omega.{arith}
 use lib.ListN.{length, take, set, length-append}
 use lib.Seq.{sets, length-sets, lt-length-set, sets-eq, take-nil, take-all, take-at}
 use Rattle.time.proofs.Putting.{sets-append}
-use Rattle.calendar.specs.BusyTypes.{reportPlace}
-use Rattle.calendar.specs.Meaning.{BusyPeriod}
+use Rattle.rules.specs.BusyTypes.{reportPlace, BusyPeriod}
 use Rattle.pieces.specs.Columns.{flat, noted, Noted}
 
 flat-append : (ps qs : List BusyPeriod) → flat (ps ++ qs) ≡ flat ps ++ flat qs

@@ -8,29 +8,22 @@ use native.Mathlib.Omega.{arith}
 use lib.Dec.{ltb}
 use borrow.Author.Tests.{ltb-true, ltb-false}
 use Rattle.ascii.proofs.Bools.{and-left, and-right, and-both, clash}
-use Rattle.nesting.specs.Components.{Component}
 use Rattle.values.specs.declared.said.Busy.{Busy}
-use Rattle.values.specs.declared.said.Scope.{Scope}
-use Rattle.values.specs.declared.times.Context.{Context}
-use Rattle.calendar.specs.BusyTypes.{sameBusy}
-use Rattle.calendar.specs.Meaning.{BusyPeriod, Entry, event, block, eventOf, blockOf, eventEntry, blockEntry, entryOf, entriesOf, componentScope}
-use Rattle.calendar.specs.Sizes.{EventSmall}
-use Rattle.calendar.specs.declared.Event.{Event}
-use Rattle.calendar.specs.declared.EventRead.{EventRead}
-use Rattle.calendar.specs.declared.Block.{Block}
-use Rattle.calendar.specs.declared.BlockRead.{BlockRead}
-use Rattle.calendar.proofs.BusyPlaces.{sameBusy-iff}
-use Rattle.calendar.proofs.Sizes.{eventOf-small}
+use Rattle.rules.specs.BusyTypes.{sameBusy, BusyPeriod}
+use Rattle.rules.specs.Events.{Entry, event, block}
+use Rattle.rules.specs.Sizes.{EventSmall}
+use Rattle.rules.specs.declared.Event.{Event}
+use Rattle.rules.specs.declared.Block.{Block}
+use Rattle.rules.proofs.BusyPlaces.{sameBusy-iff}
+use Rattle.table.proofs.Stretches.{within-ends, within-true}
 use Rattle.busy.specs.Instances.{startOf, endOf, stands, instancesAtMost}
 use Rattle.busy.specs.Sizes.{Small}
 use Rattle.busy.proofs.Bounds.{starts-long}
-use Rattle.pieces.specs.BusyPeriods.{listBelow, instancePeriod, eventPeriods, entryPeriods, busyPeriods}
+use Rattle.busy.proofs.EventSizes.{event-sizes}
+use Rattle.pieces.specs.BusyPeriods.{listBelow, instancePeriod, eventPeriods, entryPeriods, busyPeriods, busyPeriod}
 use Rattle.pieces.specs.Covered.{coveredBy, covered, Covers, by-instance, by-period}
-use Rattle.pieces.specs.Walks.{busyPeriod}
 use Rattle.pieces.proofs.Clipping.{covers-none, hits, hits-first}
 use Rattle.pieces.proofs.Events.{stands-period, fails-period}
-use Rattle.busy.proofs.EventSizes.{event-sizes}
-use Rattle.table.proofs.Stretches.{within-ends, within-true}
 
 -- some period of the list has the type and covers the second
 pub record CoveredIn (ps : List BusyPeriod) (b : Busy) (x : ℕ) : Type 0 where
@@ -180,44 +173,3 @@ module _ (b : Busy) (es : List Entry) (x : ℕ) where
   unfolding covered
   covered-iff l small =
       (λ h. let i = covered-listed b x (busyPeriods es) h in entries-cover b x es (i .listed) (i .type) (i .from) (i .to), covers-covered l small)
-
--- ---- the entries of a calendar
-
--- the event of an entry that is one
-eventOr : Event → Entry → Event
-eventOr y (event e) = e
-eventOr y (block k ps) = y
-
-isOne : Entry → Bool
-isOne (event e) = true
-isOne (block k ps) = false
-
-event-entry-small : (c : Context) (k : Component) (r : EventRead) → eventOf c k ≡ r → (e : Event) → List·Memᴰ (event e) (eventEntry r) → EventSmall e
-unfolding eventOr
-event-entry-small c k (EventRead.Of y) q e d = subst EventSmall (sym (ap (eventOr e) (List·Memᴰ·eq-of-singleton d))) (eventOf-small c k y q)
-event-entry-small c k EventRead.Broken q e d = absurd (List·Memᴰ·not-nil d)
-
-no-block-entry : (r : BlockRead) (ps : List BusyPeriod) (e : Event) → List·Memᴰ (event e) (blockEntry r ps) → ⊥
-unfolding isOne
-no-block-entry (BlockRead.Of k) ps e d = clash refl (ap isOne (List·Memᴰ·eq-of-singleton d))
-no-block-entry BlockRead.Broken ps e d = List·Memᴰ·not-nil d
-
-entry-small : (c : Context) (o : Scope) (k : Component) (e : Event) → List·Memᴰ (event e) (entryOf c o k) → EventSmall e
-unfolding entryOf
-entry-small c Scope.Event k e d = event-entry-small c k (eventOf c k) refl e d
-entry-small c Scope.FreeBusy k e d = absurd (no-block-entry (blockOf c k) _ e d)
-entry-small c Scope.Other k e d = absurd (List·Memᴰ·not-nil d)
-
--- the events of a calendar are small
-pub entries-small : (c : Context) (ks : List Component) (e : Event) → List·Memᴰ (event e) (entriesOf c ks) → EventSmall e
-unfolding entriesOf
-entries-small c [] e d = absurd (List·Memᴰ·not-nil d)
-entries-small c (k ∷ ks) e d = go (List·Memᴰ·append-cases (entryOf c (componentScope k) k) d) (entries-small c ks e)
-  where
-    go : List·Memᴰ (event e) (entryOf c (componentScope k) k) ⊎ List·Memᴰ (event e) (entriesOf c ks) → (List·Memᴰ (event e) (entriesOf c ks) → EventSmall e)
-        → EventSmall e
-    go (inl m) r = entry-small c (componentScope k) k e m
-    go (inr m) r = r m
-
-pub calendar-covered-iff : (c : Context) (ks : List Component) (b : Busy) (x : ℕ) → x ≤ 4102444799 → (covered b (entriesOf c ks) x ≡ true) ↔ Covers (entriesOf c ks) b x
-calendar-covered-iff c ks b x l = covered-iff b (entriesOf c ks) x l (entries-small c ks)

@@ -10,21 +10,19 @@ use lib.Seq.{sets}
 use borrow.Author.Tests.{ltb-true, ltb-false, lt-ltb, eqb-true}
 use Rattle.ascii.proofs.Bools.{and-left, and-right, and-both, clash, not-so}
 use Rattle.values.specs.declared.said.Busy.{Busy}
-use Rattle.calendar.specs.BusyTypes.{reportPlace, isBusy}
-use Rattle.calendar.specs.Meaning.{BusyPeriod}
-use Rattle.calendar.specs.declared.Event.{Event}
+use Rattle.rules.specs.BusyTypes.{reportPlace, isBusy, BusyPeriod}
+use Rattle.rules.specs.declared.Event.{Event}
+use Rattle.table.specs.Inserting.{lesser, greater}
+use Rattle.table.proofs.Stretches.{greater-left, greater-right, lesser-left, lesser-right}
 use Rattle.busy.specs.Instances.{startOf, endOf, stands, lengthBy, instancesAtMost}
 use Rattle.busy.specs.Sizes.{Small}
 use Rattle.busy.specs.TimeRange.{touches, instanceIn}
 use Rattle.busy.specs.Candidates.{FirstCandidate, startsBefore}
 use Rattle.busy.proofs.Searching.{few-before}
 use Rattle.busy.proofs.Starts.{none-after}
-use Rattle.table.specs.Inserting.{lesser, greater}
-use Rattle.table.proofs.Stretches.{greater-left, greater-right, lesser-left, lesser-right}
-use Rattle.pieces.specs.BusyPeriods.{listBelow, instancePeriod, eventPeriods}
+use Rattle.pieces.specs.BusyPeriods.{listBelow, instancePeriod, eventPeriods, busyPeriod}
 use Rattle.pieces.specs.Columns.{Noted}
 use Rattle.pieces.specs.Pieces.{clipped, isPiece, pieceOf, piecesOf}
-use Rattle.pieces.specs.Walks.{busyPeriod}
 use Rattle.pieces.proofs.Adding.{noted-none, noted-full, noted-piece, noted-as, noted-then, noted-few, noted-long}
 use Rattle.pieces.proofs.Clipping.{chosen, left-out, is-piece, is-none, one-piece, piecesOf-none, piecesOf-append}
 

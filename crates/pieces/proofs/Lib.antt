@@ -2,5 +2,3 @@ pub mod Adding
 pub mod Clipping
 pub mod Covering
 pub mod Events
-pub mod Leaving
-pub mod Contents

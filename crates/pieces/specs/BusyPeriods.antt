@@ -2,10 +2,15 @@
 use Prim.Native.Nat.{ℕ, zero, suc}
 use mathlib.Core.Bool.{true, false}
 use mathlib.Core.List.{List, [], _∷_, _++_}
-use Rattle.calendar.specs.Meaning.{BusyPeriod, Entry, event, block}
-use Rattle.calendar.specs.declared.Event.{Event}
-use Rattle.busy.specs.Instances.{startOf, endOf, stands, instancesAtMost}
+use Rattle.values.specs.declared.said.Busy.{Busy}
+use Rattle.rules.specs.Events.{Entry, event, block}
+use Rattle.rules.specs.BusyTypes.{BusyPeriod}
+use Rattle.rules.specs.declared.Event.{Event}
 use Rattle.table.specs.Runs.{period}
+use Rattle.busy.specs.Instances.{startOf, endOf, stands, instancesAtMost}
+
+abbrev pub busyPeriod : Busy → ℕ → ℕ → BusyPeriod
+busyPeriod b s t = record { busy = b; period = period s t }
 
 -- the lists of 0, 1, .., n - 1 after each other
 unfoldable pub listBelow : ℕ → (ℕ → List BusyPeriod) → List BusyPeriod
@@ -14,7 +19,7 @@ listBelow (suc n) f = listBelow n f ++ f n
 
 -- instance k, where it stands
 unfoldable pub instancePeriod : Event → ℕ → List BusyPeriod
-instancePeriod e k = elim (stands e k) [ true ↦ record { busy = e .busy; period = period (startOf e k) (endOf e k) } ∷ [] | false ↦ [] ]
+instancePeriod e k = elim (stands e k) [ true ↦ busyPeriod (e .busy) (startOf e k) (endOf e k) ∷ [] | false ↦ [] ]
 
 unfoldable pub eventPeriods : Event → List BusyPeriod
 eventPeriods e = listBelow instancesAtMost (instancePeriod e)

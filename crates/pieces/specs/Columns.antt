@@ -4,8 +4,7 @@ use mathlib.Core.Path.{_≡_}
 use mathlib.Core.List.{List, [], _∷_}
 use lib.ListN.{length, take}
 use lib.Seq.{sets}
-use Rattle.calendar.specs.BusyTypes.{reportPlace}
-use Rattle.calendar.specs.Meaning.{BusyPeriod}
+use Rattle.rules.specs.BusyTypes.{reportPlace, BusyPeriod}
 
 -- start, end and the type's place in a report
 unfoldable pub flat : List BusyPeriod → List ℕ

@@ -2,4 +2,3 @@ pub mod BusyPeriods
 pub mod Covered
 pub mod Pieces
 pub mod Columns
-pub mod Walks

@@ -4,8 +4,8 @@ use mathlib.Core.Bool.{Bool, true, false, _&&_}
 use mathlib.Core.List.{List, [], _∷_, _++_}
 use lib.Dec.{ltb}
 use Rattle.values.specs.declared.period.Period.{Period}
-use Rattle.calendar.specs.BusyTypes.{isBusy}
-use Rattle.calendar.specs.Meaning.{BusyPeriod, Entry}
+use Rattle.rules.specs.BusyTypes.{isBusy, BusyPeriod}
+use Rattle.rules.specs.Events.{Entry}
 use Rattle.table.specs.Runs.{period}
 use Rattle.table.specs.Inserting.{lesser, greater}
 use Rattle.pieces.specs.BusyPeriods.{busyPeriods}

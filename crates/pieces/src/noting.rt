@@ -1,20 +1,20 @@
 // Noting the busy pieces of one period and of one event, from a up to, but not including, b; 513 pieces are enough.
+// A piece is three numbers of a column: its start, its end, and the place of its type in a report.
 use busy::instance;
 use busy::time_range;
-use calendar::Event;
-use calendar::events;
+use rules::Event;
+use rules::events;
 use values::said::Busy;
 ghost use mathlib.Core.Path.{_≡_};
 ghost use mathlib.Core.List.{[], _∷_};
 ghost use Prim.Native.Nat.{_*_, _≤_, _<_};
 ghost use lib.ListN.{length};
 ghost use lib.Seq.{sets};
-ghost use Rattle.busy.specs.Sizes.{Small};
 ghost use Rattle.table.specs.Inserting.{lesser, greater};
-ghost use Rattle.pieces.specs.BusyPeriods.{instancePeriod, eventPeriods};
+ghost use Rattle.busy.specs.Sizes.{Small};
+ghost use Rattle.pieces.specs.BusyPeriods.{instancePeriod, eventPeriods, busyPeriod};
 ghost use Rattle.pieces.specs.Pieces.{pieceOf, piecesOf};
 ghost use Rattle.pieces.specs.Columns.{Noted};
-ghost use Rattle.pieces.specs.Walks.{busyPeriod};
 
 fn greater(a: u64, s: u64) -> u64
     ensures { λ r. ⌜ r ≡ greater a s ⌝ }

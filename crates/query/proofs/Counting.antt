@@ -7,7 +7,7 @@ use native.Mathlib.Omega.{arith}
 use lib.Dec.{ltb}
 use borrow.Author.Tests.{ltb-true, ltb-false}
 use Rattle.ascii.proofs.Bools.{and-left, and-right, and-both, clash, not-so}
-use Rattle.query.specs.WellFormed.{everyBelow, someBelow}
+use Rattle.query.specs.Counting.{everyBelow, someBelow}
 
 -- what holds of each number below n, and of n, holds of each below n + 1
 pub below-suc : (P : ℕ → Type 0) (n i : ℕ) → i < suc n → (i < n → P i) → P n → P i

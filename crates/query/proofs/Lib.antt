@@ -1,9 +1,4 @@
 pub mod Counting
 pub mod Places
 pub mod Reading
-pub mod Loops
-pub mod Deciding
 pub mod Laying
-pub mod Refusing
-pub mod WellFormed
-pub mod Examples

@@ -1,6 +1,5 @@
+pub mod Counting
 pub mod Sections
 pub mod Records
 pub mod Fits
 pub mod Layout
-pub mod WellFormed
-pub mod Paper

@@ -1,7 +1,6 @@
-// The query paper: reading it in place, and whether it is as it must be (refusals 4 and 5).
+// The query paper, read in place: its sections, and the records in them.
 // Each function equals one definition of specs/.
 pub mod fields;
-pub mod good;
 pub mod place;
 
 // A section: how many records it has, and where they begin.
@@ -29,13 +28,6 @@ pub enum SectionsRead {
 pub enum PlaceRead {
     At(usize),
     Bad,
-}
-
-// What a query paper is: good, with its sections; badly formed; or with a time range where none can be.
-pub enum QueryRead {
-    Of(Sections),
-    Bad,
-    Misplaced,
 }
 
 // A component record.

@@ -25,7 +25,8 @@ use Rattle.time.specs.Writing.{utcText, isUtcByte}
 use Rattle.time.proofs.Written.{utcText-length, utcText-bytes}
 use Rattle.values.specs.declared.period.Period.{Period}
 use Rattle.values.specs.declared.said.Busy.{Busy}
-use Rattle.calendar.specs.Meaning.{BusyPeriod, typed, fileLines}
+use Rattle.rules.specs.BusyTypes.{BusyPeriod, typed}
+use Rattle.calendar.specs.Meaning.{fileLines}
 use Rattle.report.specs.Bytes.{Report, periodHead, periodText, periodLines, busyLines, reportLines, reportBytes}
 use Rattle.readback.specs.Reading.{reportPeriods}
 

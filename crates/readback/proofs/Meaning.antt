@@ -7,17 +7,17 @@ use borrow.Author.Tests.{lt-ltb}
 use Rattle.ascii.specs.Bytes.{upper}
 use Rattle.ascii.specs.Names.{sameName}
 use Rattle.time.specs.Limits.{lastSecond}
-use Rattle.nesting.specs.Nesting.{isEvent, isFreeBusy}
+use Rattle.marks.specs.Innermost.{isEvent, isFreeBusy}
 use Rattle.nesting.specs.Components.{propertiesIn}
 use Rattle.nesting.specs.WellNested.{numberedFrom}
 use Rattle.values.specs.declared.times.Context.{Context}
 use Rattle.values.specs.declared.said.Scope.{Scope}
-use Rattle.calendar.specs.Gathered.{nothingGathered, timeGiven, gatheredWith, gather}
-use Rattle.calendar.specs.Events.{blockBetween, blockFrom, blockBy}
-use Rattle.calendar.specs.Meaning.{scopeOf, componentScope, sayingsIn, faultOr, faultIn, valueFault, blockOf, isBroken, brokenOr, ruleFault, periodsBy, blockPeriods, block, entryOf, entriesOf, componentsOf, calendar, meaningOf}
-use Rattle.calendar.specs.declared.Bound.{Bound}
-use Rattle.calendar.specs.declared.Block.{Block}
-use Rattle.calendar.specs.declared.BlockRead.{BlockRead}
+use Rattle.rules.specs.Gathered.{nothingGathered, timeGiven, gatheredWith, gather}
+use Rattle.rules.specs.Events.{blockBetween, blockFrom, blockBy, block}
+use Rattle.rules.specs.declared.Bound.{Bound}
+use Rattle.rules.specs.declared.Block.{Block}
+use Rattle.rules.specs.declared.BlockRead.{BlockRead}
+use Rattle.calendar.specs.Meaning.{scopeOf, componentScope, sayingsIn, faultOr, faultIn, valueFault, blockOf, isBroken, brokenOr, ruleFault, periodsBy, blockPeriods, entryOf, entriesOf, componentsOf, calendar, meaningOf}
 use Rattle.calendar.specs.declared.ValueCheck.{ValueCheck}
 use Rattle.calendar.specs.declared.RuleCheck.{RuleCheck}
 use Rattle.calendar.proofs.Meanings.{not-refused}

@@ -7,15 +7,17 @@ use lib.ListN.{length}
 use Rattle.ascii.specs.Bytes.{upper, isLetter, isDigit, isNameByte}
 use Rattle.ascii.specs.Names.{sameName, isName}
 use Rattle.line.specs.Grammar.{ContentLine}
-use Rattle.nesting.specs.Marks.{markOf}
-use Rattle.nesting.specs.Nesting.{isCalendar, nestingOf}
+use Rattle.marks.specs.Marks.{markOf}
+use Rattle.marks.specs.Innermost.{isCalendar}
+use Rattle.marks.specs.declared.Mark.the-variants.{Property}
+use Rattle.nesting.specs.Nesting.{nestingOf}
 use Rattle.nesting.specs.Components.{Numbered, Items, none, property, component, Component, treeOf, componentsIn, propertiesIn, itemsBelow, renderedItems}
 use Rattle.nesting.specs.Passing.{numbered}
 use Rattle.nesting.specs.WellNested.{numberedFrom, componentCount, StandsAt, NestedAt, nothing, with-property, with-component, WellNested, calendar}
-use Rattle.nesting.specs.declared.Mark.the-variants.{Property}
 use Rattle.nesting.specs.declared.Nesting.{Nesting}
 use Rattle.nesting.proofs.Trees.{tree-good, tree-same}
-use Rattle.calendar.specs.Meaning.{BusyPeriod, fileLines, componentsOf}
+use Rattle.rules.specs.BusyTypes.{BusyPeriod}
+use Rattle.calendar.specs.Meaning.{fileLines, componentsOf}
 use Rattle.report.specs.Bytes.{Report, reportBytes}
 use Rattle.readback.specs.Reading.{reportPeriods}
 use Rattle.readback.proofs.Lines.{periodLine, blockContent, calendarBegin, versionLine, productLine, blockBegin, blockEnd, calendarEnd, reportContent, report-lines-read}

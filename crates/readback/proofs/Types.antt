@@ -5,11 +5,10 @@ use mathlib.Core.List.{List, [], _∷_, _++_, append-nil}
 use Rattle.ascii.proofs.Bools.{clash}
 use Rattle.values.specs.declared.period.Period.{Period}
 use Rattle.values.specs.declared.said.Busy.{Busy}
-use Rattle.calendar.specs.BusyTypes.{reportPlace, isBusy, sameBusy}
-use Rattle.calendar.specs.Meaning.{BusyPeriod, typed}
+use Rattle.rules.specs.BusyTypes.{reportPlace, isBusy, sameBusy, BusyPeriod, typed}
+use Rattle.report.specs.Bytes.{Report}
 use Rattle.pieces.specs.Covered.{ofType}
 use Rattle.pieces.proofs.Clipping.{ofType-append}
-use Rattle.report.specs.Bytes.{Report}
 use Rattle.readback.specs.Reading.{reportPeriods}
 
 -- all of a list of one type, or none

@@ -24,9 +24,10 @@ use Rattle.values.specs.declared.said.Scope.{Scope}
 use Rattle.values.specs.declared.said.Busy.{Busy}
 use Rattle.values.specs.declared.said.Saying.{Saying}
 use Rattle.values.proofs.Periods.{periodsIn-written}
-use Rattle.calendar.specs.Gathered.{gatheredWith, gather}
-use Rattle.calendar.specs.Meaning.{sayingsIn, faultOr, faultIn, BusyPeriod, typed, periodsBy, blockPeriods}
-use Rattle.calendar.specs.declared.Gathered.{Gathered}
+use Rattle.rules.specs.Gathered.{gatheredWith, gather}
+use Rattle.rules.specs.BusyTypes.{BusyPeriod, typed}
+use Rattle.rules.specs.declared.Gathered.{Gathered}
+use Rattle.calendar.specs.Meaning.{sayingsIn, faultOr, faultIn, periodsBy, blockPeriods}
 use Rattle.calendar.specs.declared.ValueCheck.{ValueCheck}
 use Rattle.report.specs.Bytes.{Report, periodText, GoodPeriods, Writable}
 use Rattle.report.specs.Bytes as Report

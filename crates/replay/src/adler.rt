@@ -1,4 +1,5 @@
 // Adler-32 of a slice, and filling a slice.
+// With checksums a case's answer holds every byte of both buffers.
 
 // Every byte becomes 0xA5.
 pub fn fill(s: &mut [u8]) {

@@ -1,4 +1,5 @@
 // A case as it is read byte by byte: match or report, calendar and query in hex, and six numbers, a tab between two.
+// A line that cannot be read is marked so, and passed over to its end.
 
 // How far a line has been read.
 pub struct Case {

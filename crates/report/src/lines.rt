@@ -1,4 +1,5 @@
 // Writing a report, straight into the output: its lines one after the other.
+// The length is counted first, and the caller has the room.
 use crate::heads;
 use table::Table;
 use time::writing;

@@ -10,8 +10,7 @@ use lib.Seq.{sets, sets-eq}
 use borrow.Author.Tests.{eqb-true, eqb-false, eq-eqb, ne-eqb}
 use Rattle.values.specs.declared.period.Period.{Period}
 use Rattle.values.specs.declared.said.Busy.{Busy}
-use Rattle.calendar.specs.BusyTypes.{reportPlace, sameBusy}
-use Rattle.calendar.specs.Meaning.{BusyPeriod}
+use Rattle.rules.specs.BusyTypes.{reportPlace, sameBusy, BusyPeriod}
 use Rattle.table.specs.Runs.{runs, Lies}
 use Rattle.table.specs.Inserting.{gathered}
 use Rattle.table.specs.Tables.{listed}

@@ -1,4 +1,5 @@
 // The period table of one busy type, from the busy pieces of a calendar.
+// One pass over the column for each type.
 use table::Table;
 ghost use Prim.Native.Nat.{_*_, _≤_};
 ghost use lib.ListN.{length};

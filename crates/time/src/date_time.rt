@@ -1,4 +1,5 @@
 // DATE and DATE-TIME values: the text of a value to its kind and its clock.
+// Whether a clock is within the limits is asked by the caller, which has the offset.
 use crate::days;
 ghost use mathlib.Core.Path.{_≡_};
 ghost use Prim.Native.Nat.{_+_, _≤_};

@@ -1,4 +1,5 @@
 // Days of the Gregorian calendar, by direct arithmetic and a table of months.
+// There is no loop over years, and a month that does not exist has no days.
 ghost use mathlib.Core.Path.{_≡_};
 ghost use Prim.Native.Nat.{_≤_};
 ghost use Rattle.time.specs.Days.{isLeap, monthDays, daysBeforeYear, daysBeforeMonth};

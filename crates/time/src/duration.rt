@@ -1,4 +1,5 @@
 // DURATION values: a fold over the bytes that keeps what was read before.
+// Days and seconds are answered apart, and whether there was a time part.
 ghost use mathlib.Core.Path.{_≡_};
 ghost use Prim.Native.Nat.{_≤_};
 ghost use Rattle.time.specs.Duration.{Small, timeStart, nextStage, weightOf, blank, withDigit, withUnit, step, finish, durationText, durationSeconds, readDuration};

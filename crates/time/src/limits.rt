@@ -1,4 +1,5 @@
 // The limits of a second: what UTC second a clock is, and whether it is within the limits.
+// The offset comes as a shift, so that no number is negative.
 use crate::date_time::Kind;
 ghost use mathlib.Core.Path.{_≡_};
 ghost use Prim.Native.Nat.{_≤_};

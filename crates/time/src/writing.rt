@@ -1,4 +1,5 @@
 // Writing a second as a UTC DATE-TIME, straight into the output.
+// Sixteen bytes, whatever the second.
 use crate::days;
 ghost use mathlib.Core.Path.{_≡_};
 ghost use Prim.Native.Nat.{_+_, _≤_, _<_};

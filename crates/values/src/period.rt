@@ -1,4 +1,5 @@
 // The value of FREEBUSY: a comma list of UTC periods.
+// An end is stated or computed; a stated one keeps the limits.
 use line::split;
 use time::date_time;
 use time::date_time::DateTime;

@@ -1,4 +1,5 @@
 // The value of RRULE: its parts, and the rule that they make.
+// Every part is looked at before the answer, since an unsupported one goes before a bad one.
 use crate::times;
 use crate::times::Context;
 use crate::times::Form;

@@ -1,4 +1,5 @@
 // What a line says, by the component that it stands directly in.
+// Which properties are read, and in which component, is decided here alone.
 use crate::period;
 use crate::rule;
 use crate::rule::Rule;

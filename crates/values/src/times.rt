@@ -1,4 +1,5 @@
 // A DATE or DATE-TIME value within the limits, by the offset.
+// What is needed besides the text of a value is its context.
 use time::date_time;
 use time::date_time::DateTime;
 use time::date_time::Kind;

@@ -1,4 +1,5 @@
 // Worked calendars: the refusal that their bytes earn, with its line.
+// What they print is compared with stored output.
 use crate::lines::decode;
 use crate::out::print;
 use crate::out::print_number;

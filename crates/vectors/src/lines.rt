@@ -1,4 +1,5 @@
 // Worked examples of unfolding, content lines and text match, their bytes in hex.
+// What they print is compared with stored output.
 use crate::out::print;
 use crate::out::print_number;
 use line::check::LineCheck;

@@ -1,4 +1,5 @@
 // Printing.
+// Standard output alone.
 use libc::STDOUT_FILENO;
 
 pub fn print(s: &[u8]) {

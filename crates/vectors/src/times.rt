@@ -1,4 +1,5 @@
 // Worked examples of DATE, DATE-TIME and DURATION values.
+// A time that was read is written again where it can be.
 use crate::out::print;
 use crate::out::print_number;
 use time::date_time::DateTime;

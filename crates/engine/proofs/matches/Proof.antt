@@ -4,12 +4,12 @@ use denote.Ref.{now}
 use mir.Syntax.{w64}
 use mir.ValLaws.{toZ-ofZ}
 use Rattle.calendar.specs.declared.Fault.{Fault}
-use Rattle.engine.specs.Offsets.{offsetRead}
-use Rattle.engine.specs.Stages.{sizeFault}
-use Rattle.engine.specs.declared.stages.OffsetRead.{OffsetRead}
-use Rattle.engine.proofs.Passing.{sizes-room}
+use Rattle.refusals.specs.Offsets.{offsetRead}
+use Rattle.refusals.specs.Stages.{sizeFault}
+use Rattle.refusals.specs.declared.OffsetRead.{OffsetRead}
+use Rattle.refusals.proofs.Passing.{sizes-room}
+use Rattle.refusals.proofs.Offsets.{shift-bound, offset-given}
 use Rattle.engine.proofs.Outcomes.{match-refused-1, match-refused-sizes, match-sizes-passed}
-use Rattle.engine.proofs.Offsets.{shift-bound, offset-given}
 use borrow.Author.Needs.{needs}
 use Rattle.engine.proofs.matches.Statement.{statement}
 use Rattle.engine.proofs.matches.Tie as tie

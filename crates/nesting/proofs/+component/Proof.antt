@@ -8,14 +8,14 @@ use native.Mathlib.Omega.{arith}
 use borrow.Author.Needs.{needs}
 use borrow.Fn.Kinds.{In}
 use borrow.Fn.PlainCycle.{Measures, is, falls, and}
+use Rattle.line.proofs.read.value.Reads as value-reads
+use Rattle.line.proofs.check.next_good.Reads as next-good-reads
+use Rattle.marks.proofs.meets.Reads as meets-reads
 use Rattle.nesting.proofs.+component.{statement}
 use Rattle.nesting.proofs.+component.Tie.{close}
 use Rattle.nesting.proofs.component.Reads as component
 use Rattle.nesting.proofs.component.Kinds as component-kinds
 use Rattle.nesting.proofs.+component.Lts-component as component-lts
-use Rattle.line.proofs.read.value.Reads as value-reads
-use Rattle.nesting.proofs.meets.Reads as meets-reads
-use Rattle.line.proofs.check.next_good.Reads as next-good-reads
 
 abbrev μ-component : Measures 2 component-kinds.ps ℕ
 μ-component κs a = a .1 .1 .1 .1 .1 .0

@@ -1,6 +1,6 @@
 -- The filter is asked of the unfolded calendar, once it has no fault.
 use Rattle.text.proofs.Unfolding.{unfolded-room}
-use Rattle.engine.proofs.Passing.{unfolded-long}
+use Rattle.refusals.proofs.Passing.{unfolded-long}
 use Rattle.engine.proofs.Outcomes.{match-refused, match-verdict}
 use borrow.Author.Needs.{needs}
 use Rattle.engine.proofs.matching.match_calendar.Statement.{statement}

@@ -1,9 +1,9 @@
 -- Each answer of the reader is one way through the rows of the query.
 use mathlib.Core.Path.{_≡_, sym, _∙_}
 use denote.Ref.{now}
-use Rattle.query.specs.WellFormed.{queryRead}
-use Rattle.query.specs.declared.QueryRead.{QueryRead}
-use Rattle.query.proofs.Refusing.{read-fits, read-records}
+use Rattle.paper.specs.WellFormed.{queryRead}
+use Rattle.paper.specs.declared.QueryRead.{QueryRead}
+use Rattle.paper.proofs.Refusing.{read-fits, read-records}
 use Rattle.engine.proofs.Outcomes.{match-refused-4, match-refused-5, match-query-passed}
 use borrow.Author.Needs.{needs}
 use Rattle.engine.proofs.matching.match_query.Statement.{statement}

@@ -4,7 +4,7 @@ use Rattle.filter.proofs.InRange.{period-lines}
 use Prim.Native.Nat.{_-_}
 use lib.ListN.{length}
 use Rattle.nesting.proofs.Stepping.{property-at, inner-at, no-item-at}
-use Rattle.filter.proofs.Lines.{Seeking, seeking-start, seeking-next, seeking-found, seeking-inner, seeking-end}
+use Rattle.properties.proofs.Lines.{Seeking, seeking-start, seeking-next, seeking-found, seeking-inner, seeking-end}
 use native.Mathlib.Omega.{arith}
 use borrow.Author.Needs.{needs}
 use Rattle.filter.proofs.ranges.lines_in.Statement.{statement}

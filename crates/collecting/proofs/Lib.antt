@@ -1,0 +1,2 @@
+pub mod CollectTables
+pub mod CollectCalls

@@ -1,0 +1,92 @@
+-- The stages of collecting: what is read of the call, and the refusal and the tables of each stage with those that follow it.
+use Prim.Native.Nat.{ℕ, _-_}
+use mathlib.Core.Path.{_≡_}
+use mathlib.Core.Bool.{true, cond, _&&_}
+use mathlib.Core.List.{List, [], _∷_}
+use lib.Dec.{ltb}
+use lib.ListN.{length}
+use lib.IntN.{ℤ}
+use Rattle.text.specs.Unfolding.{unfolded}
+use Rattle.values.specs.declared.period.Period.{Period}
+use Rattle.values.specs.declared.said.Busy.{Busy}
+use Rattle.values.specs.declared.times.Context.{Context}
+use Rattle.rules.specs.BusyTypes.{isBusy}
+use Rattle.rules.specs.Events.{Entry}
+use Rattle.calendar.specs.Meaning.{entriesOf, componentsOf}
+use Rattle.calendar.specs.declared.Fault.{Fault}
+use Rattle.table.specs.Runs.{runs}
+use Rattle.table.specs.Tables.{Sound}
+use Rattle.report.specs.Writing.{byType}
+use Rattle.pieces.specs.Covered.{covered}
+use Rattle.pieces.specs.Pieces.{busyPieces}
+use Rattle.tables.specs.Building.{Built}
+use Rattle.refusals.specs.Refusals.{Row, row, lowest, contentsRows, calendarRows}
+use Rattle.refusals.specs.Offsets.{offsetRead}
+use Rattle.refusals.specs.declared.OffsetRead.{OffsetRead}
+use Rattle.refusals.specs.Stages.{workBy}
+use Rattle.collecting.specs.ReportCalls.{rangeGood, stampGood}
+use Rattle.collecting.specs.declared.Collected.{Collected}
+
+-- refusal 1: the offset once it is read, where range and stamp are good
+unfoldable pub callRead : ℕ → ℕ → ℤ → ℕ → OffsetRead
+callRead a e o t = cond (rangeGood a e && stampGood t) (offsetRead o) OffsetRead.Bad
+
+-- ---- the tables
+
+-- three tables as long as tables are
+pub record AllSound (r : Collected) : Type 0 where
+  pub busy-sound : Sound (r .busy)
+  pub tentative-sound : Sound (r .tentative)
+  pub unavailable-sound : Sound (r .unavailable)
+
+-- a refusal, and no period
+pub record Refuses (f : Fault) (r : Collected) : Type 0 where
+  pub fault-is : r .fault ≡ f
+  pub no-periods : (b : Busy) → byType (r .busy) (r .tentative) (r .unavailable) b ≡ []
+  pub sound : AllSound r
+
+-- no refusal, and a table for each place of a report, from the first n pieces of a column
+pub record Typed (column : List ℕ) (n : ℕ) (r : Collected) : Type 0 where
+  pub fault-is : r .fault ≡ Fault.None
+  pub busy-built : Built column n 0 (r .busy)
+  pub tentative-built : Built column n 1 (r .tentative)
+  pub unavailable-built : Built column n 2 (r .unavailable)
+
+-- periods where nothing is refused
+unfoldable pub unlessFault : Fault → List Period → List Period
+unlessFault Fault.None ps = ps
+unlessFault (Fault.At n i) ps = []
+
+-- the lowest refusal of some rows, and the tables of these periods where there is none
+pub record Tabled (rows : List Row) (periods : Busy → List Period) (r : Collected) : Type 0 where
+  pub fault-is : r .fault ≡ lowest rows
+  pub periods-are : (b : Busy) → isBusy b ≡ true
+      → byType (r .busy) (r .tentative) (r .unavailable) b ≡ unlessFault (lowest rows) (periods b)
+  pub sound : AllSound r
+
+-- the same, and the work buffer that goes with it
+pub record Gathered (rows : List Row) (periods : Busy → List Period) (cal work : List ℕ) (r : Collected) (left : List ℕ) : Type 0 where
+  pub tabled : Tabled rows periods r
+  pub work-left : left ≡ workBy (lowest rows) cal work
+
+-- ---- rows and periods from a stage on
+
+-- 11
+unfoldable pub pieceRows : ℕ → ℕ → List Entry → List Row
+pieceRows a e es = row 11 0 (ltb 512 (length (busyPieces a e es))) ∷ []
+
+-- the covered seconds of the range as the fewest periods
+unfoldable pub periodsIn : ℕ → ℕ → List Entry → Busy → List Period
+periodsIn a e es b = runs (covered b es) a (e - a)
+
+-- the lowest of 8 to 11, and the tables where there is none
+abbrev pub ContentsTabled : Context → List ℕ → ℕ → ℕ → Collected → Type 0
+ContentsTabled c u a e r =
+    Tabled (contentsRows c u (pieceRows a e (entriesOf c (componentsOf u)))) (periodsIn a e (entriesOf c (componentsOf u))) r
+
+-- 6 to 11
+unfoldable pub laterRows : Context → List ℕ → ℕ → ℕ → List Row
+laterRows c cal a e = calendarRows c (unfolded cal) (pieceRows a e (entriesOf c (componentsOf (unfolded cal))))
+
+unfoldable pub laterPeriods : Context → List ℕ → ℕ → ℕ → Busy → List Period
+laterPeriods c cal a e = periodsIn a e (entriesOf c (componentsOf (unfolded cal)))

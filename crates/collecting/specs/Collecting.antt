@@ -1,0 +1,30 @@
+-- Collecting (refusals 1 to 3 and 6 to 11 of a report, then the period tables): what a report writes, and later calls stand on.
+use Prim.Native.Nat.{ℕ}
+use mathlib.Core.Path.{_≡_}
+use mathlib.Core.Bool.{true}
+use mathlib.Core.List.{List, []}
+use Rattle.values.specs.declared.period.Period.{Period}
+use Rattle.values.specs.declared.said.Busy.{Busy}
+use Rattle.rules.specs.BusyTypes.{isBusy}
+use Rattle.calendar.specs.declared.Fault.{Fault}
+use Rattle.table.specs.Tables.{Sound}
+use Rattle.report.specs.Writing.{byType}
+use Rattle.refusals.specs.Refusals.{lowest}
+use Rattle.refusals.specs.Stages.{workBy}
+use Rattle.collecting.specs.ReportCalls.{ReportCall, reportFor, collectRows}
+use Rattle.collecting.specs.declared.Collected.{Collected}
+
+-- the periods of each type, none where there is a refusal
+unfoldable pub periodsBy : Fault → ReportCall → Busy → List Period
+periodsBy Fault.None m b = reportFor m .periods b
+periodsBy (Fault.At n i) m b = []
+
+-- the whole promise: the refusal or none, every byte of the work buffer, and the three tables
+pub record Collects (m : ReportCall) (r : Collected) (work-left : List ℕ) : Type 0 where
+  pub fault-is : r .fault ≡ lowest (collectRows m [])
+  pub work-left-is : work-left ≡ workBy (lowest (collectRows m [])) (m .calendar) (m .work)
+  pub periods-are : (b : Busy) → isBusy b ≡ true
+      → byType (r .busy) (r .tentative) (r .unavailable) b ≡ periodsBy (lowest (collectRows m [])) m b
+  pub busy-sound : Sound (r .busy)
+  pub tentative-sound : Sound (r .tentative)
+  pub unavailable-sound : Sound (r .unavailable)

@@ -1,0 +1,3 @@
+pub mod ReportCalls
+pub mod Collecting
+pub mod CollectStages

@@ -1,0 +1,64 @@
+-- A call for a report (document 01, Two questions): what is handed in, what its report says, and refusals 1 to 3 and 6 to 11.
+use Prim.Native.Nat.{ℕ, _-_}
+use mathlib.Core.Bool.{Bool, not, _&&_}
+use mathlib.Core.List.{List, _∷_}
+use lib.Dec.{ltb, leb}
+use lib.ListN.{length}
+use lib.IntN.{ℤ}
+use Rattle.text.specs.Unfolding.{unfolded}
+use Rattle.values.specs.declared.said.Busy.{Busy}
+use Rattle.rules.specs.BusyTypes.{BusyPeriod}
+use Rattle.rules.specs.Events.{Entry}
+use Rattle.calendar.specs.Meaning.{entriesOf, componentsOf}
+use Rattle.table.specs.Runs.{runs}
+use Rattle.report.specs.Bytes.{Report}
+use Rattle.pieces.specs.Covered.{covered}
+use Rattle.pieces.specs.Pieces.{busyPieces}
+use Rattle.refusals.specs.Refusals.{Row, row, sizeRows, calendarRows}
+use Rattle.refusals.specs.Offsets.{offsetGood, contextOf}
+
+-- what is handed in
+pub record ReportCall : Type 0 where
+  pub calendar : List ℕ
+  pub start : ℕ
+  pub end : ℕ
+  pub offset : ℤ
+  pub stamp : ℕ
+  pub work : List ℕ
+  pub output : List ℕ
+
+-- a range: start before end, both within the limits; a stamp within the limits
+unfoldable pub rangeGood : ℕ → ℕ → Bool
+rangeGood a b = ltb a b && leb b 4102444799
+
+unfoldable pub stampGood : ℕ → Bool
+stampGood t = leb t 4102444799
+
+-- the events and blocks of a calendar, by its bytes and its offset alone
+unfoldable pub entriesIn : List ℕ → ℤ → List Entry
+entriesIn cal o = entriesOf (contextOf o) (componentsOf (unfolded cal))
+
+-- is a second covered under a busy type, by the calendar and its offset alone?
+unfoldable pub coveredIn : List ℕ → ℤ → Busy → ℕ → Bool
+coveredIn cal o b x = covered b (entriesIn cal o) x
+
+-- the busy pieces of a call
+unfoldable pub piecesFor : ReportCall → List BusyPeriod
+piecesFor m = busyPieces (m .start) (m .end) (entriesIn (m .calendar) (m .offset))
+
+-- what its report says: for each type the covered seconds of the range as the fewest periods
+unfoldable pub reportFor : ReportCall → Report
+reportFor m =
+    record {
+      start = m .start;
+      end = m .end;
+      stamp = m .stamp;
+      periods = λ b. runs (coveredIn (m .calendar) (m .offset) b) (m .start) (m .end - m .start);
+    }
+
+-- 1: range, stamp or offset; 11: more than 512 busy pieces
+unfoldable pub collectRows : ReportCall → List Row → List Row
+collectRows m rows =
+    row 1 0 (not (rangeGood (m .start) (m .end) && stampGood (m .stamp) && offsetGood (m .offset)))
+    ∷ sizeRows (m .calendar) (m .work)
+    (calendarRows (contextOf (m .offset)) (unfolded (m .calendar)) (row 11 0 (ltb 512 (length (piecesFor m))) ∷ rows))

@@ -1,0 +1,126 @@
+// Refusals 1 to 3 and 6 to 11 of a report, then its period tables: what a report is written from.
+// Nothing is written but the work buffer.
+use calendar::Fault;
+use refusals::OffsetRead;
+use table::Table;
+use values::times::Context;
+ghost use mathlib.Core.Path.{_≡_};
+ghost use mathlib.Core.List.{List};
+ghost use Prim.Native.Nat.{ℕ, _*_, _≤_, _<_};
+ghost use lib.ListN.{length};
+ghost use Rattle.collecting.specs.Collecting.{Collects};
+ghost use Rattle.collecting.specs.CollectStages.{callRead, Refuses, Typed, ContentsTabled, Gathered, laterRows, laterPeriods};
+
+// The lowest refusal or none, and the periods of each busy type.
+pub struct Collected {
+    pub fault: Fault,
+    pub busy: Table,
+    pub tentative: Table,
+    pub unavailable: Table,
+}
+
+// A refusal: no period of any type.
+fn refused(fault: Fault) -> Collected
+    ensures { λ r. ⌜ Refuses fault r ⌝ }
+{
+    Collected {
+        fault: fault,
+        busy: table::empty(),
+        tentative: table::empty(),
+        unavailable: table::empty(),
+    }
+}
+
+// Refusal 1: range, stamp and offset.
+fn read_call(start: u64, end: u64, offset: i64, stamp: u64) -> OffsetRead
+    ensures { λ r. ⌜ r ≡ callRead start end offset stamp ⌝ }
+{
+    let good = (start < end) & (end <= 4102444799) & (stamp <= 4102444799);
+    if good {
+        return refusals::read_offset(offset);
+    }
+    OffsetRead::Bad
+}
+
+// The tables of the three types, from the first n pieces of a column.
+fn tables_of(column: &[u32], n: usize) -> Collected
+    requires { ⌜ n ≤ 512 ⌝ }
+    requires { ⌜ 3 * n ≤ length (now column) ⌝ }
+    ensures { λ r. ⌜ Typed (now (column .entry)) n r ⌝ }
+{
+    Collected {
+        fault: Fault::None,
+        busy: tables::table_of(column, n, 0),
+        tentative: tables::table_of(column, n, 1),
+        unavailable: tables::table_of(column, n, 2),
+    }
+}
+
+// Refusals 8 to 11, then the tables: the pieces are noted in the column.
+fn collect_noted(column: &mut [u32], s: &[u8], c: Context, start: u64, end: u64) -> Collected
+    requires { ⌜ length (now column) ≡ 1539 ⌝ }
+    requires { ⌜ c .shift ≤ 100800 ⌝ }
+    requires { ⌜ start < end ⌝ }
+    requires { ⌜ end ≤ 4102444799 ⌝ }
+    ensures { λ r. ⌜ ContentsTabled c (now (s .entry)) start end r ⌝ }
+{
+    let noted = walk::note_contents(column, s, c, start, end);
+    let f = noted.fault;
+    let n = noted.count;
+    match f {
+        Fault::At(k, line) => refused(Fault::At(k, line)),
+        Fault::None => {
+            if 512 < n {
+                return refused(Fault::At(11, 0));
+            }
+            tables_of(column, n)
+        }
+    }
+}
+
+// The same with a column of its own: room for 513 pieces, three numbers each.
+fn collect_contents(s: &[u8], c: Context, start: u64, end: u64) -> Collected
+    requires { ⌜ c .shift ≤ 100800 ⌝ }
+    requires { ⌜ start < end ⌝ }
+    requires { ⌜ end ≤ 4102444799 ⌝ }
+    ensures { λ r. ⌜ ContentsTabled c (now (s .entry)) start end r ⌝ }
+{
+    let mut column = [0u32; 1539];
+    collect_noted(&mut column, s, c, start, end)
+}
+
+// Unfolds the calendar to the front of the work buffer; then refusals 6 to 11, then the tables.
+fn collect_calendar(work: &mut [u8], cal: &[u8], c: Context, start: u64, end: u64) -> Collected
+    requires { ⌜ length (now cal) ≤ length (now work) ⌝ }
+    requires { ⌜ c .shift ≤ 100800 ⌝ }
+    requires { ⌜ start < end ⌝ }
+    requires { ⌜ end ≤ 4102444799 ⌝ }
+    ensures { λ r. ⌜ Gathered (laterRows c (now (cal .entry)) start end) (laterPeriods c (now (cal .entry)) start end) (now (cal .entry)) (now (work .entry)) r (now (work .exit)) ⌝ }
+{
+    let n = text::unfold_into(work, cal);
+    let f = calendar::faults::check_structure(&work[..n]);
+    match f {
+        Fault::At(k, line) => refused(Fault::At(k, line)),
+        Fault::None => collect_contents(&work[..n], c, start, end),
+    }
+}
+
+// The lowest of refusals 1 to 3 and 6 to 11, or the period tables; the work buffer holds the unfolded calendar afterwards, except on refusals 1 to 3.
+pub fn collect(
+    cal: &[u8],
+    start: u64,
+    end: u64,
+    offset: i64,
+    stamp: u64,
+    work: &mut [u8],
+) -> Collected
+    ensures { λ r. ⌜ ((out : List ℕ) → Collects (record { calendar = now (cal .entry); start = start; end = end; offset = offset; stamp = stamp; work = now (work .entry); output = out }) r (now (work .exit))) ⌝ }
+{
+    match read_call(start, end, offset, stamp) {
+        OffsetRead::Bad => refused(Fault::At(1, 0)),
+        OffsetRead::Of(shift) => match refusals::check_sizes(cal, work) {
+            Fault::At(n, line) => refused(Fault::At(n, line)),
+            Fault::None => collect_calendar(work, cal, Context { shift: shift }, start, end),
+        },
+    }
+}

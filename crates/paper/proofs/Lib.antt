@@ -1,0 +1,5 @@
+pub mod Loops
+pub mod Deciding
+pub mod Refusing
+pub mod WellFormed
+pub mod Examples

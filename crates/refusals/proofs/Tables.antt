@@ -1,0 +1,147 @@
+-- The first row that applies is the lowest, since the numbers rise; and stages of rows follow each other.
+use Prim.Native.Nat.{ℕ, _<_}
+use mathlib.Core.Path.{_≡_, refl, sym, ap, _∙_}
+use mathlib.Core.Bool.{Bool, true, false}
+use mathlib.Core.List.{List, [], _∷_, _++_, List·Memᴰ·head, List·Memᴰ·tail, List·Memᴰ·cases-cons, List·Memᴰ·not-nil}
+use mathlib.Core.Logic.{_↔_, _⊎_, inl, inr, ⊎-elim}
+use native.Mathlib.Omega.{arith}
+use lib.Dec.{ltb}
+use borrow.Author.Tests.{ltb-true, ltb-false}
+use Rattle.ascii.proofs.Bools.{clash}
+use Rattle.calendar.specs.declared.Fault.{Fault}
+use Rattle.refusals.specs.Refusals.{Row, lowest, RowApplies, Lowest, Rising, goes-on}
+
+-- a fault and none are apart; one fault has one number
+pub no-fault-here : {A : Type 0} {f : Fault} {n i : ℕ} → f ≡ Fault.At n i → f ≡ Fault.None → A
+no-fault-here e k = let z : _≡_ {A = ℕ} 0 1 = cc in absurd (omega arith)
+
+pub same-number : {f : Fault} {n i m j : ℕ} → f ≡ Fault.At n i → f ≡ Fault.At m j → n ≡ m
+same-number e k = cc
+
+-- ---- one row
+
+lowest-by : (r : Row) (rs : List Row) (t : Bool) → r .applies ≡ t
+    → lowest (r ∷ rs) ≡ elim t as (λ y. Fault) [ true ↦ Fault.At (r .number) (r .line) | false ↦ lowest rs ]
+unfolding lowest
+lowest-by r rs t e = ap (λ (y : Bool). elim y as (λ z. Fault) [ true ↦ Fault.At (r .number) (r .line) | false ↦ lowest rs ]) e
+
+pub row-applies : (r : Row) (rs : List Row) → r .applies ≡ true → lowest (r ∷ rs) ≡ Fault.At (r .number) (r .line)
+row-applies r rs e = lowest-by r rs true e
+
+pub row-passed : (r : Row) (rs : List Row) → r .applies ≡ false → lowest (r ∷ rs) ≡ lowest rs
+row-passed r rs e = lowest-by r rs false e
+
+-- ---- stages: the rows of one, then the rest
+
+pub stage-passed : (xs ys : List Row) → lowest xs ≡ Fault.None → lowest (xs ++ ys) ≡ lowest ys
+stage-passed [] ys e = refl
+stage-passed (r ∷ rs) ys e = go (r .applies) refl (stage-passed rs ys)
+  where
+    go : (t : Bool) → r .applies ≡ t → (lowest rs ≡ Fault.None → lowest (rs ++ ys) ≡ lowest ys) → lowest (r ∷ (rs ++ ys)) ≡ lowest ys
+    go true k ih = no-fault-here (row-applies r rs k) e
+    go false k ih = row-passed r (rs ++ ys) k ∙ ih (sym (row-passed r rs k) ∙ e)
+
+pub stage-refused : {n i : ℕ} (xs ys : List Row) → lowest xs ≡ Fault.At n i → lowest (xs ++ ys) ≡ Fault.At n i
+unfolding lowest
+stage-refused [] ys e = no-fault-here e refl
+stage-refused {n} {i} (r ∷ rs) ys e = go (r .applies) refl (stage-refused rs ys)
+  where
+    go : (t : Bool) → r .applies ≡ t → (lowest rs ≡ Fault.At n i → lowest (rs ++ ys) ≡ Fault.At n i) → lowest (r ∷ (rs ++ ys)) ≡ Fault.At n i
+    go true k ih = row-applies r (rs ++ ys) k ∙ sym (row-applies r rs k) ∙ e
+    go false k ih = row-passed r (rs ++ ys) k ∙ ih (sym (row-passed r rs k) ∙ e)
+
+-- ---- rows that apply
+
+applies-cases : (r : Row) (rs : List Row) (k : ℕ) → RowApplies (r ∷ rs) k → ((r .number ≡ k) × (r .applies ≡ true)) ⊎ RowApplies rs k
+applies-cases r rs k a =
+    ⊎-elim
+    (λ e. inl (ap (λ (x : Row). x .number) (sym e) ∙ a .numbered, ap (λ (x : Row). x .applies) (sym e) ∙ a .applies))
+    (λ m. inr (record { which = a .which; listed = m; numbered = a .numbered; applies = a .applies }))
+    (List·Memᴰ·cases-cons (a .listed))
+
+applies-here : (r : Row) (rs : List Row) → r .applies ≡ true → RowApplies (r ∷ rs) (r .number)
+applies-here r rs e = record { which = r; listed = List·Memᴰ·head refl; numbered = refl; applies = e }
+
+applies-later : (r : Row) (rs : List Row) (k : ℕ) → RowApplies rs k → RowApplies (r ∷ rs) k
+applies-later r rs k a =
+    record { which = a .which; listed = List·Memᴰ·tail (a .listed); numbered = a .numbered; applies = a .applies }
+
+-- ---- none applies
+
+pub none-applies : (rows : List Row) → lowest rows ≡ Fault.None → (k : ℕ) → RowApplies rows k → ⊥
+none-applies [] e k a = List·Memᴰ·not-nil (a .listed)
+none-applies (r ∷ rs) e k a = go (r .applies) refl (λ h. none-applies rs h k)
+  where
+    go : (t : Bool) → r .applies ≡ t → (lowest rs ≡ Fault.None → RowApplies rs k → ⊥) → ⊥
+    go true h ih = no-fault-here (row-applies r rs h) e
+    go false h ih = ⊎-elim (λ x. clash (x .1) h) (ih (sym (row-passed r rs h) ∙ e)) (applies-cases r rs k a)
+
+-- what was found applies
+found-applies : {k i : ℕ} (rows : List Row) → lowest rows ≡ Fault.At k i → RowApplies rows k
+unfolding lowest
+found-applies [] e = no-fault-here e refl
+found-applies {k} {i} (r ∷ rs) e = go (r .applies) refl (found-applies rs)
+  where
+    go : (t : Bool) → r .applies ≡ t → (lowest rs ≡ Fault.At k i → RowApplies rs k) → RowApplies (r ∷ rs) k
+    go true h ih = rw (same-number e (row-applies r rs h)) (applies-here r rs h)
+    go false h ih = applies-later r rs k (ih (sym (row-passed r rs h) ∙ e))
+
+pub none-iff : (rows : List Row) → (lowest rows ≡ Fault.None) ↔ ((k : ℕ) → RowApplies rows k → ⊥)
+none-iff rows = (none-applies rows, λ h. go h (lowest rows) refl)
+  where
+    go : ((k : ℕ) → RowApplies rows k → ⊥) → (f : Fault) → lowest rows ≡ f → lowest rows ≡ Fault.None
+    go h Fault.None e = e
+    go h (Fault.At n i) e = absurd (h n (found-applies rows e))
+
+-- ---- rising numbers
+
+rising-first : {n : ℕ} {r : Row} {rs : List Row} → Rising n (r ∷ rs) → n < r .number
+rising-first (goes-on h g) = h
+
+rising-rest : {n : ℕ} {r : Row} {rs : List Row} → Rising n (r ∷ rs) → Rising (r .number) rs
+rising-rest (goes-on h g) = g
+
+-- every number that applies is above
+pub rising-above : {n k : ℕ} (rows : List Row) → Rising n rows → RowApplies rows k → n < k
+rising-above [] g a = absurd (List·Memᴰ·not-nil (a .listed))
+rising-above {n} {k} (r ∷ rs) g a =
+    ⊎-elim
+    (λ x. let e = x .0 in omega (arith, rising-first g))
+    (λ x. omega (arith, rising-first g, rising-above rs (rising-rest g) x))
+    (applies-cases r rs k a)
+
+pub lowest-above : {n k i : ℕ} (rows : List Row) → Rising n rows → lowest rows ≡ Fault.At k i → n < k
+lowest-above rows g e = rising-above rows g (found-applies rows e)
+
+none-lower : {n k i : ℕ} (rows : List Row) → Rising n rows → lowest rows ≡ Fault.At k i → (j : ℕ) → j < k → RowApplies rows j → ⊥
+none-lower [] g e j h a = List·Memᴰ·not-nil (a .listed)
+none-lower {n} {k} {i} (r ∷ rs) g e j h a = go (r .applies) refl (λ m. none-lower rs (rising-rest g) m j h)
+  where
+    go : (t : Bool) → r .applies ≡ t → (lowest rs ≡ Fault.At k i → RowApplies rs j → ⊥) → ⊥
+    go true m ih =
+        let s : k ≡ r .number = same-number e (row-applies r rs m) in
+        ⊎-elim
+        (λ x. let q = x .0 in absurd (omega arith))
+        (λ x. absurd (omega (arith, rising-above rs (rising-rest g) x)))
+        (applies-cases r rs j a)
+    go false m ih = ⊎-elim (λ x. clash (x .1) m) (ih (sym (row-passed r rs m) ∙ e)) (applies-cases r rs j a)
+
+pub lowest-at : {n k i : ℕ} (rows : List Row) → Rising n rows → lowest rows ≡ Fault.At k i → Lowest rows k
+lowest-at rows g e = record { applies = found-applies rows e; none-lower = none-lower rows g e }
+
+-- two lowest numbers are one
+one-lowest : {j k : ℕ} (rows : List Row) → Lowest rows j → Lowest rows k → j ≡ k
+one-lowest {j} {k} rows a b = go (ltb j k) refl (ltb k j) refl
+  where
+    go : (s : Bool) → ltb j k ≡ s → (t : Bool) → ltb k j ≡ t → j ≡ k
+    go true x t y = absurd (b .none-lower j (ltb-true j k x) (a .applies))
+    go false x true y = absurd (a .none-lower k (ltb-true k j y) (b .applies))
+    go false x false y = omega (arith, ltb-false j k x, ltb-false k j y)
+
+-- a number is found, with some line, exactly when it is the lowest that applies
+pub lowest-iff : {n : ℕ} (rows : List Row) (k : ℕ) → Rising n rows → ((i : ℕ) × (lowest rows ≡ Fault.At k i)) ↔ Lowest rows k
+lowest-iff rows k g = (λ x. lowest-at rows g (x .1), λ l. go l (lowest rows) refl)
+  where
+    go : Lowest rows k → (f : Fault) → lowest rows ≡ f → (i : ℕ) × (lowest rows ≡ Fault.At k i)
+    go l Fault.None e = absurd (none-applies rows e k (l .applies))
+    go l (Fault.At j i) e = (i, e ∙ ap (λ (m : ℕ). Fault.At m i) (one-lowest rows (lowest-at rows g e) l))

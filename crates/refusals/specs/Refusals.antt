@@ -1,0 +1,90 @@
+-- The refusal table (document 01, Refusal numbers): a row for each number, with its own condition, and the lowest that applies.
+use Prim.Native.Nat.{ℕ, _<_}
+use mathlib.Core.Path.{_≡_}
+use mathlib.Core.Bool.{Bool, true, false}
+use mathlib.Core.List.{List, [], _∷_, List·Memᴰ}
+use lib.Dec.{ltb}
+use lib.ListN.{length}
+use Rattle.line.specs.WellFormed.{lineCheck}
+use Rattle.line.specs.declared.check.LineCheck.{LineCheck}
+use Rattle.nesting.specs.Nesting.{nestingOf}
+use Rattle.nesting.specs.declared.Nesting.{Nesting}
+use Rattle.values.specs.declared.times.Context.{Context}
+use Rattle.calendar.specs.Meaning.{fileLines, componentsOf, valueFault, ruleFault}
+use Rattle.calendar.specs.declared.ValueCheck.{ValueCheck}
+use Rattle.calendar.specs.declared.RuleCheck.{RuleCheck}
+use Rattle.calendar.specs.declared.Fault.{Fault}
+
+-- a row: its number, the line at fault (0 for none), and whether its condition holds of what was handed in
+pub record Row : Type 0 where
+  pub number : ℕ
+  pub line : ℕ
+  pub applies : Bool
+
+abbrev pub row : ℕ → ℕ → Bool → Row
+row n i t = record { number = n; line = i; applies = t }
+
+-- the first row that applies
+unfoldable pub lowest : List Row → Fault
+lowest [] = Fault.None
+lowest (r ∷ rs) = elim (r .applies) [ true ↦ Fault.At (r .number) (r .line) | false ↦ lowest rs ]
+
+-- row k applies, whether or not a lower one does
+pub record RowApplies (rows : List Row) (k : ℕ) : Type 0 where
+  pub which : Row
+  pub listed : List·Memᴰ which rows
+  pub numbered : which .number ≡ k
+  pub applies : which .applies ≡ true
+
+-- row k applies and no lower one does
+pub record Lowest (rows : List Row) (k : ℕ) : Type 0 where
+  pub applies : RowApplies rows k
+  pub none-lower : (j : ℕ) → j < k → RowApplies rows j → ⊥
+
+-- the numbers rise down the table
+pub data Rising : ℕ → List Row → Type 0 where
+  ends : {n : ℕ} → Rising n []
+  goes-on : {n : ℕ} {r : Row} {rs : List Row} → n < r .number → Rising (r .number) rs → Rising n (r ∷ rs)
+
+-- ---- the rows of sizes
+
+-- 2: calendar longer than 65,536 bytes; 3: work buffer shorter than the calendar
+unfoldable pub sizeRows : List ℕ → List ℕ → List Row → List Row
+sizeRows cal work rows = row 2 0 (ltb 65536 (length cal)) ∷ row 3 0 (ltb (length work) (length cal)) ∷ rows
+
+-- ---- the rows of a calendar, from its unfolded bytes
+
+-- 6: some line badly formed
+unfoldable pub lineRow : LineCheck → Row
+lineRow LineCheck.Good = row 6 0 false
+lineRow (LineCheck.BadLine i) = row 6 i true
+
+-- 7: nesting wrong
+unfoldable pub nestingRow : Nesting → Row
+nestingRow Nesting.Good = row 7 0 false
+nestingRow (Nesting.BadLine i) = row 7 i true
+
+-- 8: an unsupported thing on the first line with either; 9: a bad value there
+unfoldable pub unsupportedRow : ValueCheck → Row
+unsupportedRow ValueCheck.Good = row 8 0 false
+unsupportedRow (ValueCheck.Unsupported i) = row 8 i true
+unsupportedRow (ValueCheck.Bad i) = row 8 0 false
+
+unfoldable pub badValueRow : ValueCheck → Row
+badValueRow ValueCheck.Good = row 9 0 false
+badValueRow (ValueCheck.Unsupported i) = row 9 0 false
+badValueRow (ValueCheck.Bad i) = row 9 i true
+
+-- 10: component rule broken
+unfoldable pub ruleRow : RuleCheck → Row
+ruleRow RuleCheck.Good = row 10 0 false
+ruleRow (RuleCheck.Broken i) = row 10 i true
+
+-- 8 to 10, before others
+unfoldable pub contentsRows : Context → List ℕ → List Row → List Row
+contentsRows c u rows =
+    unsupportedRow (valueFault c (componentsOf u)) ∷ badValueRow (valueFault c (componentsOf u)) ∷ ruleRow (ruleFault c (componentsOf u)) ∷ rows
+
+-- 6 to 10
+unfoldable pub calendarRows : Context → List ℕ → List Row → List Row
+calendarRows c u rows = lineRow (lineCheck u) ∷ nestingRow (nestingOf (fileLines u)) ∷ contentsRows c u rows

@@ -1,0 +1,15 @@
+-- The fields are those of the clause for this saying.
+use Rattle.rules.specs.Gathered.{gatheredWith}
+use borrow.Author.Needs.{needs}
+use Rattle.rules.proofs.gather.with_transparency.Statement.{statement}
+use Rattle.rules.proofs.gather.with_transparency.Tie as tie
+
+transparency-given-requires : tie.Need-transparency-given-requires
+transparency-given-requires c κs = search needs
+
+returns : tie.Need-returns
+unfolding gatheredWith
+returns c = simp (c .transparency-given .ensures)
+
+pub with-transparency-spec : {M : Type 1} → statement M
+with-transparency-spec = tie.close (tie.spec transparency-given-requires returns)

@@ -1,0 +1,4 @@
+pub mod Gathered
+pub mod Events
+pub mod BusyTypes
+pub mod Sizes

@@ -1,0 +1,295 @@
+-- What is left to note: noting the rest notes the whole, so that a loop may stop when nothing, or no room, is left.
+use Prim.Native.Nat.{ℕ, _+_, _≤_}
+use mathlib.Core.Path.{_≡_, refl, sym, ap, _∙_}
+use mathlib.Core.Bool.{Bool, true, false}
+use mathlib.Core.List.{List, [], _∷_, _++_, append-assoc, append-nil}
+use native.Mathlib.Omega.{arith}
+use lib.ListN.{length}
+use Rattle.ascii.proofs.Bools.{clash}
+use Rattle.text.specs.Lines.{part}
+use Rattle.line.specs.Grammar.{ContentLine}
+use Rattle.line.specs.Reading.{lineOf, valueOf}
+use Rattle.nesting.specs.Components.{Component}
+use Rattle.nesting.specs.Passing.{PropertyAt, InnerAt, NoItemAt, SkipsTo}
+use Rattle.nesting.specs.declared.items.Place.{Place}
+use Rattle.values.specs.Period.{goodPeriods, periodsIn}
+use Rattle.values.specs.Said.{sayingOf}
+use Rattle.values.specs.declared.times.Context.{Context}
+use Rattle.values.specs.declared.said.Busy.{Busy}
+use Rattle.values.specs.declared.said.Saying.{Saying}
+use Rattle.values.specs.declared.said.Scope.{Scope}
+use Rattle.values.specs.declared.period.Period.{Period}
+use Rattle.rules.specs.BusyTypes.{BusyPeriod, typed}
+use Rattle.rules.specs.Events.{eventBy, blockBy, Entry, event, block}
+use Rattle.rules.specs.declared.Gathered.{Gathered}
+use Rattle.rules.specs.declared.Event.{Event}
+use Rattle.rules.specs.declared.EventRead.{EventRead}
+use Rattle.rules.specs.declared.Block.{Block}
+use Rattle.rules.specs.declared.BlockRead.{BlockRead}
+use Rattle.calendar.specs.Meaning.{periodsBy, eventEntry, blockEntry, entriesOf, scopeOf}
+use Rattle.calendar.specs.Periods.{periodsFrom, NextPeriod, NoPeriod}
+use Rattle.calendar.specs.Places.{blockPeriodsAt, gatheredAt, eventAt, blockAt, entryAt, componentsFrom}
+use Rattle.calendar.proofs.Listed.{periods-all}
+use Rattle.calendar.proofs.Loops.{entry-here}
+use Rattle.calendar.proofs.Steps.{periods-property, periods-inner, periods-none, components-property, components-first, components-skip, components-none}
+use Rattle.calendar.proofs.Sizes.{eventAt-small}
+use Rattle.busy.specs.Sizes.{Small}
+use Rattle.busy.proofs.EventSizes.{event-sizes}
+use Rattle.pieces.specs.BusyPeriods.{busyPeriod, eventPeriods, entryPeriods, busyPeriods}
+use Rattle.pieces.specs.Columns.{Noted}
+use Rattle.pieces.specs.Pieces.{pieceOf, piecesOf, busyPieces}
+use Rattle.pieces.proofs.Adding.{noted-none, noted-full, noted-as, noted-then, noted-few, noted-long}
+use Rattle.pieces.proofs.Clipping.{piecesOf-none, piecesOf-append}
+use Rattle.walk.specs.Walks.{valuePeriods, typeSaid}
+use Rattle.walk.specs.declared.blocks.PeriodType.{PeriodType}
+
+-- n pieces stand in o: noting those of `left` behind them makes those of `whole` behind n₀ in o₀
+pub record Left (o₀ : List ℕ) (n₀ : ℕ) (whole : List BusyPeriod) (o : List ℕ) (n : ℕ) (left : List BusyPeriod) : Type 0 where
+  pub few : n ≤ 513
+  pub long : length o ≡ 1539
+  pub rest : (o′ : List ℕ) (r : ℕ) → Noted o n left o′ r → Noted o₀ n₀ whole o′ r
+
+pub left-start : (o : List ℕ) (n : ℕ) (whole : List BusyPeriod) → n ≤ 513 → length o ≡ 1539 → Left o n whole o n whole
+left-start o n whole h l = record { few = h; long = l; rest = λ o′ r m. m }
+
+module _ {o₀ : List ℕ} {n₀ : ℕ} {whole : List BusyPeriod} {o : List ℕ} {n : ℕ} {left : List BusyPeriod} (l : Left o₀ n₀ whole o n left) where
+  -- the first of what is left is noted
+  pub left-then : {o′ : List ℕ} {r : ℕ} {ps qs : List BusyPeriod} → left ≡ ps ++ qs → Noted o n ps o′ r → Left o₀ n₀ whole o′ r qs
+  left-then e h =
+      record {
+        few = noted-few h (l .few);
+        long = noted-long h ∙ l .long;
+        rest = λ o″ t m. l .rest o″ t (noted-as (noted-then h m) (sym e));
+      }
+
+  -- the same is left
+  pub left-same : {qs : List BusyPeriod} → left ≡ qs → Left o₀ n₀ whole o n qs
+  left-same e = record { few = l .few; long = l .long; rest = λ o″ t m. l .rest o″ t (noted-as m (sym e)) }
+
+  pub left-none : left ≡ [] → Noted o₀ n₀ whole o n
+  left-none e = l .rest o n (noted-as (noted-none o n) (sym e))
+
+  pub left-full : 513 ≤ n → Noted o₀ n₀ whole o n
+  left-full h = l .rest o n (noted-full o n left h)
+
+-- ---- the periods of a value
+
+-- the pieces of the periods of one type from a place on
+pub pieces-from : Busy → ℕ → ℕ → List ℕ → ℕ → List BusyPeriod
+pieces-from y a b v at = piecesOf a b (typed y (periodsFrom v at))
+
+module _ (y : Busy) (a b : ℕ) (v : List ℕ) where
+  value-pieces : pieces-from y a b v 0 ≡ piecesOf a b (valuePeriods y v)
+  unfolding pieces-from valuePeriods
+  value-pieces = refl
+
+  pub value-start : (o : List ℕ) (n : ℕ) → n ≤ 513 → length o ≡ 1539 → Left o n (piecesOf a b (valuePeriods y v)) o n (pieces-from y a b v 0)
+  value-start o n h l = left-same (left-start o n (piecesOf a b (valuePeriods y v)) h l) (sym value-pieces)
+
+  module _ {o₀ : List ℕ} {n₀ : ℕ} {whole : List BusyPeriod} {o : List ℕ} {n : ℕ} (at : ℕ) (l : Left o₀ n₀ whole o n (pieces-from y a b v at)) where
+    pub value-next : {p : Period} {next r : ℕ} {o′ : List ℕ} → NextPeriod v at p next
+        → Noted o n (pieceOf a b (busyPeriod y (p .start) (p .end))) o′ r → Left o₀ n₀ whole o′ r (pieces-from y a b v next)
+    unfolding pieces-from piecesOf
+    value-next h m = left-then l (ap (λ (l : List Period). piecesOf a b (typed y l)) (h .periods)) m
+
+    pub value-end : NoPeriod v at → Noted o₀ n₀ whole o n
+    unfolding pieces-from piecesOf
+    value-end h = left-none l (ap (λ (l : List Period). piecesOf a b (typed y l)) (h .periods))
+
+-- ---- a line
+
+-- the type of periods that are given
+typeOr : Busy → PeriodType → Busy
+typeOr y (PeriodType.Of b) = b
+typeOr y PeriodType.None = y
+
+gives : PeriodType → Bool
+gives (PeriodType.Of b) = true
+gives PeriodType.None = false
+
+none-of : {A : Type 0} (y : Busy) → PeriodType.None ≡ PeriodType.Of y → A
+unfolding gives
+none-of y h = clash refl (sym (ap gives h))
+
+said-periods : (o : Saying) (x : ContentLine) (y : Busy) → typeSaid o ≡ PeriodType.Of y → periodsBy o x ≡ typed y (goodPeriods (periodsIn (x .value)))
+unfolding typeSaid periodsBy typeOr
+said-periods Saying.Nothing x y h = none-of y h
+said-periods Saying.Unsupported x y h = none-of y h
+said-periods Saying.Bad x y h = none-of y h
+said-periods (Saying.Start t) x y h = none-of y h
+said-periods (Saying.End t) x y h = none-of y h
+said-periods (Saying.Lasts d) x y h = none-of y h
+said-periods (Saying.Repeats r) x y h = none-of y h
+said-periods (Saying.HasStatus s) x y h = none-of y h
+said-periods (Saying.Transparent t) x y h = none-of y h
+said-periods (Saying.HasPeriods b) x y h = ap (λ (t : PeriodType). typed (typeOr y t) (goodPeriods (periodsIn (x .value)))) h
+
+said-none : (o : Saying) (x : ContentLine) → typeSaid o ≡ PeriodType.None → periodsBy o x ≡ []
+unfolding typeSaid periodsBy
+said-none Saying.Nothing x h = refl
+said-none Saying.Unsupported x h = refl
+said-none Saying.Bad x h = refl
+said-none (Saying.Start t) x h = refl
+said-none (Saying.End t) x h = refl
+said-none (Saying.Lasts d) x h = refl
+said-none (Saying.Repeats r) x h = refl
+said-none (Saying.HasStatus s) x h = refl
+said-none (Saying.Transparent t) x h = refl
+said-none (Saying.HasPeriods b) x h = none-of b (sym h)
+
+module _ (c : Context) (a b : ℕ) (x : List ℕ) {o : List ℕ} {n : ℕ} {y : Saying} {t : PeriodType} (e : y ≡ sayingOf c Scope.FreeBusy (lineOf x)) (q : t ≡ typeSaid y) where
+  pub line-noted : (z : Busy) {v o′ : List ℕ} {r : ℕ} → t ≡ PeriodType.Of z → v ≡ valueOf x → Noted o n (piecesOf a b (valuePeriods z v)) o′ r
+      → Noted o n (piecesOf a b (periodsBy (sayingOf c Scope.FreeBusy (lineOf x)) (lineOf x))) o′ r
+  unfolding lineOf valuePeriods
+  line-noted z {v} h w m =
+      noted-as m
+      (ap (λ (l : List ℕ). piecesOf a b (typed z (periodsFrom l 0))) w
+      ∙ ap (λ (l : List Period). piecesOf a b (typed z l)) (periods-all (valueOf x))
+      ∙ sym (ap (piecesOf a b) (said-periods (sayingOf c Scope.FreeBusy (lineOf x)) (lineOf x) z (sym (q ∙ ap typeSaid e) ∙ h))))
+
+  pub line-left : t ≡ PeriodType.None → Noted o n (piecesOf a b (periodsBy (sayingOf c Scope.FreeBusy (lineOf x)) (lineOf x))) o n
+  line-left h =
+      noted-as (noted-none o n)
+      (sym (ap (piecesOf a b) (said-none (sayingOf c Scope.FreeBusy (lineOf x)) (lineOf x) (sym (q ∙ ap typeSaid e) ∙ h)) ∙ piecesOf-none a b))
+
+-- ---- a block
+
+module _ (c : Context) (a b : ℕ) (s : List ℕ) {o₀ : List ℕ} {n₀ : ℕ} {whole : List BusyPeriod} {o : List ℕ} {n : ℕ} (at : ℕ)
+    (l : Left o₀ n₀ whole o n (piecesOf a b (blockPeriodsAt c s at))) where
+  pub block-property : {e next r : ℕ} {o′ : List ℕ} → PropertyAt s at e next
+      → Noted o n (piecesOf a b (periodsBy (sayingOf c Scope.FreeBusy (lineOf (part s at e))) (lineOf (part s at e)))) o′ r
+      → Left o₀ n₀ whole o′ r (piecesOf a b (blockPeriodsAt c s next))
+  block-property {e} {next} h m = left-then l (ap (piecesOf a b) (periods-property c h) ∙ piecesOf-append a b _ _) m
+
+  pub block-inner : {e next j : ℕ} {p : Place} → InnerAt s at e next → SkipsTo s next j p → Left o₀ n₀ whole o n (piecesOf a b (blockPeriodsAt c s (p .at)))
+  block-inner h k = left-same l (ap (piecesOf a b) (periods-inner c h k))
+
+  pub block-end : NoItemAt s at → Noted o₀ n₀ whole o n
+  block-end h = left-none l (ap (piecesOf a b) (periods-none c h) ∙ piecesOf-none a b)
+
+-- ---- an entry
+
+busyPeriods-append : (xs ys : List Entry) → busyPeriods (xs ++ ys) ≡ busyPeriods xs ++ busyPeriods ys
+unfolding busyPeriods
+busyPeriods-append [] ys = refl
+busyPeriods-append (x ∷ xs) ys =
+    ap (λ (l : List BusyPeriod). entryPeriods x ++ l) (busyPeriods-append xs ys) ∙ sym (append-assoc (entryPeriods x) (busyPeriods xs) (busyPeriods ys))
+
+one-event : (e : Event) → busyPeriods (event e ∷ []) ≡ eventPeriods e
+unfolding busyPeriods entryPeriods
+one-event e = append-nil (eventPeriods e)
+
+one-block : (k : Block) (ps : List BusyPeriod) → busyPeriods (block k ps ∷ []) ≡ ps
+unfolding busyPeriods entryPeriods
+one-block k ps = append-nil ps
+
+no-entry : busyPeriods [] ≡ []
+unfolding busyPeriods
+no-entry = refl
+
+-- what its lines say together, by its scope
+module _ (c : Context) (s : List ℕ) (at : ℕ) {y : Scope} {g : Gathered} (w : g ≡ gatheredAt c y s at) where
+  event-read : {x : EventRead} → y ≡ Scope.Event → x ≡ eventBy g → x ≡ eventAt c s at
+  unfolding eventAt
+  event-read t q = q ∙ ap eventBy (w ∙ ap (λ (z : Scope). gatheredAt c z s at) t)
+
+  block-read : {x : BlockRead} → y ≡ Scope.FreeBusy → x ≡ blockBy g → x ≡ blockAt c s at
+  unfolding blockAt
+  block-read t q = q ∙ ap blockBy (w ∙ ap (λ (z : Scope). gatheredAt c z s at) t)
+
+  pub entry-small : (e : Event) {x : EventRead} → y ≡ Scope.Event → x ≡ eventBy g → x ≡ EventRead.Of e → Small e
+  entry-small e t q h = event-sizes (eventAt-small c s at e (sym (event-read t q) ∙ h))
+
+event-as : (c : Context) (s : List ℕ) (at : ℕ) {x y : EventRead} → x ≡ eventAt c s at → x ≡ y → eventEntry y ≡ entryAt c Scope.Event s at
+unfolding entryAt
+event-as c s at q h = ap eventEntry (sym h ∙ q)
+
+block-as : (c : Context) (s : List ℕ) (at : ℕ) {x y : BlockRead} → x ≡ blockAt c s at → x ≡ y
+    → blockEntry y (blockPeriodsAt c s at) ≡ entryAt c Scope.FreeBusy s at
+unfolding entryAt
+block-as c s at q h = ap (λ (w : BlockRead). blockEntry w (blockPeriodsAt c s at)) (sym h ∙ q)
+
+nothing : (a b : ℕ) {o : List ℕ} {n : ℕ} → Noted o n (piecesOf a b []) o n
+nothing a b {o} {n} = noted-as (noted-none o n) (sym (piecesOf-none a b))
+
+module _ (c : Context) (a b : ℕ) (s : List ℕ) (at : ℕ) {o : List ℕ} {n : ℕ} {y : Scope} where
+  -- what is read here is the entry
+  read-as : (z : Scope) → y ≡ z → {xs : List Entry} {ps : List BusyPeriod} {o′ : List ℕ} {r : ℕ} → busyPeriods xs ≡ ps → xs ≡ entryAt c z s at
+      → Noted o n (piecesOf a b ps) o′ r → Noted o n (piecesOf a b (busyPeriods (entryAt c y s at))) o′ r
+  read-as z t e q m =
+      noted-as m (ap (piecesOf a b) (sym e ∙ ap busyPeriods q) ∙ ap (λ (x : Scope). piecesOf a b (busyPeriods (entryAt c x s at))) (sym t))
+
+  -- an event
+  module _ {g : Gathered} {x : EventRead} (w : g ≡ gatheredAt c y s at) (t : y ≡ Scope.Event) (q : x ≡ eventBy g) where
+    pub entry-event : (e : Event) {o′ : List ℕ} {r : ℕ} → x ≡ EventRead.Of e → Noted o n (piecesOf a b (eventPeriods e)) o′ r
+        → Noted o n (piecesOf a b (busyPeriods (entryAt c y s at))) o′ r
+    entry-event e h m = read-as Scope.Event t (one-event e) (event-as c s at (event-read c s at w t q) h) m
+
+    pub entry-no-event : x ≡ EventRead.Broken → Noted o n (piecesOf a b (busyPeriods (entryAt c y s at))) o n
+    entry-no-event h = read-as Scope.Event t no-entry (event-as c s at (event-read c s at w t q) h) (nothing a b)
+
+  -- a block
+  module _ {g : Gathered} {x : BlockRead} (w : g ≡ gatheredAt c y s at) (t : y ≡ Scope.FreeBusy) (q : x ≡ blockBy g) where
+    pub entry-block : (k : Block) {o′ : List ℕ} {r : ℕ} → x ≡ BlockRead.Of k → Noted o n (piecesOf a b (blockPeriodsAt c s at)) o′ r
+        → Noted o n (piecesOf a b (busyPeriods (entryAt c y s at))) o′ r
+    entry-block k h m = read-as Scope.FreeBusy t (one-block k (blockPeriodsAt c s at)) (block-as c s at (block-read c s at w t q) h) m
+
+    pub entry-no-block : x ≡ BlockRead.Broken → Noted o n (piecesOf a b (busyPeriods (entryAt c y s at))) o n
+    entry-no-block h = read-as Scope.FreeBusy t no-entry (block-as c s at (block-read c s at w t q) h) (nothing a b)
+
+  pub entry-other : y ≡ Scope.Other → Noted o n (piecesOf a b (busyPeriods (entryAt c y s at))) o n
+  unfolding entryAt
+  entry-other t = read-as Scope.Other t no-entry refl (nothing a b)
+
+-- ---- the components side by side
+
+entries-append : (a b : ℕ) (xs ys : List Entry) → busyPieces a b (xs ++ ys) ≡ piecesOf a b (busyPeriods xs) ++ busyPieces a b ys
+unfolding busyPieces
+entries-append a b xs ys = ap (piecesOf a b) (busyPeriods-append xs ys) ∙ piecesOf-append a b (busyPeriods xs) (busyPeriods ys)
+
+pub no-entries : (c : Context) (a b : ℕ) → busyPieces a b (entriesOf c []) ≡ []
+unfolding busyPieces entriesOf
+no-entries c a b = ap (piecesOf a b) no-entry ∙ piecesOf-none a b
+
+-- the busy pieces of components
+abbrev pub piecesIn : Context → ℕ → ℕ → List Component → List BusyPeriod
+piecesIn c a b ks = busyPieces a b (entriesOf c ks)
+
+-- the pieces of the components from a place on are left
+pub record Going (c : Context) (a b : ℕ) (s o₀ : List ℕ) (whole : List BusyPeriod) (o : List ℕ) (n at number : ℕ) : Type 0 where
+  pub within : at ≤ length s
+  pub counted : number ≤ at + 1
+  pub still : Left o₀ 0 whole o n (piecesIn c a b (componentsFrom s at number))
+
+pub going-start : (c : Context) (a b : ℕ) (s o : List ℕ) (from first : ℕ) → from ≤ length s → first ≤ from + 1 → length o ≡ 1539
+    → Going c a b s o (piecesIn c a b (componentsFrom s from first)) o 0 from first
+going-start c a b s o from first h k l = record { within = h; counted = k; still = left-start o 0 _ (omega arith) l }
+
+module _ {c : Context} {a b : ℕ} {s o₀ : List ℕ} {whole : List BusyPeriod} {o : List ℕ} {n at number : ℕ}
+    (g : Going c a b s o₀ whole o n at number) where
+  pub going-property : {e next : ℕ} → PropertyAt s at e next → Going c a b s o₀ whole o n next (number + 1)
+  going-property h =
+      record {
+        within = h .line .inside;
+        counted = omega (arith, g .counted, h .line .goes-on);
+        still = left-same (g .still) (ap (piecesIn c a b) (components-property number h));
+      }
+
+  pub going-inner : {e next r : ℕ} {o′ v : List ℕ} {x : Scope} {p : Place} → InnerAt s at e next → v ≡ valueOf (part s at e) → x ≡ scopeOf v
+      → Noted o n (piecesOf a b (busyPeriods (entryAt c x s next))) o′ r → SkipsTo s next (number + 1) p
+      → Going c a b s o₀ whole o′ r (p .at) (p .number)
+  going-inner {e} {next} {x = x} {p = p} h q w m k =
+      record {
+        within = k .within;
+        counted = k .counted;
+        still =
+            left-then (g .still)
+            (ap (piecesIn c a b) (components-first number h)
+            ∙ ap (busyPieces a b) (entry-here c number h q w _)
+            ∙ entries-append a b (entryAt c x s next) _
+            ∙ ap (λ (ks : List Component). piecesOf a b (busyPeriods (entryAt c x s next)) ++ piecesIn c a b ks) (components-skip k))
+            m;
+      }
+
+  pub going-end : NoItemAt s at → Noted o₀ 0 whole o n
+  going-end h = left-none (g .still) (ap (piecesIn c a b) (components-none number h) ∙ no-entries c a b)
