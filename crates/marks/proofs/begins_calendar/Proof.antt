@@ -1,4 +1,4 @@
--- `nesting::begins_calendar` meets its contract: each arm is the definition's own case.
+-- `marks::begins_calendar` meets its contract: each arm is the definition's own case.
 use Rattle.line.specs.Reading.{lineOf}
 use Rattle.marks.proofs.Marking.{begins-yes, begins-no}
 use Rattle.marks.specs.Innermost.{beginsCalendar}

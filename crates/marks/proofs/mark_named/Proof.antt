@@ -1,4 +1,4 @@
--- `nesting::mark_named` meets its contract: each branch is one case of the tests on the line's name, whose length is then known.
+-- `marks::mark_named` meets its contract: each branch is one case of the tests on the line's name, whose length is then known.
 use Rattle.marks.proofs.Marking.{named-length, mark-begin, mark-end, mark-property}
 use borrow.Author.Needs.{needs}
 use Rattle.marks.proofs.mark_named.Statement.{statement}

@@ -1,4 +1,4 @@
--- `nesting::mark_of` meets its contract: a line that begins with neither B nor E has another name than BEGIN and END.
+-- `marks::mark_of` meets its contract: a line that begins with neither B nor E has another name than BEGIN and END.
 use Rattle.marks.proofs.Marking.{mark-other}
 use native.Mathlib.Omega.{arith}
 use borrow.Author.Needs.{needs}

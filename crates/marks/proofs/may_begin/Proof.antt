@@ -1,4 +1,4 @@
--- `nesting::may_begin` meets its contract: the tests are the definition's own.
+-- `marks::may_begin` meets its contract: the tests are the definition's own.
 use Rattle.marks.specs.Innermost.{mayBegin, isCalendar, isEvent, isFreeBusy}
 use borrow.Author.Needs.{needs}
 use Rattle.marks.proofs.may_begin.Statement.{statement}

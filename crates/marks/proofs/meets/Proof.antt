@@ -1,4 +1,4 @@
--- `nesting::meets` meets its contract: each arm is one case of the line's mark.
+-- `marks::meets` meets its contract: each arm is one case of the line's mark.
 use Rattle.marks.proofs.Marking.{met-opens, met-begin-breaks, met-closes, met-end-breaks, met-stays, met-wrong}
 use borrow.Author.Needs.{needs}
 use Rattle.marks.proofs.meets.Statement.{statement}

@@ -1,4 +1,4 @@
--- `query::component_good` meets its contract: a good name is the number of a text, and without one the component is not good.
+-- `paper::component_good` meets its contract: a good name is the number of a text, and without one the component is not good.
 use Rattle.paper.proofs.Deciding.{name-below, component-named, component-unnamed}
 use mathlib.Core.Path.{sym, _∙_}
 use borrow.Author.Needs.{needs}

@@ -1,4 +1,4 @@
--- `query::component_misplaced` meets its contract: the tests are those of the definition, on the text of the name.
+-- `paper::component_misplaced` meets its contract: the tests are those of the definition, on the text of the name.
 use Rattle.paper.proofs.Deciding.{component-off}
 use borrow.Author.Needs.{needs}
 use Rattle.paper.proofs.component_misplaced.Statement.{statement}

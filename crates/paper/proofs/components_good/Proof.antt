@@ -1,4 +1,4 @@
--- `query::components_good` meets its contract: every component so far is good, and the first that is not decides.
+-- `paper::components_good` meets its contract: every component so far is good, and the first that is not decides.
 use Rattle.paper.proofs.Loops.{componentHolds}
 use borrow.Author.Tests.{not-true, not-false}
 use mathlib.Core.Bool.{true}

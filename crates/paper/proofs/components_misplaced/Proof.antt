@@ -1,4 +1,4 @@
--- `query::components_misplaced` meets its contract: no component so far has a misplaced range, and every name is the number of a text.
+-- `paper::components_misplaced` meets its contract: no component so far has a misplaced range, and every name is the number of a text.
 use Rattle.query.specs.Counting.{someBelow}
 use Rattle.paper.specs.WellFormed.{componentMisplaced, componentsMisplaced}
 use Rattle.paper.proofs.Deciding.{component-text}

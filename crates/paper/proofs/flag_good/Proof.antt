@@ -1,4 +1,4 @@
--- `query::flag_good` meets its contract: the tests are those of the definition.
+-- `paper::flag_good` meets its contract: the tests are those of the definition.
 use mathlib.Core.Path.{refl}
 use Rattle.paper.proofs.flag_good.Statement.{statement}
 use Rattle.paper.proofs.flag_good.Tie as tie

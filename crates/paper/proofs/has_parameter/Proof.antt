@@ -1,4 +1,4 @@
--- `query::has_parameter` meets its contract: no parameter so far is one of the property, and the first that is one decides.
+-- `paper::has_parameter` meets its contract: no parameter so far is one of the property, and the first that is one decides.
 use Rattle.query.specs.declared.ParameterRecord.{ParameterRecord}
 use borrow.Author.Tests.{eq-eqb, ne-eqb}
 use mathlib.Core.Bool.{false}

@@ -1,4 +1,4 @@
--- `query::name_good` meets its contract: a number below the count has its text, and any other is no name.
+-- `paper::name_good` meets its contract: a number below the count has its text, and any other is no name.
 use Rattle.paper.proofs.Deciding.{name-there, name-absent}
 use mathlib.Core.Path.{sym}
 use borrow.Author.Needs.{needs}

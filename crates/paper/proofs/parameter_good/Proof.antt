@@ -1,4 +1,4 @@
--- `query::parameter_good` meets its contract: the tests are those of the definition.
+-- `paper::parameter_good` meets its contract: the tests are those of the definition.
 use Rattle.paper.specs.WellFormed.{parameterGood}
 use borrow.Author.Needs.{needs}
 use Rattle.paper.proofs.parameter_good.Statement.{statement}

@@ -1,4 +1,4 @@
--- `query::parameters_good` meets its contract: every parameter so far is good, and the first that is not decides.
+-- `paper::parameters_good` meets its contract: every parameter so far is good, and the first that is not decides.
 use Rattle.paper.proofs.Loops.{parameterHolds}
 use borrow.Author.Tests.{not-true, not-false}
 use mathlib.Core.Bool.{true}

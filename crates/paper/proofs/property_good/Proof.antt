@@ -1,4 +1,4 @@
--- `query::property_good` meets its contract: the tests are those of the definition.
+-- `paper::property_good` meets its contract: the tests are those of the definition.
 use Rattle.paper.specs.WellFormed.{propertyGood}
 use borrow.Author.Needs.{needs}
 use Rattle.paper.proofs.property_good.Statement.{statement}

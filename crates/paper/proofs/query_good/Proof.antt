@@ -1,4 +1,4 @@
--- `query::query_good` meets its contract: sections that were read lie inside the paper, so that their records can be read.
+-- `paper::query_good` meets its contract: sections that were read lie inside the paper, so that their records can be read.
 use Rattle.query.proofs.Laying.{sections-fit}
 use Rattle.paper.proofs.Refusing.{query-of, query-none}
 use mathlib.Core.Path.{sym, _∙_}

@@ -1,4 +1,4 @@
--- `query::range_good` meets its contract: the two tests are those of the definition, on the numbers that were read.
+-- `paper::range_good` meets its contract: the two tests are those of the definition, on the numbers that were read.
 use Rattle.paper.specs.WellFormed.{rangeGood}
 use borrow.Author.Needs.{needs}
 use Rattle.paper.proofs.range_good.Statement.{statement}

@@ -1,4 +1,4 @@
--- `query::range_misplaced` meets its contract: the two sections are searched each by itself.
+-- `paper::range_misplaced` meets its contract: the two sections are searched each by itself.
 use Rattle.paper.specs.WellFormed.{rangeMisplaced}
 use borrow.Author.Needs.{needs}
 use Rattle.paper.proofs.range_misplaced.Statement.{statement}

@@ -1,4 +1,4 @@
--- `query::read_query` meets its contract: a good paper has its sections, and they lie inside it.
+-- `paper::read_query` meets its contract: a good paper has its sections, and they lie inside it.
 use borrow.Author.Tests.{not-true, not-false}
 use Rattle.query.proofs.Laying.{sections-fit}
 use Rattle.paper.proofs.Refusing.{query-none, query-records, read-bad, read-misplaced, read-of}

@@ -1,4 +1,4 @@
--- `query::records_good` meets its contract: the four sections are tested each by itself.
+-- `paper::records_good` meets its contract: the four sections are tested each by itself.
 use Rattle.paper.specs.WellFormed.{recordsGood}
 use borrow.Author.Needs.{needs}
 use Rattle.paper.proofs.records_good.Statement.{statement}

@@ -1,4 +1,4 @@
--- `query::stands_good` meets its contract: the two branches are the two cases of the definition.
+-- `paper::stands_good` meets its contract: the two branches are the two cases of the definition.
 use Rattle.paper.proofs.Deciding.{stands-first, stands-other}
 use borrow.Author.Needs.{needs}
 use Rattle.paper.proofs.stands_good.Statement.{statement}

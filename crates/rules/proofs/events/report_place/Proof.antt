@@ -1,4 +1,4 @@
--- `calendar::events::report_place` meets its contract: each arm is one clause of the definition.
+-- `rules::events::report_place` meets its contract: each arm is one clause of the definition.
 use Rattle.rules.specs.BusyTypes.{reportPlace}
 use mathlib.Core.Path.{sym, ap}
 use borrow.Author.Needs.{needs}
