@@ -9,12 +9,12 @@ use Rattle.text.specs.Lines.{part}
 use Rattle.line.specs.Reading.{valueOf}
 use Rattle.line.specs.WellFormed.{lineCheck}
 use Rattle.line.specs.declared.check.LineCheck.{LineCheck}
+use Rattle.values.specs.declared.times.Context.{Context}
+use Rattle.said.specs.declared.Scope.{Scope}
 use Rattle.nesting.specs.Components.{Component, componentsIn, itemsOf}
 use Rattle.nesting.specs.Nesting.{nestingOf}
 use Rattle.nesting.specs.Passing.{linesFrom, PropertyAt, InnerAt, NoItemAt}
 use Rattle.nesting.specs.declared.Nesting.{Nesting}
-use Rattle.values.specs.declared.times.Context.{Context}
-use Rattle.values.specs.declared.said.Scope.{Scope}
 use Rattle.rules.specs.Events.{eventBy, blockBy, Entry}
 use Rattle.rules.specs.declared.Gathered.{Gathered}
 use Rattle.calendar.specs.Checks.{brokenBy, ruleElse, firstBroken}

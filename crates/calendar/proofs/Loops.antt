@@ -7,14 +7,14 @@ use native.Mathlib.Omega.{arith}
 use lib.ListN.{length}
 use Rattle.text.specs.Lines.{part}
 use Rattle.line.specs.Reading.{lineOf, valueOf}
+use Rattle.values.specs.declared.times.Context.{Context}
+use Rattle.said.specs.Said.{sayingOf}
+use Rattle.said.specs.declared.Scope.{Scope}
+use Rattle.said.specs.declared.Saying.{Saying}
 use Rattle.nesting.specs.Components.{itemsOf, treeOf, itemsBelow, Component, componentsIn, propertiesIn}
 use Rattle.nesting.specs.Passing.{linesFrom, treeIn, PropertyAt, InnerAt, NoItemAt, SkipsTo}
 use Rattle.nesting.specs.declared.items.Place.{Place}
 use Rattle.nesting.proofs.Stepping.{tree-from}
-use Rattle.values.specs.Said.{sayingOf}
-use Rattle.values.specs.declared.times.Context.{Context}
-use Rattle.values.specs.declared.said.Scope.{Scope}
-use Rattle.values.specs.declared.said.Saying.{Saying}
 use Rattle.rules.specs.Gathered.{nothingGathered, gatheredWith, gather}
 use Rattle.rules.specs.Events.{Entry}
 use Rattle.rules.specs.declared.Gathered.{Gathered}

@@ -6,14 +6,14 @@ use native.Mathlib.Omega.{arith}
 use lib.ListN.{length}
 use Rattle.text.specs.Lines.{part}
 use Rattle.line.specs.Reading.{lineOf}
+use Rattle.values.specs.declared.times.Context.{Context}
+use Rattle.said.specs.Said.{sayingOf}
+use Rattle.said.specs.declared.Scope.{Scope}
+use Rattle.said.specs.declared.Saying.{Saying}
 use Rattle.nesting.specs.Passing.{PropertyAt, InnerAt, NoItemAt, SkipsTo}
 use Rattle.nesting.specs.declared.items.Place.{Place}
 use Rattle.nesting.proofs.Stepping.{Skipping, skipping-start}
 use Rattle.nesting.proofs.Leaving.{leaving-property, leaving-inner, leaving-last}
-use Rattle.values.specs.Said.{sayingOf}
-use Rattle.values.specs.declared.times.Context.{Context}
-use Rattle.values.specs.declared.said.Scope.{Scope}
-use Rattle.values.specs.declared.said.Saying.{Saying}
 use Rattle.rules.specs.Gathered.{nothingGathered, gatheredWith}
 use Rattle.rules.specs.declared.Gathered.{Gathered}
 use Rattle.calendar.specs.Meaning.{faultOr}

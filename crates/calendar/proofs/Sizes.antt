@@ -5,11 +5,11 @@ use mathlib.Core.Bool.{Bool, true, false}
 use mathlib.Core.Logic.{_⊎_, inl, inr}
 use mathlib.Core.List.{List, [], _∷_, List·Memᴰ, List·Memᴰ·not-nil, List·Memᴰ·append-cases, List·Memᴰ·eq-of-singleton}
 use Rattle.ascii.proofs.Bools.{clash}
+use Rattle.values.specs.declared.times.Context.{Context}
+use Rattle.said.specs.declared.Scope.{Scope}
+use Rattle.said.proofs.Sayings.{sayingOf-small}
 use Rattle.nesting.specs.Components.{Numbered, Component, itemsOf, propertiesIn}
 use Rattle.nesting.specs.Passing.{linesFrom}
-use Rattle.values.specs.declared.times.Context.{Context}
-use Rattle.values.specs.declared.said.Scope.{Scope}
-use Rattle.values.proofs.Sayings.{sayingOf-small}
 use Rattle.rules.specs.BusyTypes.{BusyPeriod}
 use Rattle.rules.specs.Events.{Entry, event, block}
 use Rattle.rules.specs.Sizes.{EventSmall, BlockSmall}

@@ -8,13 +8,13 @@ use Rattle.line.specs.Reading.{lineOf}
 use Rattle.marks.specs.Marks.{markOf}
 use Rattle.marks.specs.declared.Mark.{Mark}
 use Rattle.marks.specs.declared.Mark.the-variants.{Begins, Ends, Property, Wrong}
+use Rattle.values.specs.declared.times.Context.{Context}
+use Rattle.said.specs.Said.{sayingOf}
+use Rattle.said.specs.declared.Scope.{Scope}
+use Rattle.said.specs.declared.Saying.{Saying}
 use Rattle.nesting.specs.Components.{Numbered, markedAs, markedFrom, Items, itemsOf, Component, componentsIn, propertiesIn}
 use Rattle.nesting.specs.Passing.{linesAt, linesFrom, numbered, PropertyAt, InnerAt, NoItemAt, SkipsTo}
 use Rattle.nesting.specs.declared.items.Place.{Place}
-use Rattle.values.specs.Said.{sayingOf}
-use Rattle.values.specs.declared.times.Context.{Context}
-use Rattle.values.specs.declared.said.Scope.{Scope}
-use Rattle.values.specs.declared.said.Saying.{Saying}
 use Rattle.rules.specs.Gathered.{nothingGathered, gather}
 use Rattle.rules.specs.Events.{eventBy, blockBy}
 use Rattle.rules.specs.BusyTypes.{BusyPeriod}

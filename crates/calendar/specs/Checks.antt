@@ -1,7 +1,7 @@
 -- From component to component: whether one breaks a rule, from what its lines say together, and the first of them that does.
 use Prim.Native.Nat.{ℕ}
 use mathlib.Core.Bool.{Bool, false}
-use Rattle.values.specs.declared.said.Scope.{Scope}
+use Rattle.said.specs.declared.Scope.{Scope}
 use Rattle.rules.specs.Events.{eventBy, blockBy}
 use Rattle.rules.specs.declared.Gathered.{Gathered}
 use Rattle.calendar.specs.Meaning.{eventBroken, blockBroken, brokenOr}

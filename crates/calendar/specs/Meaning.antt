@@ -8,14 +8,14 @@ use Rattle.line.specs.Reading.{lineOf}
 use Rattle.line.specs.WellFormed.{lineCheck}
 use Rattle.line.specs.declared.check.LineCheck.{LineCheck}
 use Rattle.marks.specs.Innermost.{isEvent, isFreeBusy}
+use Rattle.values.specs.Period.{periodsIn, goodPeriods}
+use Rattle.values.specs.declared.times.Context.{Context}
+use Rattle.said.specs.Said.{sayingOf}
+use Rattle.said.specs.declared.Scope.{Scope}
+use Rattle.said.specs.declared.Saying.{Saying}
 use Rattle.nesting.specs.Nesting.{nestingOf}
 use Rattle.nesting.specs.Components.{Numbered, Component, treeOf, itemsBelow, componentsIn, propertiesIn}
 use Rattle.nesting.specs.declared.Nesting.{Nesting}
-use Rattle.values.specs.Said.{sayingOf}
-use Rattle.values.specs.Period.{periodsIn, goodPeriods}
-use Rattle.values.specs.declared.times.Context.{Context}
-use Rattle.values.specs.declared.said.Scope.{Scope}
-use Rattle.values.specs.declared.said.Saying.{Saying}
 use Rattle.rules.specs.Gathered.{nothingGathered, gather}
 use Rattle.rules.specs.BusyTypes.{BusyPeriod, typed}
 use Rattle.rules.specs.Events.{eventBy, blockBy, Entry, event, block}

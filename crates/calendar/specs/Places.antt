@@ -6,11 +6,11 @@ use mathlib.Core.List.{List, []}
 use lib.ListN.{length}
 use Rattle.text.specs.Lines.{part}
 use Rattle.line.specs.Reading.{lineOf}
+use Rattle.values.specs.declared.times.Context.{Context}
+use Rattle.said.specs.declared.Scope.{Scope}
+use Rattle.said.specs.declared.Saying.{Saying}
 use Rattle.nesting.specs.Components.{Component, none, endOf, itemsOf, treeOf, itemsBelow, componentsIn, propertiesIn}
 use Rattle.nesting.specs.Passing.{linesFrom, numbered, SkipsTo}
-use Rattle.values.specs.declared.times.Context.{Context}
-use Rattle.values.specs.declared.said.Scope.{Scope}
-use Rattle.values.specs.declared.said.Saying.{Saying}
 use Rattle.rules.specs.Gathered.{nothingGathered, gather}
 use Rattle.rules.specs.Events.{eventBy, blockBy, Entry}
 use Rattle.rules.specs.BusyTypes.{BusyPeriod}

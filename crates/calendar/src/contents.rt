@@ -11,7 +11,7 @@ use rules::BlockRead;
 use rules::EventRead;
 use rules::Gathered;
 use rules::events;
-use values::said::Scope;
+use said::Scope;
 use values::times::Context;
 ghost use mathlib.Core.Path.{_≡_};
 ghost use mathlib.Core.List.{[]};

@@ -12,8 +12,8 @@ use Rattle.ascii.proofs.Bools.{and-left, and-right}
 use Rattle.text.specs.Unfolding.{unfolded, Unfolded}
 use Rattle.text.proofs.Unfolding.{unfolded-front}
 use Rattle.values.specs.declared.period.Period.{Period}
-use Rattle.values.specs.declared.said.Busy.{Busy}
 use Rattle.values.specs.declared.times.Context.{Context}
+use Rattle.said.specs.declared.Busy.{Busy}
 use Rattle.calendar.specs.Meaning.{structureFault}
 use Rattle.calendar.specs.declared.Fault.{Fault}
 use Rattle.refusals.specs.Refusals.{Row, lowest, Rising, ends, sizeRows}

@@ -10,31 +10,31 @@ use lib.Seq.{sets}
 use borrow.Author.Tests.{lt-ltb, le-ltb}
 use Rattle.ascii.proofs.Bools.{clash}
 use Rattle.values.specs.declared.period.Period.{Period}
-use Rattle.values.specs.declared.said.Busy.{Busy}
 use Rattle.values.specs.declared.times.Context.{Context}
-use Rattle.rules.specs.BusyTypes.{reportPlace, isBusy, BusyPeriod}
-use Rattle.rules.specs.Events.{Entry}
-use Rattle.calendar.specs.Meaning.{entriesOf, componentsOf}
-use Rattle.calendar.specs.declared.Fault.{Fault}
+use Rattle.said.specs.declared.Busy.{Busy}
 use Rattle.table.specs.Runs.{runs, Lies}
 use Rattle.table.specs.Tables.{listed, Empty}
 use Rattle.table.specs.declared.Table.{Table}
 use Rattle.table.proofs.Runs.{runs-same}
 use Rattle.table.proofs.Stretches.{within-true}
 use Rattle.report.specs.Writing.{byType}
+use Rattle.rules.specs.BusyTypes.{reportPlace, isBusy, BusyPeriod}
+use Rattle.rules.specs.Events.{Entry}
+use Rattle.calendar.specs.Meaning.{entriesOf, componentsOf}
+use Rattle.calendar.specs.declared.Fault.{Fault}
 use Rattle.pieces.specs.BusyPeriods.{busyPeriods}
 use Rattle.pieces.specs.Columns.{flat, noted, Noted}
 use Rattle.pieces.specs.Covered.{coveredBy, covered}
 use Rattle.pieces.specs.Pieces.{busyPieces}
 use Rattle.pieces.proofs.Adding.{noted-all}
 use Rattle.pieces.proofs.Clipping.{busyPieces-cover, pieces-inside}
+use Rattle.refusals.specs.Refusals.{Row, row, lowest}
+use Rattle.refusals.proofs.Tables.{row-applies, row-passed}
+use Rattle.refusals.proofs.Passing.{contents-passed, contents-refused}
 use Rattle.walk.specs.Walks.{NotesContents}
 use Rattle.walk.specs.declared.ContentsNoted.{ContentsNoted}
 use Rattle.tables.specs.Building.{Built}
 use Rattle.tables.proofs.Built.{built-stored}
-use Rattle.refusals.specs.Refusals.{Row, row, lowest}
-use Rattle.refusals.proofs.Tables.{row-applies, row-passed}
-use Rattle.refusals.proofs.Passing.{contents-passed, contents-refused}
 use Rattle.collecting.specs.CollectStages.{AllSound, Refuses, Typed, unlessFault, Tabled, pieceRows, periodsIn, ContentsTabled}
 use Rattle.collecting.specs.declared.Collected.{Collected}
 

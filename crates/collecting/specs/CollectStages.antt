@@ -8,22 +8,22 @@ use lib.ListN.{length}
 use lib.IntN.{ℤ}
 use Rattle.text.specs.Unfolding.{unfolded}
 use Rattle.values.specs.declared.period.Period.{Period}
-use Rattle.values.specs.declared.said.Busy.{Busy}
 use Rattle.values.specs.declared.times.Context.{Context}
+use Rattle.said.specs.declared.Busy.{Busy}
+use Rattle.table.specs.Runs.{runs}
+use Rattle.table.specs.Tables.{Sound}
+use Rattle.report.specs.Writing.{byType}
 use Rattle.rules.specs.BusyTypes.{isBusy}
 use Rattle.rules.specs.Events.{Entry}
 use Rattle.calendar.specs.Meaning.{entriesOf, componentsOf}
 use Rattle.calendar.specs.declared.Fault.{Fault}
-use Rattle.table.specs.Runs.{runs}
-use Rattle.table.specs.Tables.{Sound}
-use Rattle.report.specs.Writing.{byType}
 use Rattle.pieces.specs.Covered.{covered}
 use Rattle.pieces.specs.Pieces.{busyPieces}
-use Rattle.tables.specs.Building.{Built}
 use Rattle.refusals.specs.Refusals.{Row, row, lowest, contentsRows, calendarRows}
 use Rattle.refusals.specs.Offsets.{offsetRead}
 use Rattle.refusals.specs.declared.OffsetRead.{OffsetRead}
 use Rattle.refusals.specs.Stages.{workBy}
+use Rattle.tables.specs.Building.{Built}
 use Rattle.collecting.specs.ReportCalls.{rangeGood, stampGood}
 use Rattle.collecting.specs.declared.Collected.{Collected}
 

@@ -4,11 +4,11 @@ use mathlib.Core.Path.{_≡_}
 use mathlib.Core.Bool.{true}
 use mathlib.Core.List.{List, []}
 use Rattle.values.specs.declared.period.Period.{Period}
-use Rattle.values.specs.declared.said.Busy.{Busy}
-use Rattle.rules.specs.BusyTypes.{isBusy}
-use Rattle.calendar.specs.declared.Fault.{Fault}
+use Rattle.said.specs.declared.Busy.{Busy}
 use Rattle.table.specs.Tables.{Sound}
 use Rattle.report.specs.Writing.{byType}
+use Rattle.rules.specs.BusyTypes.{isBusy}
+use Rattle.calendar.specs.declared.Fault.{Fault}
 use Rattle.refusals.specs.Refusals.{lowest}
 use Rattle.refusals.specs.Stages.{workBy}
 use Rattle.collecting.specs.ReportCalls.{ReportCall, reportFor, collectRows}

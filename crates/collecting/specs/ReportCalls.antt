@@ -6,12 +6,12 @@ use lib.Dec.{ltb, leb}
 use lib.ListN.{length}
 use lib.IntN.{ℤ}
 use Rattle.text.specs.Unfolding.{unfolded}
-use Rattle.values.specs.declared.said.Busy.{Busy}
+use Rattle.said.specs.declared.Busy.{Busy}
+use Rattle.table.specs.Runs.{runs}
+use Rattle.report.specs.Bytes.{Report}
 use Rattle.rules.specs.BusyTypes.{BusyPeriod}
 use Rattle.rules.specs.Events.{Entry}
 use Rattle.calendar.specs.Meaning.{entriesOf, componentsOf}
-use Rattle.table.specs.Runs.{runs}
-use Rattle.report.specs.Bytes.{Report}
 use Rattle.pieces.specs.Covered.{covered}
 use Rattle.pieces.specs.Pieces.{busyPieces}
 use Rattle.refusals.specs.Refusals.{Row, row, sizeRows, calendarRows}

@@ -10,31 +10,31 @@ use Rattle.ascii.specs.Bytes.{isDigit, isLetter, isNameByte, isControl, upper}
 use Rattle.ascii.specs.Names.{sameName, isName}
 use Rattle.text.specs.Lines.{cut, contentLines}
 use Rattle.text.specs.Unfolding.{isBreak, isBlank, isFold, unfolded}
+use Rattle.time.specs.DateTime.{digitPair, pairAt, joined, yearAt, checkedDay, three, dateAt, checkedTime, timeAt, clockOf, clockAt, readDateTime}
+use Rattle.time.specs.Days.{isLeap, yearDays, daysBeforeYear, monthLengths, lengthIn, beforeIn, monthDays, daysBeforeMonth, dayNumber, isDay}
+use Rattle.time.specs.Limits.{epoch, lastSecond, since, utcSecond}
+use Rattle.query.specs.Records.{textPlace, textFrom, textOf, componentAt}
+use Rattle.query.specs.Sections.{byteAt, countFits, within, behindRecords, behindText, behindTexts, behindTextSection, sectionsOf}
+use Rattle.query.specs.Counting.{everyBelow, someBelow}
 use Rattle.line.specs.Pieces.{firstOutside, before, after, pieces}
 use Rattle.line.specs.Reading.{headOf, valueOf, nameOf, parameterTexts, lineOf, parametersNamed, someList, hasParameter, hasTwice, hasList}
 use Rattle.line.specs.Scanner.{step, isEnding, scan, isWellFormed}
 use Rattle.line.specs.WellFormed.{lineCheckFrom, lineCheck}
-use Rattle.time.specs.DateTime.{digitPair, pairAt, joined, yearAt, checkedDay, three, dateAt, checkedTime, timeAt, clockOf, clockAt, readDateTime}
-use Rattle.time.specs.Days.{isLeap, yearDays, daysBeforeYear, monthLengths, lengthIn, beforeIn, monthDays, daysBeforeMonth, dayNumber, isDay}
-use Rattle.time.specs.Limits.{epoch, lastSecond, since, utcSecond}
+use Rattle.paper.specs.WellFormed.{nameGood, hasChildComponent, hasProperty, standsGood, componentGood, rangesGood, componentsGood, propertiesGood, parametersGood, recordsGood, sectionsGood, queryGood, componentMisplaced, componentsMisplaced, propertiesMisplaced, rangeMisplaced}
 use Rattle.marks.specs.Marks.{markOf}
 use Rattle.marks.specs.Innermost.{isCalendar, isEvent, mayBegin}
+use Rattle.values.specs.Times.{atSecond, timeBy, readTime, formOf, timeOf}
+use Rattle.said.specs.Said.{isUnsupported, timesOr, eventProperty, propertyOf, timeIn, startBy, unlessZoned, saidBy, sayingOf}
 use Rattle.nesting.specs.Components.{markedFrom, itemsOf, treeOf, componentsIn, propertiesIn, itemsBelow}
 use Rattle.nesting.specs.Nesting.{afterBegin, afterEnd, afterProperty, walk, outcome, nestingOf}
 use Rattle.nesting.specs.Passing.{treeIn}
-use Rattle.values.specs.Said.{isUnsupported, timesOr, eventProperty, propertyOf, timeIn, startBy, unlessZoned, saidBy, sayingOf}
-use Rattle.values.specs.Times.{atSecond, timeBy, readTime, formOf, timeOf}
+use Rattle.properties.specs.PropertyTests.{propertiesHold}
 use Rattle.rules.specs.Events.{endingBy, repeatBy, eventMade, eventWith, eventFrom, eventBy}
 use Rattle.rules.specs.Gathered.{nothingGathered, timeGiven, durationGiven, ruleGiven, statusGiven, transparencyGiven, gatheredWith, gather}
 use Rattle.calendar.specs.Meaning.{scopeOf, componentScope, sayingsIn, faultOr, faultIn, valueFault, eventOf, isBroken, brokenOr, ruleFault, fileLines, componentsOf}
-use Rattle.query.specs.Records.{textPlace, textFrom, textOf, componentAt}
-use Rattle.query.specs.Sections.{byteAt, countFits, within, behindRecords, behindText, behindTexts, behindTextSection, sectionsOf}
-use Rattle.query.specs.Counting.{everyBelow, someBelow}
-use Rattle.paper.specs.WellFormed.{nameGood, hasChildComponent, hasProperty, standsGood, componentGood, rangesGood, componentsGood, propertiesGood, parametersGood, recordsGood, sectionsGood, queryGood, componentMisplaced, componentsMisplaced, propertiesMisplaced, rangeMisplaced}
-use Rattle.properties.specs.PropertyTests.{propertiesHold}
-use Rattle.filter.specs.Tests.{rangeHolds, someComponentNamed, someComponent, componentHolds, childrenHold, componentTest, queryHolds}
 use Rattle.refusals.specs.Refusals.{lowest, sizeRows, lineRow, nestingRow, unsupportedRow, badValueRow, ruleRow, calendarRows, contentsRows}
 use Rattle.refusals.specs.Offsets.{offsetGood}
+use Rattle.filter.specs.Tests.{rangeHolds, someComponentNamed, someComponent, componentHolds, childrenHold, componentTest, queryHolds}
 use Rattle.engine.specs.Answers.{Outcome, verdict, refusal, unlessRefused}
 use Rattle.engine.specs.Matching.{MatchCall, misplacedIn, queryRows, matchRows, verdictBy, verdictOf, matchOutcome}
 

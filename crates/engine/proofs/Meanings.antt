@@ -7,10 +7,10 @@ use mathlib.Core.Logic.{_↔_}
 use native.Mathlib.Omega.{arith}
 use lib.IntN.{pos}
 use lib.ListN.{length, take}
-use Rattle.values.specs.declared.said.Busy.{Busy}
-use Rattle.rules.specs.BusyTypes.{isBusy}
+use Rattle.said.specs.declared.Busy.{Busy}
 use Rattle.table.proofs.Runs.{runs-same}
 use Rattle.report.specs.Bytes.{reportBytes}
+use Rattle.rules.specs.BusyTypes.{isBusy}
 use Rattle.collecting.specs.ReportCalls.{ReportCall, coveredIn, reportFor}
 use Rattle.engine.specs.Reporting.{Reported}
 use Rattle.engine.specs.Meanings.{NoRefusal, IsReport, SameRange, SameSeconds, OneMeaning}

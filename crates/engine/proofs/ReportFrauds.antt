@@ -7,12 +7,12 @@ use native.Mathlib.Omega.{arith}
 use lib.ListN.{length, take}
 use Rattle.ascii.proofs.Bools.{clash}
 use Rattle.values.specs.declared.period.Period.{Period}
-use Rattle.values.specs.declared.said.Busy.{Busy}
-use Rattle.rules.specs.BusyTypes.{reportPlace, isBusy}
-use Rattle.calendar.specs.declared.Fault.{Fault}
+use Rattle.said.specs.declared.Busy.{Busy}
 use Rattle.table.specs.Runs.{covers}
 use Rattle.report.specs.Bytes.{Report, reportBytes, reportLength}
 use Rattle.report.proofs.Lengths.{report-length}
+use Rattle.rules.specs.BusyTypes.{reportPlace, isBusy}
+use Rattle.calendar.specs.declared.Fault.{Fault}
 use Rattle.refusals.specs.Refusals.{lowest}
 use Rattle.collecting.specs.ReportCalls.{ReportCall, coveredIn, reportFor}
 use Rattle.engine.specs.Answers.{Outcome, verdict, report, outcomeOf, unlessRefused}

@@ -7,11 +7,11 @@ use lib.IntN.{ℤ}
 use lib.ListN.{length}
 use borrow.Author.Tests.{not-false}
 use Rattle.ascii.proofs.Bools.{and-left, and-right, not-so}
-use Rattle.values.specs.declared.said.Busy.{Busy}
-use Rattle.rules.specs.BusyTypes.{isBusy, reportPlace}
-use Rattle.calendar.specs.declared.Fault.{Fault}
+use Rattle.said.specs.declared.Busy.{Busy}
 use Rattle.report.specs.Bytes.{Report, reportBytes, GoodPeriods, Writable}
 use Rattle.report.specs.Writing.{byType, reportOf}
+use Rattle.rules.specs.BusyTypes.{isBusy, reportPlace}
+use Rattle.calendar.specs.declared.Fault.{Fault}
 use Rattle.refusals.specs.Refusals.{Row, lowest, sizeRows, calendarRows, contentsRows}
 use Rattle.refusals.specs.Offsets.{offsetGood}
 use Rattle.refusals.proofs.Tables.{none-iff, stage-passed, stage-refused}

@@ -11,23 +11,23 @@ use borrow.Author.Tests.{le-ltb}
 use Rattle.ascii.proofs.Bools.{and-both}
 use Rattle.text.specs.Unfolding.{unfolded}
 use Rattle.values.specs.declared.period.Period.{Period}
-use Rattle.values.specs.declared.said.Busy.{Busy}
-use Rattle.rules.specs.BusyTypes.{reportPlace, isBusy, BusyPeriod, typed}
-use Rattle.calendar.specs.Meaning.{faultOf}
-use Rattle.calendar.specs.declared.Fault.{Fault}
+use Rattle.said.specs.declared.Busy.{Busy}
 use Rattle.table.specs.Runs.{Rising, Lies}
 use Rattle.table.proofs.Runs.{rising-lies, runs-only}
 use Rattle.report.specs.Bytes.{Report, reportBytes, Writable, periodCount}
+use Rattle.rules.specs.BusyTypes.{reportPlace, isBusy, BusyPeriod, typed}
+use Rattle.calendar.specs.Meaning.{faultOf}
+use Rattle.calendar.specs.declared.Fault.{Fault}
 use Rattle.pieces.specs.Pieces.{busyPieces}
 use Rattle.pieces.proofs.Clipping.{Inside, piecesOf-same}
-use Rattle.readback.specs.Reading.{reportPeriods, reportMeaning}
-use Rattle.readback.proofs.Lines.{report-unfolds}
-use Rattle.readback.proofs.Meaning.{report-means}
-use Rattle.readback.proofs.Sizes.{report-short}
 use Rattle.refusals.specs.Refusals.{lowest, calendarRows}
 use Rattle.refusals.specs.Offsets.{offsetGood, contextOf}
 use Rattle.refusals.proofs.Tables.{none-iff, row-passed}
 use Rattle.refusals.proofs.Passing.{sizes-good, sizes-passed, calendar-lowest, calendar-passed}
+use Rattle.readback.specs.Reading.{reportPeriods, reportMeaning}
+use Rattle.readback.proofs.Lines.{report-unfolds}
+use Rattle.readback.proofs.Meaning.{report-means}
+use Rattle.readback.proofs.Sizes.{report-short}
 use Rattle.collecting.specs.ReportCalls.{ReportCall, rangeGood, stampGood, coveredIn, piecesFor, reportFor, collectRows}
 use Rattle.engine.specs.Reporting.{reportRows, Reported}
 use Rattle.engine.specs.Meanings.{NoRefusal, IsReport, OnReport, ReadsBack}

@@ -11,14 +11,14 @@ use lib.ListN.{length}
 use borrow.Author.Tests.{ltb-true, ltb-false, leb-true, not-false}
 use Rattle.ascii.proofs.Bools.{and-left, and-right}
 use Rattle.values.specs.declared.period.Period.{Period}
-use Rattle.values.specs.declared.said.Busy.{Busy}
-use Rattle.rules.specs.BusyTypes.{reportPlace, isBusy, sameBusy, BusyPeriod}
+use Rattle.said.specs.declared.Busy.{Busy}
 use Rattle.table.specs.Runs.{covers, Rising, Lies}
 use Rattle.table.specs.Runs.Rising.{none, then}
 use Rattle.table.proofs.Runs.{runs-rising, runs-same, runs-here}
 use Rattle.table.proofs.Inserting.{fewest}
 use Rattle.table.proofs.Stretches.{within-true}
 use Rattle.report.specs.Bytes.{Report, busyLines, reportLines, reportBytes, GoodPeriods, Writable, periodCount}
+use Rattle.rules.specs.BusyTypes.{reportPlace, isBusy, sameBusy, BusyPeriod}
 use Rattle.pieces.specs.BusyPeriods.{busyPeriods}
 use Rattle.pieces.specs.Covered.{ofType, coveredBy, covered}
 use Rattle.pieces.specs.Pieces.{busyPieces}

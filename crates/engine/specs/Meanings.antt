@@ -6,7 +6,7 @@ use mathlib.Core.List.{List}
 use mathlib.Core.Logic.{_↔_}
 use lib.ListN.{length, take}
 use lib.IntN.{ℤ}
-use Rattle.values.specs.declared.said.Busy.{Busy}
+use Rattle.said.specs.declared.Busy.{Busy}
 use Rattle.rules.specs.BusyTypes.{isBusy}
 use Rattle.pieces.specs.Covered.{Covers}
 use Rattle.refusals.specs.Refusals.{RowApplies}

@@ -9,23 +9,23 @@ use borrow.Author.Tests.{eqb-true, ltb-true, not-true}
 use Rattle.ascii.specs.Bytes.{isDigit, upper}
 use Rattle.ascii.specs.Names.{sameName}
 use Rattle.ascii.proofs.Bools.{and-left, and-right, clash, not-so}
-use Rattle.line.specs.Pieces.{firstOutside, before, after, pieces}
-use Rattle.line.specs.Reading.{headOf, valueOf, nameOf, parameterTexts, lineOf, parametersNamed, someList, hasParameter, hasTwice, hasList}
 use Rattle.time.specs.DateTime.{digitPair, pairAt, joined, yearAt, checkedDay, three, dateAt, checkedTime, timeAt, clockOf, clockAt, readDateTime}
 use Rattle.time.specs.Days.{isLeap, yearDays, daysBeforeYear, monthLengths, lengthIn, beforeIn, monthDays, daysBeforeMonth, dayNumber, isDay}
 use Rattle.time.specs.Duration.{timeStart, nextStage, weightOf, blank, withDigit, fitting, unitTo, withUnit, step, runs as textRuns, finish, durationText, durationSeconds, withinLimit, limited, readDuration}
 use Rattle.time.specs.Limits.{epoch, lastSecond, since, utcSecond}
 use Rattle.time.specs.declared.date_time.Kind.{Kind}
-use Rattle.values.specs.Said.{timesOr, eventProperty, propertyOf, timeIn, startBy, unlessZoned, durationBy, saidBy, sayingOf}
+use Rattle.line.specs.Pieces.{firstOutside, before, after, pieces}
+use Rattle.line.specs.Reading.{headOf, valueOf, nameOf, parameterTexts, lineOf, parametersNamed, someList, hasParameter, hasTwice, hasList}
 use Rattle.values.specs.Times.{atSecond, timeBy, readTime, formOf, timeOf}
 use Rattle.values.specs.declared.period.Period.{Period}
-use Rattle.values.specs.declared.said.Busy.{Busy}
-use Rattle.values.specs.declared.said.Saying.{Saying}
+use Rattle.said.specs.Said.{timesOr, eventProperty, propertyOf, timeIn, startBy, unlessZoned, durationBy, saidBy, sayingOf}
+use Rattle.said.specs.declared.Busy.{Busy}
+use Rattle.said.specs.declared.Saying.{Saying}
+use Rattle.table.specs.Runs.{period, within, covers, lead, leadIf, runs}
 use Rattle.rules.specs.BusyTypes.{reportPlace, sameBusy}
 use Rattle.rules.specs.declared.Event.{Event}
 use Rattle.calendar.specs.Meaning.{faultOr, byValues, faultOf}
 use Rattle.calendar.specs.declared.Fault.{Fault}
-use Rattle.table.specs.Runs.{period, within, covers, lead, leadIf, runs}
 use Rattle.busy.specs.Candidates.{firstAt, spanOf, candidateOf, startsBefore}
 use Rattle.busy.specs.Instances.{stepOf, startOf, repeats, isInstance, stands, defaultLength, lengthBy, endOf}
 use Rattle.busy.specs.TimeRange.{touches, instanceIn}

@@ -6,12 +6,12 @@ use mathlib.Core.List.{List, [], _∷_, _++_, append-nil}
 use native.Mathlib.Omega.{arith}
 use borrow.Author.Tests.{ltb-true}
 use Rattle.ascii.proofs.Bools.{and-right, not-so}
-use Rattle.values.specs.declared.said.Busy.{Busy}
+use Rattle.said.specs.declared.Busy.{Busy}
+use Rattle.table.specs.Inserting.{lesser, greater}
+use Rattle.table.proofs.Stretches.{greater-right, lesser-right}
 use Rattle.rules.specs.BusyTypes.{isBusy, BusyPeriod}
 use Rattle.rules.specs.Events.{event}
 use Rattle.rules.specs.declared.Event.{Event}
-use Rattle.table.specs.Inserting.{lesser, greater}
-use Rattle.table.proofs.Stretches.{greater-right, lesser-right}
 use Rattle.busy.specs.Instances.{startOf, endOf, stands, lengthBy, instancesAtMost}
 use Rattle.pieces.specs.BusyPeriods.{listBelow, instancePeriod, eventPeriods, entryPeriods, busyPeriods, busyPeriod}
 use Rattle.pieces.specs.Pieces.{clipped, isPiece, piecesOf, busyPieces}

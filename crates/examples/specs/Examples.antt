@@ -5,15 +5,16 @@ use mathlib.Core.Path.{_≡_}
 use mathlib.Core.Bool.{Bool, true, false}
 use mathlib.Core.List.{List, [], _∷_, _++_}
 use Rattle.ascii.specs.Words.{ascii}
-use Rattle.line.specs.Reading.{lineOf}
 use Rattle.time.specs.Duration.{durationSeconds}
 use Rattle.time.specs.declared.date_time.Kind.{Kind}
 use Rattle.time.specs.declared.duration.Duration.{Duration}
-use Rattle.values.specs.Said.{sayingOf}
+use Rattle.line.specs.Reading.{lineOf}
 use Rattle.values.specs.declared.period.Period.{Period}
-use Rattle.values.specs.declared.said.Busy.{Busy}
-use Rattle.values.specs.declared.said.Saying.{Saying}
-use Rattle.values.specs.declared.said.Scope.{Scope}
+use Rattle.said.specs.Said.{sayingOf}
+use Rattle.said.specs.declared.Busy.{Busy}
+use Rattle.said.specs.declared.Saying.{Saying}
+use Rattle.said.specs.declared.Scope.{Scope}
+use Rattle.table.specs.Runs.{period, runs}
 use Rattle.rules.specs.Events.{Entry, event, block}
 use Rattle.rules.specs.BusyTypes.{BusyPeriod}
 use Rattle.rules.specs.declared.Bound.{Bound}
@@ -23,7 +24,6 @@ use Rattle.rules.specs.declared.Repeat.{Repeat}
 use Rattle.calendar.specs.Meaning.{calendar, faultOr, byValues, faultOf}
 use Rattle.calendar.specs.declared.Fault.{Fault}
 use Rattle.calendar.specs.declared.ValueCheck.{ValueCheck}
-use Rattle.table.specs.Runs.{period, runs}
 use Rattle.busy.specs.Instances.{startOf, stands}
 use Rattle.busy.specs.TimeRange.{EventIn, Decides}
 use Rattle.pieces.specs.Covered.{covered}

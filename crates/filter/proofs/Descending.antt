@@ -9,24 +9,24 @@ use lib.ListN.{length}
 use borrow.Author.Tests.{eq-eqb, ne-eqb}
 use Rattle.ascii.specs.Names.{sameName}
 use Rattle.text.specs.Lines.{part}
-use Rattle.line.specs.Reading.{valueOf, lineOf}
-use Rattle.nesting.specs.Components.{Items, Component, itemsOf, componentsIn, propertiesIn}
-use Rattle.nesting.specs.Passing.{linesFrom, treeIn}
-use Rattle.nesting.proofs.Stepping.{tree-from}
-use Rattle.values.specs.declared.times.Context.{Context}
-use Rattle.values.specs.declared.said.Scope.{Scope}
-use Rattle.calendar.specs.Meaning.{scopeOf, componentScope}
-use Rattle.calendar.specs.Places.{componentsFrom, componentAt as placedAt}
 use Rattle.query.specs.Fits.{Fits}
 use Rattle.query.specs.Records.{textOf, componentAt}
 use Rattle.query.specs.Counting.{implies}
 use Rattle.query.specs.declared.Sections.{Sections}
 use Rattle.query.specs.declared.ComponentRecord.{ComponentRecord}
+use Rattle.line.specs.Reading.{valueOf, lineOf}
 use Rattle.paper.specs.Paper.{GoodComponent}
 use Rattle.paper.specs.WellFormed.{recordsGood}
 use Rattle.paper.proofs.WellFormed.{records-say}
+use Rattle.values.specs.declared.times.Context.{Context}
+use Rattle.said.specs.declared.Scope.{Scope}
+use Rattle.nesting.specs.Components.{Items, Component, itemsOf, componentsIn, propertiesIn}
+use Rattle.nesting.specs.Passing.{linesFrom, treeIn}
+use Rattle.nesting.proofs.Stepping.{tree-from}
 use Rattle.properties.specs.PropertyTests.{propertiesHold, propertiesAt}
 use Rattle.properties.proofs.Properly.{properties-by-place}
+use Rattle.calendar.specs.Meaning.{scopeOf, componentScope}
+use Rattle.calendar.specs.Places.{componentsFrom, componentAt as placedAt}
 use Rattle.filter.specs.Tests.{rangeHolds, someComponentNamed, someComponent, componentHolds, childrenHold, componentTest, queryHolds}
 use Rattle.filter.specs.Trials.{trialOf, trialWhere, hereAlone, trialHere, trialHolds, SmallTrial}
 use Rattle.filter.specs.declared.trials.Trial.{Trial}

@@ -5,17 +5,21 @@ use mathlib.Core.Bool.{Bool, true, false, _||_, or-false}
 use mathlib.Core.List.{List, [], _∷_}
 use native.Mathlib.Omega.{arith}
 use Rattle.ascii.proofs.Bools.{clash}
+use Rattle.query.specs.Counting.{someBelow}
+use Rattle.query.proofs.Counting.{none-at}
 use Rattle.line.specs.Grammar.{ContentLine}
 use Rattle.line.specs.Reading.{valueOf, lineOf}
+use Rattle.values.specs.Period.{goodPeriods, periodsIn}
+use Rattle.values.specs.declared.times.Context.{Context}
+use Rattle.values.specs.declared.period.Period.{Period}
+use Rattle.said.specs.Said.{sayingOf}
+use Rattle.said.specs.declared.Scope.{Scope}
+use Rattle.said.specs.declared.Saying.{Saying}
+use Rattle.said.specs.declared.Busy.{Busy}
 use Rattle.nesting.specs.Components.{Numbered, Items, Component, itemsOf, propertiesIn}
 use Rattle.nesting.specs.Passing.{linesFrom}
-use Rattle.values.specs.Period.{goodPeriods, periodsIn}
-use Rattle.values.specs.Said.{sayingOf}
-use Rattle.values.specs.declared.times.Context.{Context}
-use Rattle.values.specs.declared.said.Scope.{Scope}
-use Rattle.values.specs.declared.said.Saying.{Saying}
-use Rattle.values.specs.declared.said.Busy.{Busy}
-use Rattle.values.specs.declared.period.Period.{Period}
+use Rattle.properties.specs.PropertyTests.{propertiesAt}
+use Rattle.properties.proofs.Lines.{SomeOf}
 use Rattle.rules.specs.BusyTypes.{BusyPeriod, typed}
 use Rattle.rules.specs.declared.Event.{Event}
 use Rattle.rules.specs.declared.Block.{Block}
@@ -31,10 +35,6 @@ use Rattle.busy.proofs.Searching.{few-before}
 use Rattle.busy.proofs.Starts.{in-range-starts}
 use Rattle.busy.proofs.PeriodLists.{periods-append}
 use Rattle.busy.specs.Instances.{instancesAtMost}
-use Rattle.query.specs.Counting.{someBelow}
-use Rattle.query.proofs.Counting.{none-at}
-use Rattle.properties.specs.PropertyTests.{propertiesAt}
-use Rattle.properties.proofs.Lines.{SomeOf}
 use Rattle.filter.specs.Tests.{blockRangeIn}
 use Rattle.filter.specs.Places.{somePeriodIn, saysPeriods, lineIn, linesIn, blockLinesIn}
 

@@ -10,11 +10,22 @@ use borrow.Author.Tests.{eqb-true, eqb-false, eq-eqb, ne-eqb, not-true}
 use Rattle.ascii.specs.Names.{sameName}
 use Rattle.ascii.proofs.Bools.{and-left, and-right, and-both, clash, not-so}
 use Rattle.text.specs.TextMatch.{contains}
+use Rattle.query.specs.Records.{rangeStart, rangeEnd, textOf, componentAt, propertyAt, parameterAt}
+use Rattle.query.specs.Counting.{everyBelow, implies}
+use Rattle.query.specs.declared.Sections.{Sections}
+use Rattle.query.specs.declared.PropertyRecord.{PropertyRecord}
+use Rattle.query.specs.declared.ParameterRecord.{ParameterRecord}
+use Rattle.query.proofs.Counting.{every-at, every-all, or-left, or-right}
 use Rattle.line.specs.Grammar.{ContentLine}
 use Rattle.line.specs.Reading.{hasParameter, valuesNamed}
-use Rattle.nesting.specs.Components.{Numbered, Items, Component, componentsIn, propertiesIn}
+use Rattle.paper.specs.WellFormed.{recordsGood}
+use Rattle.paper.proofs.WellFormed.{records-say}
 use Rattle.values.specs.declared.times.Context.{Context}
-use Rattle.values.specs.declared.said.Scope.{Scope}
+use Rattle.said.specs.declared.Scope.{Scope}
+use Rattle.nesting.specs.Components.{Numbered, Items, Component, componentsIn, propertiesIn}
+use Rattle.properties.specs.PropertyTests.{collationOf, textHolds, someValue, parameterHolds, parameterPasses, parametersHold, someNamed, lineHolds, someLine, propertyHolds, propertyPasses, propertiesHold}
+use Rattle.properties.proofs.Lines.{SomeOf}
+use Rattle.properties.proofs.Properly.{named-lines, holding-lines}
 use Rattle.rules.specs.BusyTypes.{BusyPeriod}
 use Rattle.rules.specs.declared.Event.{Event}
 use Rattle.rules.specs.declared.EventRead.{EventRead}
@@ -28,17 +39,6 @@ use Rattle.busy.proofs.PeriodLists.{periods-iff}
 use Rattle.busy.proofs.Searching.{search-finds, decided-once}
 use Rattle.busy.proofs.EventSizes.{event-sizes}
 use Rattle.busy.specs.Instances.{instancesAtMost}
-use Rattle.query.specs.Records.{rangeStart, rangeEnd, textOf, componentAt, propertyAt, parameterAt}
-use Rattle.query.specs.Counting.{everyBelow, implies}
-use Rattle.query.specs.declared.Sections.{Sections}
-use Rattle.query.specs.declared.PropertyRecord.{PropertyRecord}
-use Rattle.query.specs.declared.ParameterRecord.{ParameterRecord}
-use Rattle.query.proofs.Counting.{every-at, every-all, or-left, or-right}
-use Rattle.paper.specs.WellFormed.{recordsGood}
-use Rattle.paper.proofs.WellFormed.{records-say}
-use Rattle.properties.specs.PropertyTests.{collationOf, textHolds, someValue, parameterHolds, parameterPasses, parametersHold, someNamed, lineHolds, someLine, propertyHolds, propertyPasses, propertiesHold}
-use Rattle.properties.proofs.Lines.{SomeOf}
-use Rattle.properties.proofs.Properly.{named-lines, holding-lines}
 use Rattle.filter.specs.Tests.{eventIn, blockRangeIn, componentIn, rangeHolds, someComponentNamed, someComponent, componentHolds, childrenHold, componentTest, queryHolds}
 use Rattle.filter.specs.Paper.{ValuePasses, ParameterPasses, LinePasses, PropertyPasses, ComponentIn, RangePasses, ComponentPasses, QueryPasses}
 use Rattle.filter.proofs.InRange.{both-ends, some-at, some-decides}

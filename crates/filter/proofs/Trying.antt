@@ -7,10 +7,15 @@ use native.Mathlib.Omega.{arith}
 use lib.Dec.{eqb}
 use borrow.Author.Count.{below-more}
 use borrow.Author.Tests.{eqb-true, eqb-false}
+use Rattle.query.specs.Records.{rangeStart, rangeEnd}
+use Rattle.query.specs.declared.Sections.{Sections}
+use Rattle.paper.specs.WellFormed.{recordsGood}
+use Rattle.paper.proofs.WellFormed.{records-say}
+use Rattle.values.specs.declared.times.Context.{Context}
+use Rattle.said.specs.declared.Scope.{Scope}
 use Rattle.nesting.specs.Components.{Component, itemsOf}
 use Rattle.nesting.specs.Passing.{linesFrom}
-use Rattle.values.specs.declared.times.Context.{Context}
-use Rattle.values.specs.declared.said.Scope.{Scope}
+use Rattle.properties.specs.PropertyTests.{propertiesAt}
 use Rattle.rules.specs.declared.Event.{Event}
 use Rattle.rules.specs.declared.EventRead.{EventRead}
 use Rattle.rules.specs.declared.BlockRead.{BlockRead}
@@ -22,11 +27,6 @@ use Rattle.busy.specs.Sizes.{Small}
 use Rattle.busy.specs.Candidates.{FirstCandidate}
 use Rattle.busy.proofs.EventSizes.{event-sizes}
 use Rattle.busy.proofs.Searching.{search-finds, search-ends, decided-once, few-before}
-use Rattle.query.specs.Records.{rangeStart, rangeEnd}
-use Rattle.query.specs.declared.Sections.{Sections}
-use Rattle.paper.specs.WellFormed.{recordsGood}
-use Rattle.paper.proofs.WellFormed.{records-say}
-use Rattle.properties.specs.PropertyTests.{propertiesAt}
 use Rattle.filter.specs.Tests.{eventIn, blockRangeIn, componentIn, rangeHolds}
 use Rattle.filter.specs.Places.{blockLinesIn}
 use Rattle.filter.specs.Trials.{eventTrial, trialIn, trialOf, trialWhere, trialHolds, trialPasses, trialGoesOn, Tried, SmallTrial}

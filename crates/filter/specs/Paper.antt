@@ -5,11 +5,16 @@ use mathlib.Core.Bool.{true, false}
 use mathlib.Core.List.{List, List·Memᴰ}
 use Rattle.ascii.specs.Names.{sameName}
 use Rattle.text.specs.TextMatch.{contains}
+use Rattle.query.specs.Records.{rangeStart, rangeEnd, textOf, componentAt, propertyAt, parameterAt}
+use Rattle.query.specs.declared.Sections.{Sections}
+use Rattle.query.specs.declared.PropertyRecord.{PropertyRecord}
+use Rattle.query.specs.declared.ParameterRecord.{ParameterRecord}
 use Rattle.line.specs.Grammar.{ContentLine}
 use Rattle.line.specs.Reading.{hasParameter, valuesNamed}
-use Rattle.nesting.specs.Components.{Numbered, Items, Component, componentsIn, propertiesIn}
 use Rattle.values.specs.declared.times.Context.{Context}
-use Rattle.values.specs.declared.said.Scope.{Scope}
+use Rattle.said.specs.declared.Scope.{Scope}
+use Rattle.nesting.specs.Components.{Numbered, Items, Component, componentsIn, propertiesIn}
+use Rattle.properties.specs.PropertyTests.{collationOf}
 use Rattle.rules.specs.declared.Event.{Event}
 use Rattle.rules.specs.declared.EventRead.{EventRead}
 use Rattle.rules.specs.declared.Bound.{Bound}
@@ -18,11 +23,6 @@ use Rattle.rules.specs.declared.BlockRead.{BlockRead}
 use Rattle.calendar.specs.Meaning.{componentScope, eventOf, blockOf, blockPeriods}
 use Rattle.busy.specs.TimeRange.{EventIn, betweenIn}
 use Rattle.busy.specs.Blocks.{PeriodIn}
-use Rattle.query.specs.Records.{rangeStart, rangeEnd, textOf, componentAt, propertyAt, parameterAt}
-use Rattle.query.specs.declared.Sections.{Sections}
-use Rattle.query.specs.declared.PropertyRecord.{PropertyRecord}
-use Rattle.query.specs.declared.ParameterRecord.{ParameterRecord}
-use Rattle.properties.specs.PropertyTests.{collationOf}
 
 -- ---- a value against a record's text, its collation and its flag
 

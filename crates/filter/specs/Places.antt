@@ -3,12 +3,12 @@ use Prim.Native.Nat.{ℕ}
 use mathlib.Core.Bool.{Bool, true, false, _||_}
 use mathlib.Core.List.{List, [], _∷_}
 use Rattle.line.specs.Grammar.{ContentLine}
-use Rattle.nesting.specs.Components.{Numbered}
-use Rattle.values.specs.Said.{sayingOf}
 use Rattle.values.specs.declared.times.Context.{Context}
-use Rattle.values.specs.declared.said.Scope.{Scope}
-use Rattle.values.specs.declared.said.Saying.{Saying}
 use Rattle.values.specs.declared.period.Period.{Period}
+use Rattle.said.specs.Said.{sayingOf}
+use Rattle.said.specs.declared.Scope.{Scope}
+use Rattle.said.specs.declared.Saying.{Saying}
+use Rattle.nesting.specs.Components.{Numbered}
 use Rattle.rules.specs.declared.BlockRead.{BlockRead}
 use Rattle.calendar.specs.Meaning.{periodsBy, blockPeriods}
 use Rattle.busy.specs.TimeRange.{touches, periodsTouch, blockIn}

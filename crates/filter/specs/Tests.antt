@@ -5,20 +5,20 @@ use mathlib.Core.Bool.{Bool, true, false, cond, not, _&&_, _||_}
 use mathlib.Core.List.{List, [], _∷_}
 use lib.Dec.{eqb}
 use Rattle.ascii.specs.Names.{sameName}
-use Rattle.nesting.specs.Components.{Items, Component, componentsIn, propertiesIn}
+use Rattle.query.specs.Records.{rangeStart, rangeEnd, textOf, componentAt}
+use Rattle.query.specs.Counting.{someBelow, implies}
+use Rattle.query.specs.declared.Sections.{Sections}
+use Rattle.query.specs.declared.ComponentRecord.{ComponentRecord}
 use Rattle.values.specs.declared.times.Context.{Context}
-use Rattle.values.specs.declared.said.Scope.{Scope}
+use Rattle.said.specs.declared.Scope.{Scope}
+use Rattle.nesting.specs.Components.{Items, Component, componentsIn, propertiesIn}
+use Rattle.properties.specs.PropertyTests.{propertiesHold}
 use Rattle.rules.specs.declared.Event.{Event}
 use Rattle.rules.specs.declared.EventRead.{EventRead}
 use Rattle.rules.specs.declared.BlockRead.{BlockRead}
 use Rattle.calendar.specs.Meaning.{componentScope, eventOf, blockOf, blockPeriods}
 use Rattle.busy.specs.TimeRange.{instanceIn, blockIn}
 use Rattle.busy.specs.Instances.{instancesAtMost}
-use Rattle.query.specs.Records.{rangeStart, rangeEnd, textOf, componentAt}
-use Rattle.query.specs.Counting.{someBelow, implies}
-use Rattle.query.specs.declared.Sections.{Sections}
-use Rattle.query.specs.declared.ComponentRecord.{ComponentRecord}
-use Rattle.properties.specs.PropertyTests.{propertiesHold}
 
 -- some instance of the event is in the range
 unfoldable pub eventIn : EventRead → ℕ → ℕ → Bool

@@ -5,10 +5,14 @@ use mathlib.Core.Bool.{Bool, true, false, _&&_}
 use mathlib.Core.List.{List}
 use lib.Dec.{eqb}
 use Rattle.ascii.specs.Names.{sameName}
+use Rattle.query.specs.Records.{rangeStart, rangeEnd, textOf, componentAt}
+use Rattle.query.specs.Counting.{someBelow}
+use Rattle.query.specs.declared.Sections.{Sections}
+use Rattle.values.specs.declared.times.Context.{Context}
+use Rattle.said.specs.declared.Scope.{Scope}
 use Rattle.nesting.specs.Components.{itemsOf}
 use Rattle.nesting.specs.Passing.{linesFrom}
-use Rattle.values.specs.declared.times.Context.{Context}
-use Rattle.values.specs.declared.said.Scope.{Scope}
+use Rattle.properties.specs.PropertyTests.{propertiesHold, propertiesAt}
 use Rattle.rules.specs.declared.EventRead.{EventRead}
 use Rattle.calendar.specs.Meaning.{scopeOf}
 use Rattle.calendar.specs.Places.{eventAt, blockAt}
@@ -16,10 +20,6 @@ use Rattle.busy.specs.Sizes.{Small}
 use Rattle.busy.specs.TimeRange.{instanceIn}
 use Rattle.busy.specs.Candidates.{startsBefore}
 use Rattle.busy.specs.Instances.{instancesAtMost}
-use Rattle.query.specs.Records.{rangeStart, rangeEnd, textOf, componentAt}
-use Rattle.query.specs.Counting.{someBelow}
-use Rattle.query.specs.declared.Sections.{Sections}
-use Rattle.properties.specs.PropertyTests.{propertiesHold, propertiesAt}
 use Rattle.filter.specs.Tests.{childrenHold}
 use Rattle.filter.specs.Places.{blockLinesIn}
 use Rattle.filter.specs.declared.trials.Trial.{Trial}

@@ -10,18 +10,17 @@ use nesting::items::Item;
 use rules::Block;
 use rules::BlockRead;
 use rules::Bound;
-use values::said;
-use values::said::Saying;
-use values::said::Scope;
+use said::Saying;
+use said::Scope;
 use values::times::Context;
 ghost use mathlib.Core.Path.{_≡_};
 ghost use Prim.Native.Nat.{_≤_};
 ghost use Rattle.line.specs.Reading.{lineOf};
+ghost use Rattle.properties.specs.PropertyTests.{propertiesAt};
 ghost use Rattle.calendar.specs.Meaning.{blockPeriods};
 ghost use Rattle.calendar.specs.Periods.{periodsFrom};
 ghost use Rattle.calendar.specs.Places.{blockAt};
 ghost use Rattle.busy.specs.TimeRange.{blockIn};
-ghost use Rattle.properties.specs.PropertyTests.{propertiesAt};
 ghost use Rattle.filter.specs.Places.{somePeriodIn, saysPeriods, lineIn, linesIn, blockLinesIn};
 
 // Does some period of a value touch the range?

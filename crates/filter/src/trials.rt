@@ -7,7 +7,7 @@ use query::Sections;
 use query::fields;
 use rules::Event;
 use rules::EventRead;
-use values::said::Scope;
+use said::Scope;
 use values::times::Context;
 ghost use mathlib.Core.Path.{_≡_};
 ghost use mathlib.Core.Bool.{true};

@@ -10,12 +10,12 @@ use lib.ListN.{length}
 use borrow.Author.Tests.{ltb-true, lt-ltb, le-ltb, eqb-true}
 use Rattle.ascii.proofs.Bools.{and-left, and-right, and-both, clash, not-so}
 use Rattle.values.specs.declared.period.Period.{Period}
-use Rattle.values.specs.declared.said.Busy.{Busy}
-use Rattle.rules.specs.BusyTypes.{reportPlace, isBusy, sameBusy, BusyPeriod}
-use Rattle.rules.specs.Events.{Entry}
+use Rattle.said.specs.declared.Busy.{Busy}
 use Rattle.table.specs.Runs.{period, within, covers}
 use Rattle.table.specs.Inserting.{lesser, greater}
 use Rattle.table.proofs.Stretches.{within-ends, within-true, greater-left, greater-right, greater-most, lesser-left, lesser-right, lesser-least, lesser-strict}
+use Rattle.rules.specs.BusyTypes.{reportPlace, isBusy, sameBusy, BusyPeriod}
+use Rattle.rules.specs.Events.{Entry}
 use Rattle.pieces.specs.BusyPeriods.{busyPeriods}
 use Rattle.pieces.specs.Covered.{ofType, coveredBy, covered}
 use Rattle.pieces.specs.Pieces.{clipped, isPiece, pieceOf, piecesOf, busyPieces}

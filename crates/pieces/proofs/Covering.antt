@@ -8,14 +8,14 @@ use native.Mathlib.Omega.{arith}
 use lib.Dec.{ltb}
 use borrow.Author.Tests.{ltb-true, ltb-false}
 use Rattle.ascii.proofs.Bools.{and-left, and-right, and-both, clash}
-use Rattle.values.specs.declared.said.Busy.{Busy}
+use Rattle.said.specs.declared.Busy.{Busy}
+use Rattle.table.proofs.Stretches.{within-ends, within-true}
 use Rattle.rules.specs.BusyTypes.{sameBusy, BusyPeriod}
 use Rattle.rules.specs.Events.{Entry, event, block}
 use Rattle.rules.specs.Sizes.{EventSmall}
 use Rattle.rules.specs.declared.Event.{Event}
 use Rattle.rules.specs.declared.Block.{Block}
 use Rattle.rules.proofs.BusyPlaces.{sameBusy-iff}
-use Rattle.table.proofs.Stretches.{within-ends, within-true}
 use Rattle.busy.specs.Instances.{startOf, endOf, stands, instancesAtMost}
 use Rattle.busy.specs.Sizes.{Small}
 use Rattle.busy.proofs.Bounds.{starts-long}

@@ -9,11 +9,11 @@ use lib.ListN.{length}
 use lib.Seq.{sets}
 use borrow.Author.Tests.{ltb-true, ltb-false, lt-ltb, eqb-true}
 use Rattle.ascii.proofs.Bools.{and-left, and-right, and-both, clash, not-so}
-use Rattle.values.specs.declared.said.Busy.{Busy}
-use Rattle.rules.specs.BusyTypes.{reportPlace, isBusy, BusyPeriod}
-use Rattle.rules.specs.declared.Event.{Event}
+use Rattle.said.specs.declared.Busy.{Busy}
 use Rattle.table.specs.Inserting.{lesser, greater}
 use Rattle.table.proofs.Stretches.{greater-left, greater-right, lesser-left, lesser-right}
+use Rattle.rules.specs.BusyTypes.{reportPlace, isBusy, BusyPeriod}
+use Rattle.rules.specs.declared.Event.{Event}
 use Rattle.busy.specs.Instances.{startOf, endOf, stands, lengthBy, instancesAtMost}
 use Rattle.busy.specs.Sizes.{Small}
 use Rattle.busy.specs.TimeRange.{touches, instanceIn}

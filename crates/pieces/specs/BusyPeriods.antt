@@ -2,11 +2,11 @@
 use Prim.Native.Nat.{ℕ, zero, suc}
 use mathlib.Core.Bool.{true, false}
 use mathlib.Core.List.{List, [], _∷_, _++_}
-use Rattle.values.specs.declared.said.Busy.{Busy}
+use Rattle.said.specs.declared.Busy.{Busy}
+use Rattle.table.specs.Runs.{period}
 use Rattle.rules.specs.Events.{Entry, event, block}
 use Rattle.rules.specs.BusyTypes.{BusyPeriod}
 use Rattle.rules.specs.declared.Event.{Event}
-use Rattle.table.specs.Runs.{period}
 use Rattle.busy.specs.Instances.{startOf, endOf, stands, instancesAtMost}
 
 abbrev pub busyPeriod : Busy → ℕ → ℕ → BusyPeriod

@@ -4,12 +4,12 @@ use mathlib.Core.Path.{_≡_}
 use mathlib.Core.Bool.{Bool, true, false}
 use mathlib.Core.List.{List, [], _∷_, List·Memᴰ}
 use Rattle.values.specs.declared.period.Period.{Period}
-use Rattle.values.specs.declared.said.Busy.{Busy}
+use Rattle.said.specs.declared.Busy.{Busy}
+use Rattle.table.specs.Runs.{covers}
 use Rattle.rules.specs.BusyTypes.{sameBusy, BusyPeriod}
 use Rattle.rules.specs.Events.{Entry, event, block}
 use Rattle.rules.specs.declared.Event.{Event}
 use Rattle.rules.specs.declared.Block.{Block}
-use Rattle.table.specs.Runs.{covers}
 use Rattle.busy.specs.Instances.{startOf, endOf, stands}
 use Rattle.pieces.specs.BusyPeriods.{busyPeriods}
 

@@ -4,7 +4,7 @@ use busy::instance;
 use busy::time_range;
 use rules::Event;
 use rules::events;
-use values::said::Busy;
+use said::Busy;
 ghost use mathlib.Core.Path.{_≡_};
 ghost use mathlib.Core.List.{[], _∷_};
 ghost use Prim.Native.Nat.{_*_, _≤_, _<_};

@@ -14,6 +14,8 @@ use Rattle.ascii.proofs.Bools.{and-left, and-right, and-both}
 use Rattle.ascii.proofs.Lists.{every-append}
 use Rattle.text.specs.Unfolding.{unfolded}
 use Rattle.text.specs.Lines.{joined}
+use Rattle.time.specs.Writing.{utcText, isUtcByte}
+use Rattle.time.proofs.Written.{utcText-length, utcText-bytes}
 use Rattle.line.specs.Grammar.{ContentLine, parameter, contentLine, isQuotable, isUnquoted, isValueByte}
 use Rattle.line.specs.WellFormed.{lineCheck}
 use Rattle.line.specs.Rendering.{renderedValue, renderedValues, renderedParameters, rendered, canRender, canRenderAll, Renderable, AllRenderable, no-line, one-more}
@@ -21,13 +23,11 @@ use Rattle.line.specs.File.{ReadBack}
 use Rattle.line.specs.declared.check.LineCheck.{LineCheck}
 use Rattle.line.proofs.Rendering.{renderable-append}
 use Rattle.line.proofs.File.{rendered-back}
-use Rattle.time.specs.Writing.{utcText, isUtcByte}
-use Rattle.time.proofs.Written.{utcText-length, utcText-bytes}
 use Rattle.values.specs.declared.period.Period.{Period}
-use Rattle.values.specs.declared.said.Busy.{Busy}
+use Rattle.said.specs.declared.Busy.{Busy}
+use Rattle.report.specs.Bytes.{Report, periodHead, periodText, periodLines, busyLines, reportLines, reportBytes}
 use Rattle.rules.specs.BusyTypes.{BusyPeriod, typed}
 use Rattle.calendar.specs.Meaning.{fileLines}
-use Rattle.report.specs.Bytes.{Report, periodHead, periodText, periodLines, busyLines, reportLines, reportBytes}
 use Rattle.readback.specs.Reading.{reportPeriods}
 
 -- ---- the report as content lines

@@ -8,10 +8,11 @@ use Rattle.ascii.specs.Bytes.{upper}
 use Rattle.ascii.specs.Names.{sameName}
 use Rattle.time.specs.Limits.{lastSecond}
 use Rattle.marks.specs.Innermost.{isEvent, isFreeBusy}
+use Rattle.values.specs.declared.times.Context.{Context}
+use Rattle.said.specs.declared.Scope.{Scope}
 use Rattle.nesting.specs.Components.{propertiesIn}
 use Rattle.nesting.specs.WellNested.{numberedFrom}
-use Rattle.values.specs.declared.times.Context.{Context}
-use Rattle.values.specs.declared.said.Scope.{Scope}
+use Rattle.report.specs.Bytes.{Report, reportBytes, Writable}
 use Rattle.rules.specs.Gathered.{nothingGathered, timeGiven, gatheredWith, gather}
 use Rattle.rules.specs.Events.{blockBetween, blockFrom, blockBy, block}
 use Rattle.rules.specs.declared.Bound.{Bound}
@@ -21,7 +22,6 @@ use Rattle.calendar.specs.Meaning.{scopeOf, componentScope, sayingsIn, faultOr,
 use Rattle.calendar.specs.declared.ValueCheck.{ValueCheck}
 use Rattle.calendar.specs.declared.RuleCheck.{RuleCheck}
 use Rattle.calendar.proofs.Meanings.{not-refused}
-use Rattle.report.specs.Bytes.{Report, reportBytes, Writable}
 use Rattle.readback.specs.Reading.{reportPeriods, reportMeaning}
 use Rattle.readback.proofs.Lines.{blockContent, report-lines-good}
 use Rattle.readback.proofs.Nested.{blockComponent, flat-properties, report-nested, report-components}

@@ -4,9 +4,9 @@ use mathlib.Core.Bool.{Bool, true, false, cond}
 use mathlib.Core.List.{List, [], _∷_, _++_, append-nil}
 use Rattle.ascii.proofs.Bools.{clash}
 use Rattle.values.specs.declared.period.Period.{Period}
-use Rattle.values.specs.declared.said.Busy.{Busy}
-use Rattle.rules.specs.BusyTypes.{reportPlace, isBusy, sameBusy, BusyPeriod, typed}
+use Rattle.said.specs.declared.Busy.{Busy}
 use Rattle.report.specs.Bytes.{Report}
+use Rattle.rules.specs.BusyTypes.{reportPlace, isBusy, sameBusy, BusyPeriod, typed}
 use Rattle.pieces.specs.Covered.{ofType}
 use Rattle.pieces.proofs.Clipping.{ofType-append}
 use Rattle.readback.specs.Reading.{reportPeriods}

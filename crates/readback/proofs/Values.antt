@@ -6,31 +6,31 @@ use mathlib.Core.List.{List, [], _∷_, _++_, map}
 use Rattle.ascii.specs.Bytes.{upper}
 use Rattle.ascii.specs.Names.{sameName}
 use Rattle.ascii.specs.Words.{ascii}
-use Rattle.line.specs.Reading.{parametersNamed, someList, pooled, valuesNamed, hasParameter, hasTwice, hasList, firstValue}
 use Rattle.time.specs.Writing.{utcText}
 use Rattle.time.specs.Limits.{lastSecond}
 use Rattle.time.specs.declared.date_time.Kind.{Kind}
 use Rattle.time.proofs.Written.{read-written, second-written}
-use Rattle.nesting.specs.WellNested.{numberedFrom}
+use Rattle.line.specs.Reading.{parametersNamed, someList, pooled, valuesNamed, hasParameter, hasTwice, hasList, firstValue}
 use Rattle.values.specs.Period.{periodsIn, allPeriods, goodPeriods}
 use Rattle.values.specs.Times.{atSecond, timeBy, readTime, formOf, timeOf, utcOnly}
-use Rattle.values.specs.Said.{timesOr, freeBusyProperty, propertyOf, timeIn, startBy, endBy, unlessZoned, busyNamed, busyOf, periodsSaid, saidBy, sayingOf}
 use Rattle.values.specs.declared.period.Period.{Period}
 use Rattle.values.specs.declared.period.PeriodRead.{PeriodRead}
 use Rattle.values.specs.declared.times.Context.{Context}
 use Rattle.values.specs.declared.times.Time.{Time}
 use Rattle.values.specs.declared.times.TimeRead.{TimeRead}
-use Rattle.values.specs.declared.said.Scope.{Scope}
-use Rattle.values.specs.declared.said.Busy.{Busy}
-use Rattle.values.specs.declared.said.Saying.{Saying}
 use Rattle.values.proofs.Periods.{periodsIn-written}
+use Rattle.said.specs.Said.{timesOr, freeBusyProperty, propertyOf, timeIn, startBy, endBy, unlessZoned, busyNamed, busyOf, periodsSaid, saidBy, sayingOf}
+use Rattle.said.specs.declared.Scope.{Scope}
+use Rattle.said.specs.declared.Busy.{Busy}
+use Rattle.said.specs.declared.Saying.{Saying}
+use Rattle.nesting.specs.WellNested.{numberedFrom}
+use Rattle.report.specs.Bytes.{Report, periodText, GoodPeriods, Writable}
+use Rattle.report.specs.Bytes as Report
 use Rattle.rules.specs.Gathered.{gatheredWith, gather}
 use Rattle.rules.specs.BusyTypes.{BusyPeriod, typed}
 use Rattle.rules.specs.declared.Gathered.{Gathered}
 use Rattle.calendar.specs.Meaning.{sayingsIn, faultOr, faultIn, periodsBy, blockPeriods}
 use Rattle.calendar.specs.declared.ValueCheck.{ValueCheck}
-use Rattle.report.specs.Bytes.{Report, periodText, GoodPeriods, Writable}
-use Rattle.report.specs.Bytes as Report
 use Rattle.readback.specs.Reading.{reportPeriods}
 use Rattle.readback.proofs.Lines.{typeWord, plainLine, periodLine}
 

@@ -1,11 +1,11 @@
 -- A report read as a calendar (document 01, The report's bytes; demand 2): what its one block is, and its periods with their types.
 use mathlib.Core.List.{List, [], _∷_, _++_}
-use Rattle.values.specs.declared.said.Busy.{Busy}
+use Rattle.said.specs.declared.Busy.{Busy}
+use Rattle.report.specs.Bytes.{Report}
 use Rattle.rules.specs.Events.{block}
 use Rattle.rules.specs.BusyTypes.{BusyPeriod, typed}
 use Rattle.rules.specs.declared.Bound.{Bound}
 use Rattle.calendar.specs.Meaning.{Meaning, calendar}
-use Rattle.report.specs.Bytes.{Report}
 
 -- its periods in file order, each with its type
 unfoldable pub reportPeriods : Report → List BusyPeriod

@@ -5,13 +5,13 @@ use mathlib.Core.List.{List, [], _∷_, _++_, append-assoc}
 use native.Mathlib.Omega.{arith}
 use lib.ListN.{length, take, drop, getD, length-append, drop-of-length-le}
 use lib.Seq.{sets, sets-eq, length-sets, take-append-seam, drop-append-seam}
+use Rattle.text.specs.Lines.{joined}
 use Rattle.time.proofs.Putting.{sets-append}
 use Rattle.time.proofs.Written.{utcText-length}
 use Rattle.time.specs.Writing.{utcText}
 use Rattle.time.specs.Limits.{lastSecond}
-use Rattle.text.specs.Lines.{joined}
 use Rattle.values.specs.declared.period.Period.{Period}
-use Rattle.values.specs.declared.said.Busy.{Busy}
+use Rattle.said.specs.declared.Busy.{Busy}
 use Rattle.table.specs.Runs.{period}
 use Rattle.table.specs.Tables.{rows, listed}
 use Rattle.table.specs.declared.Table.{Table}

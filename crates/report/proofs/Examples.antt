@@ -8,7 +8,7 @@ use Rattle.text.specs.Lines.{joined}
 use Rattle.time.specs.Days.{isLeap, monthLengths, lengthIn, beforeIn, daysBeforeMonth, yearDays, daysBeforeYear}
 use Rattle.time.specs.Writing.{yearOf, dayOfYear, begun, monthIn, dayOf, digit, dateText, timeText, utcText}
 use Rattle.values.specs.declared.period.Period.{Period}
-use Rattle.values.specs.declared.said.Busy.{Busy}
+use Rattle.said.specs.declared.Busy.{Busy}
 use Rattle.table.specs.Runs.{period}
 use Rattle.report.specs.Bytes.{Report, periodHead, periodText, periodLines, busyLines, reportLines, reportBytes, reportLength}
 use Rattle.report.proofs.Lengths.{report-length}

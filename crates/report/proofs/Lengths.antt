@@ -8,7 +8,7 @@ use lib.ListN.{length, take, length-append}
 use Rattle.text.specs.Lines.{joined}
 use Rattle.time.specs.Writing.{utcText, dateText, timeText}
 use Rattle.values.specs.declared.period.Period.{Period}
-use Rattle.values.specs.declared.said.Busy.{Busy}
+use Rattle.said.specs.declared.Busy.{Busy}
 use Rattle.table.specs.Tables.{rows, listed, Sound}
 use Rattle.table.specs.declared.Table.{Table}
 use Rattle.report.specs.Bytes.{Report, periodHead, periodText, periodLines, busyLines, reportLines, reportBytes, reportLength}

@@ -14,7 +14,7 @@ use Rattle.ascii.proofs.Lists.{drop-next, drop-end}
 use Rattle.text.specs.Lines.{joined}
 use Rattle.time.specs.Writing.{utcText, dateText, timeText}
 use Rattle.values.specs.declared.period.Period.{Period}
-use Rattle.values.specs.declared.said.Busy.{Busy}
+use Rattle.said.specs.declared.Busy.{Busy}
 use Rattle.report.specs.Bytes.{Report, periodHead, periodText, periodLines, busyLines, reportBytes}
 use Rattle.report.specs.Heads.{begins, standsAt, stampHead, startHead, endHead, timed, opening, closing, opensReport, closesReport}
 use Rattle.report.proofs.Lengths.{report-parts, closing-length}

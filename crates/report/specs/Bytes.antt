@@ -6,7 +6,7 @@ use Rattle.ascii.specs.Words.{ascii}
 use Rattle.text.specs.Lines.{joined}
 use Rattle.time.specs.Writing.{utcText}
 use Rattle.values.specs.declared.period.Period.{Period}
-use Rattle.values.specs.declared.said.Busy.{Busy}
+use Rattle.said.specs.declared.Busy.{Busy}
 
 -- what a report says: its range, its stamp, and the periods of each busy type
 pub record Report : Type 0 where

@@ -5,7 +5,7 @@ use mathlib.Core.List.{List, []}
 use lib.ListN.{length}
 use lib.Seq.{sets}
 use Rattle.values.specs.declared.period.Period.{Period}
-use Rattle.values.specs.declared.said.Busy.{Busy}
+use Rattle.said.specs.declared.Busy.{Busy}
 use Rattle.table.specs.Tables.{listed}
 use Rattle.table.specs.declared.Table.{Table}
 use Rattle.report.specs.Bytes.{Report}

@@ -1,6 +1,6 @@
 // The fixed byte strings of a report: written by lines, compared here with the bytes at a place.
 // Each string stands once, for the writer and for the reader.
-use values::said::Busy;
+use said::Busy;
 ghost use mathlib.Core.Path.{_≡_};
 ghost use Rattle.report.specs.Bytes.{periodHead};
 ghost use Rattle.report.specs.Heads.{begins, standsAt, opensReport, closesReport};

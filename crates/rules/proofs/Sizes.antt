@@ -11,10 +11,10 @@ use Rattle.time.specs.Limits.{lastSecond}
 use Rattle.time.specs.declared.duration.Duration.{Duration}
 use Rattle.values.specs.Period.{DurationSmall}
 use Rattle.values.specs.Rule.{LimitSmall, RuleSmall}
-use Rattle.values.specs.Said.{SayingSmall}
 use Rattle.values.specs.declared.times.Time.{Time}
 use Rattle.values.specs.declared.rule.Limit.{Limit}
-use Rattle.values.specs.declared.said.Saying.{Saying}
+use Rattle.said.specs.Said.{SayingSmall}
+use Rattle.said.specs.declared.Saying.{Saying}
 use Rattle.rules.specs.Gathered.{nothingGathered, gatheredWith, gather}
 use Rattle.rules.specs.Events.{sameKind, isDate, statedEnd, statedDuration, endingBy, limitBy, repeatBy, daysBy, intervalBy, eventMade, eventWith, eventFrom, eventBy, blockBetween, blockFrom, blockBy}
 use Rattle.rules.specs.Sizes.{EndingSmall, RepeatSmall, EventSmall, BlockSmall}

@@ -3,8 +3,8 @@ use Prim.Native.Nat.{ℕ}
 use mathlib.Core.Bool.{Bool}
 use mathlib.Core.List.{List, [], _∷_}
 use lib.Dec.{eqb, ltb}
-use Rattle.values.specs.declared.said.Busy.{Busy}
 use Rattle.values.specs.declared.period.Period.{Period}
+use Rattle.said.specs.declared.Busy.{Busy}
 
 -- the place of a busy type in a report, counted from 0; free time has none and comes behind them
 unfoldable pub reportPlace : Busy → ℕ

@@ -7,8 +7,8 @@ use Rattle.time.specs.declared.date_time.Kind.{Kind}
 use Rattle.time.specs.declared.duration.Duration.{Duration}
 use Rattle.values.specs.declared.times.Time.{Time}
 use Rattle.values.specs.declared.rule.Limit.{Limit}
-use Rattle.values.specs.declared.said.Status.{Status}
-use Rattle.values.specs.declared.said.Busy.{Busy}
+use Rattle.said.specs.declared.Status.{Status}
+use Rattle.said.specs.declared.Busy.{Busy}
 use Rattle.rules.specs.BusyTypes.{BusyPeriod}
 use Rattle.rules.specs.declared.Ending.{Ending}
 use Rattle.rules.specs.declared.Repeat.{Repeat}

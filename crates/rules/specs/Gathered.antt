@@ -1,7 +1,7 @@
 -- What the lines directly in a component say together: each property once, and whether one stands twice that may not.
 use mathlib.Core.Bool.{Bool, true, false, _||_}
 use mathlib.Core.List.{List, [], _∷_}
-use Rattle.values.specs.declared.said.Saying.{Saying}
+use Rattle.said.specs.declared.Saying.{Saying}
 use Rattle.rules.specs.declared.Gathered.{Gathered}
 use Rattle.rules.specs.declared.TimeGiven.{TimeGiven}
 use Rattle.rules.specs.declared.DurationGiven.{DurationGiven}

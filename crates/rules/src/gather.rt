@@ -6,13 +6,13 @@ use crate::RuleGiven;
 use crate::StatusGiven;
 use crate::TimeGiven;
 use crate::TransparencyGiven;
+use said::Saying;
+use said::Status;
 use time::duration::Duration;
 use values::rule::Rule;
-use values::said::Saying;
-use values::said::Status;
 use values::times::Time;
 ghost use mathlib.Core.Path.{_≡_};
-ghost use Rattle.values.specs.declared.said.Saying.{Saying};
+ghost use Rattle.said.specs.declared.Saying.{Saying};
 ghost use Rattle.rules.specs.Gathered.{timeGiven, durationGiven, ruleGiven, statusGiven, transparencyGiven, nothingGathered, gatheredWith};
 
 pub fn nothing_gathered() -> Gathered

@@ -3,11 +3,11 @@
 pub mod events;
 pub mod gather;
 
+use said::Busy;
+use said::Status;
 use time::date_time::Kind;
 use time::duration::Duration;
 use values::rule::Rule;
-use values::said::Busy;
-use values::said::Status;
 use values::times::Time;
 
 // How an event ends.

@@ -9,14 +9,14 @@ use lib.ListN.{length, drop}
 use lib.Seq.{sets, sets-eq}
 use borrow.Author.Tests.{eqb-true, eqb-false, eq-eqb, ne-eqb}
 use Rattle.values.specs.declared.period.Period.{Period}
-use Rattle.values.specs.declared.said.Busy.{Busy}
-use Rattle.rules.specs.BusyTypes.{reportPlace, sameBusy, BusyPeriod}
+use Rattle.said.specs.declared.Busy.{Busy}
 use Rattle.table.specs.Runs.{runs, Lies}
 use Rattle.table.specs.Inserting.{gathered}
 use Rattle.table.specs.Tables.{listed}
 use Rattle.table.specs.declared.Table.{Table}
 use Rattle.table.proofs.Inserting.{gathered-all}
 use Rattle.table.proofs.Tables.{listed-length}
+use Rattle.rules.specs.BusyTypes.{reportPlace, sameBusy, BusyPeriod}
 use Rattle.pieces.specs.Columns.{flat}
 use Rattle.pieces.specs.Covered.{ofType, coveredBy}
 use Rattle.tables.specs.Building.{periodsAt, Built}

@@ -3,6 +3,3 @@ pub mod Items
 pub mod Moments
 pub mod Rules
 pub mod Periods
-pub mod FirstBytes
-pub mod Plain
-pub mod Sayings

@@ -1,4 +1,3 @@
 pub mod Times
 pub mod Rule
 pub mod Period
-pub mod Said

@@ -1,6 +1,5 @@
-// What one line directly in a component says: which properties are read, their values, and their faults.
-// The one place that decides which properties are read at all.
+// The values that are read: DATE and DATE-TIME within the limits, RRULE, and the periods of FREEBUSY.
+// Which lines have them read is decided above.
 pub mod period;
 pub mod rule;
-pub mod said;
 pub mod times;

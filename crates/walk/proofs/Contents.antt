@@ -7,9 +7,9 @@ use native.Mathlib.Omega.{arith}
 use lib.ListN.{length}
 use Rattle.text.specs.Lines.{part}
 use Rattle.line.specs.Reading.{valueOf}
-use Rattle.nesting.specs.Passing.{PropertyAt, InnerAt, NoItemAt}
 use Rattle.values.specs.declared.times.Context.{Context}
-use Rattle.values.specs.declared.said.Scope.{Scope}
+use Rattle.said.specs.declared.Scope.{Scope}
+use Rattle.nesting.specs.Passing.{PropertyAt, InnerAt, NoItemAt}
 use Rattle.rules.specs.Events.{eventBy, blockBy}
 use Rattle.rules.specs.declared.Gathered.{Gathered}
 use Rattle.rules.specs.declared.Event.{Event}

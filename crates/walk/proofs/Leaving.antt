@@ -9,16 +9,16 @@ use Rattle.ascii.proofs.Bools.{clash}
 use Rattle.text.specs.Lines.{part}
 use Rattle.line.specs.Grammar.{ContentLine}
 use Rattle.line.specs.Reading.{lineOf, valueOf}
+use Rattle.values.specs.Period.{goodPeriods, periodsIn}
+use Rattle.values.specs.declared.times.Context.{Context}
+use Rattle.values.specs.declared.period.Period.{Period}
+use Rattle.said.specs.Said.{sayingOf}
+use Rattle.said.specs.declared.Busy.{Busy}
+use Rattle.said.specs.declared.Saying.{Saying}
+use Rattle.said.specs.declared.Scope.{Scope}
 use Rattle.nesting.specs.Components.{Component}
 use Rattle.nesting.specs.Passing.{PropertyAt, InnerAt, NoItemAt, SkipsTo}
 use Rattle.nesting.specs.declared.items.Place.{Place}
-use Rattle.values.specs.Period.{goodPeriods, periodsIn}
-use Rattle.values.specs.Said.{sayingOf}
-use Rattle.values.specs.declared.times.Context.{Context}
-use Rattle.values.specs.declared.said.Busy.{Busy}
-use Rattle.values.specs.declared.said.Saying.{Saying}
-use Rattle.values.specs.declared.said.Scope.{Scope}
-use Rattle.values.specs.declared.period.Period.{Period}
 use Rattle.rules.specs.BusyTypes.{BusyPeriod, typed}
 use Rattle.rules.specs.Events.{eventBy, blockBy, Entry, event, block}
 use Rattle.rules.specs.declared.Gathered.{Gathered}

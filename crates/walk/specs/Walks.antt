@@ -2,11 +2,11 @@
 use Prim.Native.Nat.{ℕ}
 use mathlib.Core.Path.{_≡_}
 use mathlib.Core.List.{List, []}
-use Rattle.nesting.specs.Components.{Component}
 use Rattle.values.specs.declared.times.Context.{Context}
-use Rattle.values.specs.declared.said.Busy.{Busy}
-use Rattle.values.specs.declared.said.Saying.{Saying}
-use Rattle.values.specs.declared.said.Scope.{Scope}
+use Rattle.said.specs.declared.Busy.{Busy}
+use Rattle.said.specs.declared.Saying.{Saying}
+use Rattle.said.specs.declared.Scope.{Scope}
+use Rattle.nesting.specs.Components.{Component}
 use Rattle.rules.specs.BusyTypes.{BusyPeriod, typed}
 use Rattle.rules.specs.declared.Gathered.{Gathered}
 use Rattle.calendar.specs.Checks.{firstBroken}

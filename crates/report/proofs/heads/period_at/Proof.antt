@@ -1,5 +1,5 @@
 -- Each arm compares with the head of the type it was chosen for.
-use Rattle.values.specs.declared.said.Busy.{Busy}
+use Rattle.said.specs.declared.Busy.{Busy}
 use Rattle.report.specs.Bytes.{periodHead}
 use Rattle.report.proofs.Standing.{stands-kind}
 use borrow.Author.Needs.{needs}

@@ -1,0 +1,3 @@
+pub mod FirstBytes
+pub mod Plain
+pub mod Sayings
