@@ -10,16 +10,16 @@ use Rattle.line.specs.Reading.{valueOf}
 use Rattle.line.specs.WellFormed.{lineCheck}
 use Rattle.line.specs.declared.check.LineCheck.{LineCheck}
 use Rattle.values.specs.declared.times.Context.{Context}
-use Rattle.said.specs.declared.Scope.{Scope}
+use Rattle.property.specs.declared.Scope.{Scope}
 use Rattle.nesting.specs.Components.{Component, componentsIn, itemsOf}
 use Rattle.nesting.specs.Nesting.{nestingOf}
 use Rattle.nesting.specs.Passing.{linesFrom, PropertyAt, InnerAt, NoItemAt}
 use Rattle.nesting.specs.declared.Nesting.{Nesting}
-use Rattle.rules.specs.Events.{eventBy, blockBy, Entry}
-use Rattle.rules.specs.declared.Gathered.{Gathered}
+use Rattle.events.specs.Events.{eventBy, blockBy, Entry}
+use Rattle.events.specs.declared.ComponentProperties.{ComponentProperties}
 use Rattle.calendar.specs.Checks.{brokenBy, ruleElse, firstBroken}
 use Rattle.calendar.specs.Meaning.{Meaning, fault, calendar, scopeOf, eventBroken, blockBroken, valueFault, brokenOr, ruleFault, entriesOf, fileLines, componentsOf, byRules, byValues, byNesting, byLines, contentsOf, meaningOf, faultOf, structureFault}
-use Rattle.calendar.specs.Places.{gatheredAt, eventAt, blockAt, brokenAt, faultElse, componentsFrom, BelowAt, NoneBelow, ReadsComponent, ChecksFrom}
+use Rattle.calendar.specs.Places.{componentPropertiesAt, eventAt, blockAt, brokenAt, faultElse, componentsFrom, BelowAt, NoneBelow, ReadsComponent, ChecksFrom}
 use Rattle.calendar.specs.declared.ValueCheck.{ValueCheck}
 use Rattle.calendar.specs.declared.RuleCheck.{RuleCheck}
 use Rattle.calendar.specs.declared.Fault.{Fault}
@@ -31,20 +31,20 @@ use Rattle.calendar.proofs.Meanings.{has-fault}
 
 -- ---- a component by what its lines say together
 
-module _ (c : Context) (s : List ℕ) (at : ℕ) {g : Gathered} where
-  pub event-gathered : g ≡ gatheredAt c Scope.Event s at → eventBy g ≡ eventAt c s at
+module _ (c : Context) (s : List ℕ) (at : ℕ) {g : ComponentProperties} where
+  pub event-properties : g ≡ componentPropertiesAt c Scope.Event s at → eventBy g ≡ eventAt c s at
   unfolding eventAt
-  event-gathered q = ap eventBy q
+  event-properties q = ap eventBy q
 
-  pub block-gathered : g ≡ gatheredAt c Scope.FreeBusy s at → blockBy g ≡ blockAt c s at
+  pub block-properties : g ≡ componentPropertiesAt c Scope.FreeBusy s at → blockBy g ≡ blockAt c s at
   unfolding blockAt
-  block-gathered q = ap blockBy q
+  block-properties q = ap blockBy q
 
-  pub broken-gathered : (o : Scope) → g ≡ gatheredAt c o s at → brokenBy o g ≡ brokenAt c o s at
+  pub broken-properties : (o : Scope) → g ≡ componentPropertiesAt c o s at → brokenBy o g ≡ brokenAt c o s at
   unfolding brokenBy brokenAt
-  broken-gathered Scope.Event q = ap eventBroken (event-gathered q)
-  broken-gathered Scope.FreeBusy q = ap blockBroken (block-gathered q)
-  broken-gathered Scope.Other q = refl
+  broken-properties Scope.Event q = ap eventBroken (event-properties q)
+  broken-properties Scope.FreeBusy q = ap blockBroken (block-properties q)
+  broken-properties Scope.Other q = refl
 
 -- what is known of those before and the one here, and then the rest
 first-else : (before : RuleCheck) (n : ℕ) (b : Bool) (r : RuleCheck)
@@ -60,12 +60,12 @@ else-good RuleCheck.Good = refl
 else-good (RuleCheck.Broken n) = refl
 
 -- where the component is broken, and where it is not
-pub here-broken : (before : RuleCheck) (n : ℕ) (o : Scope) (g : Gathered) → brokenBy o g ≡ true
+pub here-broken : (before : RuleCheck) (n : ℕ) (o : Scope) (g : ComponentProperties) → brokenBy o g ≡ true
     → ruleElse before (RuleCheck.Broken n) ≡ firstBroken before n o g
 unfolding firstBroken brokenOr
 here-broken before n o g h = ap (λ (b : Bool). ruleElse before (brokenOr b n RuleCheck.Good)) (sym h)
 
-pub here-unbroken : (before : RuleCheck) (n : ℕ) (o : Scope) (g : Gathered) → brokenBy o g ≡ false → before ≡ firstBroken before n o g
+pub here-unbroken : (before : RuleCheck) (n : ℕ) (o : Scope) (g : ComponentProperties) → brokenBy o g ≡ false → before ≡ firstBroken before n o g
 unfolding firstBroken brokenOr
 here-unbroken before n o g h = sym (else-good before) ∙ ap (λ (b : Bool). ruleElse before (brokenOr b n RuleCheck.Good)) (sym h)
 
@@ -101,12 +101,12 @@ module _ {c : Context} {s : List ℕ} {from first : ℕ} {rules : RuleCheck} {at
   -- the component at the place was read
   module _ {e next : ℕ} (h : InnerAt s at e next) {v : List ℕ} {o : Scope} {r : ComponentRead} (q : v ≡ valueOf (part s at e)) (w : o ≡ scopeOf v)
       (y : ReadsComponent c o s next (number + 1) r) where
-    pub checking-inner : {rules′ : RuleCheck} → r .fault ≡ ValueCheck.Good → rules′ ≡ firstBroken rules number o (r .gathered)
+    pub checking-inner : {rules′ : RuleCheck} → r .fault ≡ ValueCheck.Good → rules′ ≡ firstBroken rules number o (r .properties)
         → Checking c s from first rules′ (r .behind .at) (r .behind .number)
     unfolding faultElse firstBroken
     checking-inner z f =
         let rest = componentsIn (itemsOf 1 (linesFrom s next (number + 1))) in
-        let b = brokenBy o (r .gathered) in
+        let b = brokenBy o (r .properties) in
         record {
           values =
               passing-inner (k .values) h refl (y .ends)
@@ -115,7 +115,7 @@ module _ {c : Context} {s : List ℕ} {from first : ℕ} {rules : RuleCheck} {at
               ap (λ (x : RuleCheck). ruleElse x (ruleFault c (componentsFrom s (r .behind .at) (r .behind .number)))) f
               ∙ first-else rules number b (ruleFault c (componentsFrom s (r .behind .at) (r .behind .number)))
               ∙ ap (λ (ks : List Component). ruleElse rules (brokenOr b number (ruleFault c ks))) (sym (components-skip (y .ends)))
-              ∙ ap (ruleElse rules) (sym (rule-here c number h q w (broken-gathered c s next o (y .together)) rest))
+              ∙ ap (ruleElse rules) (sym (rule-here c number h q w (broken-properties c s next o (y .together)) rest))
               ∙ ap (λ (ks : List Component). ruleElse rules (ruleFault c ks)) (sym (components-first number h))
               ∙ k .broken;
         }

@@ -8,28 +8,28 @@ use lib.Dec.{ltb}
 use lib.ListN.{length, drop}
 use borrow.Author.Tests.{ltb-true, ltb-false}
 use Rattle.ascii.proofs.Lists.{drop-end}
-use Rattle.line.specs.Pieces.{firstOutside, nextPlace, pieces, plainPieces}
-use Rattle.values.specs.Period.{periodOf, periodsIn, goodPeriods}
-use Rattle.values.specs.declared.period.Period.{Period}
+use Rattle.line.specs.Splitting.{firstOutside, nextPlace, pieces, plainSplit}
+use Rattle.values.specs.Period.{periodOf, periodItems, goodPeriods}
+use Rattle.periods.specs.declared.Period.{Period}
 use Rattle.values.specs.declared.period.PeriodRead.{PeriodRead}
 use Rattle.values.proofs.Items.{itemAt, item-rises, item-inside, item-more, item-last}
-use Rattle.values.proofs.Periods.{periodOf-small}
+use Rattle.values.proofs.PeriodLaws.{periodOf-small}
 use Rattle.calendar.specs.Periods.{periodsFrom, behind, NextPeriod, NoPeriod, PeriodAt}
-use Rattle.calendar.specs.declared.periods.PeriodStep.{PeriodStep}
+use Rattle.calendar.specs.declared.period_list.PeriodStep.{PeriodStep}
 
 -- from place 0 on they are all
-pub periods-all : (v : List ℕ) → periodsFrom v 0 ≡ goodPeriods (periodsIn v)
+pub periods-all : (v : List ℕ) → periodsFrom v 0 ≡ goodPeriods (periodItems v)
 unfolding periodsFrom
 periods-all v = refl
 
 -- nothing is a period of no bytes
-no-bytes : goodPeriods (periodsIn []) ≡ []
-unfolding periodsIn plainPieces pieces periodOf firstOutside goodPeriods
+no-bytes : goodPeriods (periodItems []) ≡ []
+unfolding periodItems plainSplit pieces periodOf firstOutside goodPeriods
 no-bytes = refl
 
 periods-past : (v : List ℕ) (from : ℕ) → length v ≤ from → periodsFrom v from ≡ []
 unfolding periodsFrom
-periods-past v from h = ap (λ (l : List ℕ). goodPeriods (periodsIn l)) (drop-end v from h) ∙ no-bytes
+periods-past v from h = ap (λ (l : List ℕ). goodPeriods (periodItems l)) (drop-end v from h) ∙ no-bytes
 
 -- the first item, and the periods behind it
 with-first : (x : PeriodRead) (xs ys : List PeriodRead) → goodPeriods xs ≡ goodPeriods ys → goodPeriods (x ∷ xs) ≡ goodPeriods (x ∷ ys)
@@ -57,19 +57,19 @@ module _ (v : List ℕ) {at e next : ℕ} (h : at < length v) (q : e ≡ nextPla
           let n : next ≡ e = w ∙ behind-out v e t in
           (omega (arith, ltb-false e (length v) t), omega (arith, item-inside 44 v at e (omega arith) q))
 
-  period-first : periodsFrom v at ≡ goodPeriods (periodOf (itemAt v at e) ∷ periodsIn (drop next v))
-  unfolding periodsFrom periodsIn goodPeriods
+  period-first : periodsFrom v at ≡ goodPeriods (periodOf (itemAt v at e) ∷ periodItems (drop next v))
+  unfolding periodsFrom periodItems goodPeriods
   period-first = go (ltb e (length v)) refl
     where
       go : (t : Bool) → ltb e (length v) ≡ t
-          → goodPeriods (map periodOf (plainPieces 44 (drop at v))) ≡ goodPeriods (periodOf (itemAt v at e) ∷ map periodOf (plainPieces 44 (drop next v)))
+          → goodPeriods (map periodOf (plainSplit 44 (drop at v))) ≡ goodPeriods (periodOf (itemAt v at e) ∷ map periodOf (plainSplit 44 (drop next v)))
       go true t =
           ap (λ (l : List (List ℕ)). goodPeriods (map periodOf l)) (item-more 44 v at e (omega arith) q (ltb-true e (length v) t))
-          ∙ ap (λ (n : ℕ). goodPeriods (periodOf (itemAt v at e) ∷ map periodOf (plainPieces 44 (drop n v)))) (sym (w ∙ behind-in v e t))
+          ∙ ap (λ (n : ℕ). goodPeriods (periodOf (itemAt v at e) ∷ map periodOf (plainSplit 44 (drop n v)))) (sym (w ∙ behind-in v e t))
       go false t =
           let n : next ≡ e = w ∙ behind-out v e t in
           ap (λ (l : List (List ℕ)). goodPeriods (map periodOf l)) (item-last 44 v at e (omega arith) q (ltb-false e (length v) t))
-          ∙ with-first (periodOf (itemAt v at e)) [] (map periodOf (plainPieces 44 (drop next v)))
+          ∙ with-first (periodOf (itemAt v at e)) [] (map periodOf (plainSplit 44 (drop next v)))
           (sym (periods-past v next (omega (arith, ltb-false e (length v) t))))
 
 -- what stands between the two places is no period
@@ -83,15 +83,15 @@ leaving-start v from = record { onward = omega arith; rest = refl }
 module _ {v : List ℕ} {from at : ℕ} (r : Leaving v from at) where
   module _ {e next : ℕ} {x : PeriodRead} (h : at < length v) (q : e ≡ nextPlace false 44 v at) (w : next ≡ behind v e)
       (y : x ≡ periodOf (itemAt v at e)) where
-    period-here : periodsFrom v from ≡ goodPeriods (x ∷ periodsIn (drop next v))
-    period-here = r .rest ∙ period-first v h q w ∙ ap (λ (z : PeriodRead). goodPeriods (z ∷ periodsIn (drop next v))) (sym y)
+    period-here : periodsFrom v from ≡ goodPeriods (x ∷ periodItems (drop next v))
+    period-here = r .rest ∙ period-first v h q w ∙ ap (λ (z : PeriodRead). goodPeriods (z ∷ periodItems (drop next v))) (sym y)
 
     pub leaving-bad : x ≡ PeriodRead.Bad → Leaving v from next
     unfolding goodPeriods periodsFrom
     leaving-bad z =
         record {
           onward = omega (arith, r .onward, period-onward v h q w .0);
-          rest = period-here ∙ ap (λ (p : PeriodRead). goodPeriods (p ∷ periodsIn (drop next v))) z;
+          rest = period-here ∙ ap (λ (p : PeriodRead). goodPeriods (p ∷ periodItems (drop next v))) z;
         }
 
     pub leaving-found : (p : Period) → x ≡ PeriodRead.Of p → PeriodAt v from (PeriodStep.Of p next)
@@ -101,7 +101,7 @@ module _ {v : List ℕ} {from at : ℕ} (r : Leaving v from at) where
           onward = omega (arith, r .onward, period-onward v h q w .0);
           within = period-onward v h q w .1;
           small = periodOf-small (itemAt v at e) p (sym y ∙ z);
-          periods = period-here ∙ ap (λ (g : PeriodRead). goodPeriods (g ∷ periodsIn (drop next v))) z;
+          periods = period-here ∙ ap (λ (g : PeriodRead). goodPeriods (g ∷ periodItems (drop next v))) z;
         }
 
   pub leaving-end : length v ≤ at → PeriodAt v from PeriodStep.Done

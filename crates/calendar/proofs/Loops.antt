@@ -8,49 +8,49 @@ use lib.ListN.{length}
 use Rattle.text.specs.Lines.{part}
 use Rattle.line.specs.Reading.{lineOf, valueOf}
 use Rattle.values.specs.declared.times.Context.{Context}
-use Rattle.said.specs.Said.{sayingOf}
-use Rattle.said.specs.declared.Scope.{Scope}
-use Rattle.said.specs.declared.Saying.{Saying}
+use Rattle.property.specs.Properties.{propertyValueOf}
+use Rattle.property.specs.declared.Scope.{Scope}
+use Rattle.property.specs.declared.PropertyValue.{PropertyValue}
 use Rattle.nesting.specs.Components.{itemsOf, treeOf, itemsBelow, Component, componentsIn, propertiesIn}
 use Rattle.nesting.specs.Passing.{linesFrom, treeIn, PropertyAt, InnerAt, NoItemAt, SkipsTo}
 use Rattle.nesting.specs.declared.items.Place.{Place}
-use Rattle.nesting.proofs.Stepping.{tree-from}
-use Rattle.rules.specs.Gathered.{nothingGathered, gatheredWith, gather}
-use Rattle.rules.specs.Events.{Entry}
-use Rattle.rules.specs.declared.Gathered.{Gathered}
+use Rattle.nesting.proofs.Components.{tree-from}
+use Rattle.events.specs.ComponentProperties.{noProperties, withProperty, withProperties}
+use Rattle.events.specs.Events.{Entry}
+use Rattle.events.specs.declared.ComponentProperties.{ComponentProperties}
 use Rattle.calendar.specs.Meaning.{entriesOf, scopeOf, componentScope, faultIn, valueFault, brokenOr, ruleFault, fileLines, componentsOf}
-use Rattle.calendar.specs.Places.{entryAt, sayingsAt, gatheredAt, brokenAt, faultAt, faultElse, componentsFrom, componentAt, BelowAt, NoneBelow, BelowIs}
-use Rattle.calendar.proofs.Steps.{entryOf-at, sayings-property, sayings-inner, sayings-none, components-property, components-first, components-skip, components-none, faultIn-else, isBroken-at}
+use Rattle.calendar.specs.Places.{entryAt, propertyValuesAt, componentPropertiesAt, brokenAt, faultAt, faultElse, componentsFrom, componentAt, BelowAt, NoneBelow, BelowIs}
+use Rattle.calendar.proofs.Steps.{entryOf-at, property-values-property, property-values-inner, property-values-none, components-property, components-first, components-skip, components-none, faultIn-else, isBroken-at}
 use Rattle.calendar.specs.declared.ValueCheck.{ValueCheck}
 use Rattle.calendar.specs.declared.places.Below.{Below}
 
 -- ---- what the lines say together
 
-pub record Gathering (c : Context) (o : Scope) (s : List ℕ) (from : ℕ) (g : Gathered) (at : ℕ) : Type 0 where
-  pub rest : gather g (sayingsAt c o s at) ≡ gatheredAt c o s from
+pub record Gathering (c : Context) (o : Scope) (s : List ℕ) (from : ℕ) (g : ComponentProperties) (at : ℕ) : Type 0 where
+  pub rest : withProperties g (propertyValuesAt c o s at) ≡ componentPropertiesAt c o s from
 
-pub gathering-start : (c : Context) (o : Scope) (s : List ℕ) (from : ℕ) {g : Gathered} → g ≡ nothingGathered → Gathering c o s from g from
-unfolding gatheredAt
-gathering-start c o s from q = record { rest = ap (λ (x : Gathered). gather x (sayingsAt c o s from)) q }
+pub gathering-start : (c : Context) (o : Scope) (s : List ℕ) (from : ℕ) {g : ComponentProperties} → g ≡ noProperties → Gathering c o s from g from
+unfolding componentPropertiesAt
+gathering-start c o s from q = record { rest = ap (λ (x : ComponentProperties). withProperties x (propertyValuesAt c o s from)) q }
 
-module _ {c : Context} {o : Scope} {s : List ℕ} {from : ℕ} {g : Gathered} {at : ℕ} (r : Gathering c o s from g at) where
-  pub gathering-property : {e next : ℕ} {x : Saying} {g′ : Gathered} → PropertyAt s at e next → x ≡ sayingOf c o (lineOf (part s at e))
-      → g′ ≡ gatheredWith g x → Gathering c o s from g′ next
-  unfolding gather
+module _ {c : Context} {o : Scope} {s : List ℕ} {from : ℕ} {g : ComponentProperties} {at : ℕ} (r : Gathering c o s from g at) where
+  pub gathering-property : {e next : ℕ} {x : PropertyValue} {g′ : ComponentProperties} → PropertyAt s at e next → x ≡ propertyValueOf c o (lineOf (part s at e))
+      → g′ ≡ withProperty g x → Gathering c o s from g′ next
+  unfolding withProperties
   gathering-property {e} {next} h q w =
       record {
         rest =
-            ap (λ (y : Gathered). gather y (sayingsAt c o s next)) (w ∙ ap (gatheredWith g) q)
-            ∙ ap (gather g) (sym (sayings-property c o h))
+            ap (λ (y : ComponentProperties). withProperties y (propertyValuesAt c o s next)) (w ∙ ap (withProperty g) q)
+            ∙ ap (withProperties g) (sym (property-values-property c o h))
             ∙ r .rest;
       }
 
   pub gathering-inner : {e next j : ℕ} {p : Place} → InnerAt s at e next → SkipsTo s next j p → Gathering c o s from g (p .at)
-  gathering-inner h k = record { rest = ap (gather g) (sym (sayings-inner c o h k)) ∙ r .rest }
+  gathering-inner h k = record { rest = ap (withProperties g) (sym (property-values-inner c o h k)) ∙ r .rest }
 
-  pub gathering-end : NoItemAt s at → g ≡ gatheredAt c o s from
-  unfolding gather
-  gathering-end h = ap (gather g) (sym (sayings-none c o h)) ∙ r .rest
+  pub gathering-end : NoItemAt s at → g ≡ componentPropertiesAt c o s from
+  unfolding withProperties
+  gathering-end h = ap (withProperties g) (sym (property-values-none c o h)) ∙ r .rest
 
 -- ---- the components that stand side by side
 

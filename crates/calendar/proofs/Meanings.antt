@@ -9,7 +9,7 @@ use Rattle.nesting.specs.Nesting.{nestingOf}
 use Rattle.nesting.specs.Passing.{nestingIn}
 use Rattle.nesting.specs.declared.Nesting.{Nesting}
 use Rattle.values.specs.declared.times.Context.{Context}
-use Rattle.rules.specs.Events.{Entry}
+use Rattle.events.specs.Events.{Entry}
 use Rattle.calendar.specs.Meaning.{Meaning, fault, calendar, byRules, byValues, byNesting, byLines, valueFault, ruleFault, entriesOf, fileLines, componentsOf, contentsOf, meaningOf, faultOf}
 use Rattle.calendar.specs.declared.ValueCheck.{ValueCheck}
 use Rattle.calendar.specs.declared.RuleCheck.{RuleCheck}

@@ -6,41 +6,41 @@ use mathlib.Core.Logic.{_⊎_, inl, inr}
 use mathlib.Core.List.{List, [], _∷_, List·Memᴰ, List·Memᴰ·not-nil, List·Memᴰ·append-cases, List·Memᴰ·eq-of-singleton}
 use Rattle.ascii.proofs.Bools.{clash}
 use Rattle.values.specs.declared.times.Context.{Context}
-use Rattle.said.specs.declared.Scope.{Scope}
-use Rattle.said.proofs.Sayings.{sayingOf-small}
+use Rattle.property.specs.declared.Scope.{Scope}
+use Rattle.property.proofs.Properties.{propertyValueOf-small}
 use Rattle.nesting.specs.Components.{Numbered, Component, itemsOf, propertiesIn}
 use Rattle.nesting.specs.Passing.{linesFrom}
-use Rattle.rules.specs.BusyTypes.{BusyPeriod}
-use Rattle.rules.specs.Events.{Entry, event, block}
-use Rattle.rules.specs.Sizes.{EventSmall, BlockSmall}
-use Rattle.rules.specs.declared.Event.{Event}
-use Rattle.rules.specs.declared.Block.{Block}
-use Rattle.rules.specs.declared.EventRead.{EventRead}
-use Rattle.rules.specs.declared.BlockRead.{BlockRead}
-use Rattle.rules.proofs.Sizes.{AllSmall, event-small, block-small}
-use Rattle.calendar.specs.Meaning.{sayingsIn, eventOf, blockOf, eventEntry, blockEntry, entryOf, entriesOf, componentScope}
-use Rattle.calendar.specs.Places.{sayingsAt, gatheredAt, eventAt, blockAt}
+use Rattle.periods.specs.BusyTypes.{BusyPeriod}
+use Rattle.events.specs.Events.{Entry, event, block}
+use Rattle.events.specs.Sizes.{EventSmall, BlockSmall}
+use Rattle.events.specs.declared.Event.{Event}
+use Rattle.events.specs.declared.Block.{Block}
+use Rattle.events.specs.declared.EventRead.{EventRead}
+use Rattle.events.specs.declared.BlockRead.{BlockRead}
+use Rattle.events.proofs.Sizes.{AllSmall, event-small, block-small}
+use Rattle.calendar.specs.Meaning.{propertyValuesIn, eventOf, blockOf, eventEntry, blockEntry, entryOf, entriesOf, componentScope}
+use Rattle.calendar.specs.Places.{propertyValuesAt, componentPropertiesAt, eventAt, blockAt}
 
-sayings-small : (c : Context) (o : Scope) (xs : List Numbered) → AllSmall (sayingsIn c o xs)
-unfolding sayingsIn
-sayings-small c o [] = AllSmall.none
-sayings-small c o (x ∷ xs) = AllSmall.then (sayingOf-small c o (x .line)) (sayings-small c o xs)
+property-values-small : (c : Context) (o : Scope) (xs : List Numbered) → AllSmall (propertyValuesIn c o xs)
+unfolding propertyValuesIn
+property-values-small c o [] = AllSmall.none
+property-values-small c o (x ∷ xs) = AllSmall.then (propertyValueOf-small c o (x .line)) (property-values-small c o xs)
 
 pub eventOf-small : (c : Context) (k : Component) (e : Event) → eventOf c k ≡ EventRead.Of e → EventSmall e
 unfolding eventOf
-eventOf-small c k e q = event-small _ e (sayings-small c Scope.Event (propertiesIn (k .items))) q
+eventOf-small c k e q = event-small _ e (property-values-small c Scope.Event (propertiesIn (k .items))) q
 
 pub eventAt-small : (c : Context) (s : List ℕ) (at : ℕ) (e : Event) → eventAt c s at ≡ EventRead.Of e → EventSmall e
-unfolding eventAt gatheredAt sayingsAt
-eventAt-small c s at e q = event-small _ e (sayings-small c Scope.Event (propertiesIn (itemsOf 0 (linesFrom s at 1)))) q
+unfolding eventAt componentPropertiesAt propertyValuesAt
+eventAt-small c s at e q = event-small _ e (property-values-small c Scope.Event (propertiesIn (itemsOf 0 (linesFrom s at 1)))) q
 
 pub blockOf-small : (c : Context) (k : Component) (b : Block) → blockOf c k ≡ BlockRead.Of b → BlockSmall b
 unfolding blockOf
-blockOf-small c k b q = block-small _ b (sayings-small c Scope.FreeBusy (propertiesIn (k .items))) q
+blockOf-small c k b q = block-small _ b (property-values-small c Scope.FreeBusy (propertiesIn (k .items))) q
 
 pub blockAt-small : (c : Context) (s : List ℕ) (at : ℕ) (b : Block) → blockAt c s at ≡ BlockRead.Of b → BlockSmall b
-unfolding blockAt gatheredAt sayingsAt
-blockAt-small c s at b q = block-small _ b (sayings-small c Scope.FreeBusy (propertiesIn (itemsOf 0 (linesFrom s at 1)))) q
+unfolding blockAt componentPropertiesAt propertyValuesAt
+blockAt-small c s at b q = block-small _ b (property-values-small c Scope.FreeBusy (propertiesIn (itemsOf 0 (linesFrom s at 1)))) q
 
 -- ---- the entries of a calendar
 

@@ -5,22 +5,22 @@ use mathlib.Core.List.{List, [], _∷_, _++_, map}
 use Rattle.text.specs.Lines.{part}
 use Rattle.line.specs.Grammar.{ContentLine}
 use Rattle.line.specs.Reading.{lineOf}
-use Rattle.marks.specs.Marks.{markOf}
-use Rattle.marks.specs.declared.Mark.{Mark}
-use Rattle.marks.specs.declared.Mark.the-variants.{Begins, Ends, Property, Wrong}
+use Rattle.delimiters.specs.Delimiters.{delimiterOf}
+use Rattle.delimiters.specs.declared.Delimiter.{Delimiter}
+use Rattle.delimiters.specs.declared.Delimiter.the-variants.{Begins, Ends, Property, Wrong}
 use Rattle.values.specs.declared.times.Context.{Context}
-use Rattle.said.specs.Said.{sayingOf}
-use Rattle.said.specs.declared.Scope.{Scope}
-use Rattle.said.specs.declared.Saying.{Saying}
-use Rattle.nesting.specs.Components.{Numbered, markedAs, markedFrom, Items, itemsOf, Component, componentsIn, propertiesIn}
+use Rattle.property.specs.Properties.{propertyValueOf}
+use Rattle.property.specs.declared.Scope.{Scope}
+use Rattle.property.specs.declared.PropertyValue.{PropertyValue}
+use Rattle.nesting.specs.Components.{Numbered, delimitedAs, delimitedFrom, Items, itemsOf, Component, componentsIn, propertiesIn}
 use Rattle.nesting.specs.Passing.{linesAt, linesFrom, numbered, PropertyAt, InnerAt, NoItemAt, SkipsTo}
 use Rattle.nesting.specs.declared.items.Place.{Place}
-use Rattle.rules.specs.Gathered.{nothingGathered, gather}
-use Rattle.rules.specs.Events.{eventBy, blockBy}
-use Rattle.rules.specs.BusyTypes.{BusyPeriod}
-use Rattle.rules.specs.declared.BlockRead.{BlockRead}
-use Rattle.calendar.specs.Meaning.{sayingsIn, faultOr, faultIn, eventOf, blockOf, eventBroken, blockBroken, isBroken, periodsBy, blockPeriods, eventEntry, blockEntry, entryOf}
-use Rattle.calendar.specs.Places.{sayingsAt, gatheredAt, eventAt, blockAt, brokenAt, blockPeriodsAt, entryAt, faultAt, faultElse, componentsFrom, componentAt}
+use Rattle.events.specs.ComponentProperties.{noProperties, withProperties}
+use Rattle.events.specs.Events.{eventBy, blockBy}
+use Rattle.periods.specs.BusyTypes.{BusyPeriod}
+use Rattle.events.specs.declared.BlockRead.{BlockRead}
+use Rattle.calendar.specs.Meaning.{propertyValuesIn, faultOr, faultIn, eventOf, blockOf, eventBroken, blockBroken, isBroken, periodsBy, blockPeriods, eventEntry, blockEntry, entryOf}
+use Rattle.calendar.specs.Places.{propertyValuesAt, componentPropertiesAt, eventAt, blockAt, brokenAt, blockPeriodsAt, entryAt, faultAt, faultElse, componentsFrom, componentAt}
 use Rattle.calendar.specs.declared.ValueCheck.{ValueCheck}
 
 -- ---- line numbers play no part in what lines say
@@ -30,12 +30,12 @@ linesIn [] = []
 linesIn (x ∷ xs) = x .line ∷ linesIn xs
 
 abbrev properLines : ℕ → ℕ → List ContentLine → List ContentLine
-properLines d i xs = linesIn (propertiesIn (itemsOf d (markedFrom i xs)))
+properLines d i xs = linesIn (propertiesIn (itemsOf d (delimitedFrom i xs)))
 
-lines-step : (x : ContentLine) (m : Mark) (xs : List ContentLine) (i j : ℕ)
+lines-step : (x : ContentLine) (m : Delimiter) (xs : List ContentLine) (i j : ℕ)
     → ((d : ℕ) → properLines d (suc i) xs ≡ properLines d (suc j) xs) → (d : ℕ)
-    → linesIn (propertiesIn (itemsOf d (markedAs m (numbered i x) ∷ markedFrom (suc i) xs)))
-    ≡ linesIn (propertiesIn (itemsOf d (markedAs m (numbered j x) ∷ markedFrom (suc j) xs)))
+    → linesIn (propertiesIn (itemsOf d (delimitedAs m (numbered i x) ∷ delimitedFrom (suc i) xs)))
+    ≡ linesIn (propertiesIn (itemsOf d (delimitedAs m (numbered j x) ∷ delimitedFrom (suc j) xs)))
 unfolding itemsOf propertiesIn
 lines-step x Begins xs i j h zero = h 1
 lines-step x Begins xs i j h (suc d) = h (suc (suc d))
@@ -47,64 +47,64 @@ lines-step x Wrong xs i j h zero = ap (λ (l : List ContentLine). x ∷ l) (h 0)
 lines-step x Wrong xs i j h (suc d) = h (suc d)
 
 lines-number : (xs : List ContentLine) (d i j : ℕ) → properLines d i xs ≡ properLines d j xs
-unfolding markedFrom itemsOf
+unfolding delimitedFrom itemsOf
 lines-number [] d i j = refl
-lines-number (x ∷ xs) d i j = lines-step x (markOf x) xs i j (λ e. lines-number xs e (suc i) (suc j)) d
+lines-number (x ∷ xs) d i j = lines-step x (delimiterOf x) xs i j (λ e. lines-number xs e (suc i) (suc j)) d
 
 -- what is decided by the lines alone
 by-lines : {A : Type 0} (f : List Numbered → A) (g : List ContentLine → A) → ((xs : List Numbered) → f xs ≡ g (linesIn xs)) → (s : List ℕ)
     (at d i j : ℕ) → f (propertiesIn (itemsOf d (linesFrom s at i))) ≡ f (propertiesIn (itemsOf d (linesFrom s at j)))
 unfolding linesFrom
 by-lines f g h s at d i j =
-    h (propertiesIn (itemsOf d (markedFrom i (linesAt s at))))
+    h (propertiesIn (itemsOf d (delimitedFrom i (linesAt s at))))
     ∙ ap g (lines-number (linesAt s at) d i j)
-    ∙ sym (h (propertiesIn (itemsOf d (markedFrom j (linesAt s at)))))
+    ∙ sym (h (propertiesIn (itemsOf d (delimitedFrom j (linesAt s at)))))
 
-sayings-lines : (c : Context) (o : Scope) (xs : List Numbered) → sayingsIn c o xs ≡ map (sayingOf c o) (linesIn xs)
-unfolding sayingsIn
-sayings-lines c o [] = refl
-sayings-lines c o (x ∷ xs) = ap (λ (l : List Saying). sayingOf c o (x .line) ∷ l) (sayings-lines c o xs)
+property-values-lines : (c : Context) (o : Scope) (xs : List Numbered) → propertyValuesIn c o xs ≡ map (propertyValueOf c o) (linesIn xs)
+unfolding propertyValuesIn
+property-values-lines c o [] = refl
+property-values-lines c o (x ∷ xs) = ap (λ (l : List PropertyValue). propertyValueOf c o (x .line) ∷ l) (property-values-lines c o xs)
 
-pub sayings-number : (c : Context) (o : Scope) (s : List ℕ) (at d i j : ℕ)
-    → sayingsIn c o (propertiesIn (itemsOf d (linesFrom s at i))) ≡ sayingsIn c o (propertiesIn (itemsOf d (linesFrom s at j)))
-sayings-number c o s at d i j = by-lines (sayingsIn c o) (map (sayingOf c o)) (sayings-lines c o) s at d i j
+pub property-values-number : (c : Context) (o : Scope) (s : List ℕ) (at d i j : ℕ)
+    → propertyValuesIn c o (propertiesIn (itemsOf d (linesFrom s at i))) ≡ propertyValuesIn c o (propertiesIn (itemsOf d (linesFrom s at j)))
+property-values-number c o s at d i j = by-lines (propertyValuesIn c o) (map (propertyValueOf c o)) (property-values-lines c o) s at d i j
 
 abbrev periodsOf : Context → List ContentLine → List BusyPeriod
 periodsOf c [] = []
-periodsOf c (x ∷ xs) = periodsBy (sayingOf c Scope.FreeBusy x) x ++ periodsOf c xs
+periodsOf c (x ∷ xs) = periodsBy (propertyValueOf c Scope.FreeBusy x) x ++ periodsOf c xs
 
 periods-lines : (c : Context) (xs : List Numbered) → blockPeriods c xs ≡ periodsOf c (linesIn xs)
 unfolding blockPeriods
 periods-lines c [] = refl
-periods-lines c (x ∷ xs) = ap (λ (l : List BusyPeriod). periodsBy (sayingOf c Scope.FreeBusy (x .line)) (x .line) ++ l) (periods-lines c xs)
+periods-lines c (x ∷ xs) = ap (λ (l : List BusyPeriod). periodsBy (propertyValueOf c Scope.FreeBusy (x .line)) (x .line) ++ l) (periods-lines c xs)
 
 pub periods-number : (c : Context) (s : List ℕ) (at d i j : ℕ)
     → blockPeriods c (propertiesIn (itemsOf d (linesFrom s at i))) ≡ blockPeriods c (propertiesIn (itemsOf d (linesFrom s at j)))
 periods-number c s at d i j = by-lines (blockPeriods c) (periodsOf c) (periods-lines c) s at d i j
 
 -- so they may begin with any number
-pub sayings-any : (c : Context) (o : Scope) (s : List ℕ) (at i : ℕ) → sayingsIn c o (propertiesIn (itemsOf 0 (linesFrom s at i))) ≡ sayingsAt c o s at
-unfolding sayingsAt
-sayings-any c o s at i = sayings-number c o s at 0 i 1
+pub property-values-any : (c : Context) (o : Scope) (s : List ℕ) (at i : ℕ) → propertyValuesIn c o (propertiesIn (itemsOf 0 (linesFrom s at i))) ≡ propertyValuesAt c o s at
+unfolding propertyValuesAt
+property-values-any c o s at i = property-values-number c o s at 0 i 1
 
-pub gathered-any : (c : Context) (o : Scope) (s : List ℕ) (at i : ℕ)
-    → gather nothingGathered (sayingsIn c o (propertiesIn (itemsOf 0 (linesFrom s at i)))) ≡ gatheredAt c o s at
-unfolding gatheredAt
-gathered-any c o s at i = ap (gather nothingGathered) (sayings-any c o s at i)
+pub component-properties-any : (c : Context) (o : Scope) (s : List ℕ) (at i : ℕ)
+    → withProperties noProperties (propertyValuesIn c o (propertiesIn (itemsOf 0 (linesFrom s at i)))) ≡ componentPropertiesAt c o s at
+unfolding componentPropertiesAt
+component-properties-any c o s at i = ap (withProperties noProperties) (property-values-any c o s at i)
 
 -- ---- the component whose items begin at a place
 
 pub eventOf-at : (c : Context) (k : Component) (s : List ℕ) (at i : ℕ) → k .items ≡ itemsOf 0 (linesFrom s at i) → eventOf c k ≡ eventAt c s at
 unfolding eventOf eventAt
 eventOf-at c k s at i e =
-    ap (λ (x : Items). eventBy (gather nothingGathered (sayingsIn c Scope.Event (propertiesIn x)))) e
-    ∙ ap eventBy (gathered-any c Scope.Event s at i)
+    ap (λ (x : Items). eventBy (withProperties noProperties (propertyValuesIn c Scope.Event (propertiesIn x)))) e
+    ∙ ap eventBy (component-properties-any c Scope.Event s at i)
 
 pub blockOf-at : (c : Context) (k : Component) (s : List ℕ) (at i : ℕ) → k .items ≡ itemsOf 0 (linesFrom s at i) → blockOf c k ≡ blockAt c s at
 unfolding blockOf blockAt
 blockOf-at c k s at i e =
-    ap (λ (x : Items). blockBy (gather nothingGathered (sayingsIn c Scope.FreeBusy (propertiesIn x)))) e
-    ∙ ap blockBy (gathered-any c Scope.FreeBusy s at i)
+    ap (λ (x : Items). blockBy (withProperties noProperties (propertyValuesIn c Scope.FreeBusy (propertiesIn x)))) e
+    ∙ ap blockBy (component-properties-any c Scope.FreeBusy s at i)
 
 pub isBroken-at : (c : Context) (o : Scope) (k : Component) (s : List ℕ) (at i : ℕ) → k .items ≡ itemsOf 0 (linesFrom s at i)
     → isBroken c o k ≡ brokenAt c o s at
@@ -125,34 +125,34 @@ entryOf-at c Scope.Other k s at i e = refl
 -- ---- one step: sayings
 
 module _ (c : Context) (o : Scope) {s : List ℕ} {at : ℕ} where
-  pub sayings-property : {e next : ℕ} → PropertyAt s at e next → sayingsAt c o s at ≡ sayingOf c o (lineOf (part s at e)) ∷ sayingsAt c o s next
-  unfolding sayingsAt propertiesIn sayingsIn
-  sayings-property {e} {next} h =
-      ap (λ (k : Items). sayingsIn c o (propertiesIn k)) (h .items 1)
-      ∙ ap (λ (l : List Saying). sayingOf c o (lineOf (part s at e)) ∷ l) (sayings-number c o s next 0 (1 + 1) 1)
+  pub property-values-property : {e next : ℕ} → PropertyAt s at e next → propertyValuesAt c o s at ≡ propertyValueOf c o (lineOf (part s at e)) ∷ propertyValuesAt c o s next
+  unfolding propertyValuesAt propertiesIn propertyValuesIn
+  property-values-property {e} {next} h =
+      ap (λ (k : Items). propertyValuesIn c o (propertiesIn k)) (h .items 1)
+      ∙ ap (λ (l : List PropertyValue). propertyValueOf c o (lineOf (part s at e)) ∷ l) (property-values-number c o s next 0 (1 + 1) 1)
 
-  pub sayings-inner : {e next j : ℕ} {p : Place} → InnerAt s at e next → SkipsTo s next j p → sayingsAt c o s at ≡ sayingsAt c o s (p .at)
-  unfolding sayingsAt propertiesIn sayingsIn
-  sayings-inner {e} {next} {j} {p} h k =
-      ap (λ (x : Items). sayingsIn c o (propertiesIn x)) (h .items 1)
-      ∙ sayings-number c o s next 1 (1 + 1) j
-      ∙ ap (λ (x : Items). sayingsIn c o (propertiesIn x)) (k .items 0)
-      ∙ sayings-number c o s (p .at) 0 (p .number) 1
+  pub property-values-inner : {e next j : ℕ} {p : Place} → InnerAt s at e next → SkipsTo s next j p → propertyValuesAt c o s at ≡ propertyValuesAt c o s (p .at)
+  unfolding propertyValuesAt propertiesIn propertyValuesIn
+  property-values-inner {e} {next} {j} {p} h k =
+      ap (λ (x : Items). propertyValuesIn c o (propertiesIn x)) (h .items 1)
+      ∙ property-values-number c o s next 1 (1 + 1) j
+      ∙ ap (λ (x : Items). propertyValuesIn c o (propertiesIn x)) (k .items 0)
+      ∙ property-values-number c o s (p .at) 0 (p .number) 1
 
-  pub sayings-none : NoItemAt s at → sayingsAt c o s at ≡ []
-  unfolding sayingsAt propertiesIn sayingsIn
-  sayings-none h = ap (λ (k : Items). sayingsIn c o (propertiesIn k)) (h .items 1)
+  pub property-values-none : NoItemAt s at → propertyValuesAt c o s at ≡ []
+  unfolding propertyValuesAt propertiesIn propertyValuesIn
+  property-values-none h = ap (λ (k : Items). propertyValuesIn c o (propertiesIn k)) (h .items 1)
 
 -- ---- one step: the periods of a block
 
 module _ (c : Context) {s : List ℕ} {at : ℕ} where
   pub periods-property : {e next : ℕ} → PropertyAt s at e next
       → blockPeriodsAt c s at
-      ≡ periodsBy (sayingOf c Scope.FreeBusy (lineOf (part s at e))) (lineOf (part s at e)) ++ blockPeriodsAt c s next
+      ≡ periodsBy (propertyValueOf c Scope.FreeBusy (lineOf (part s at e))) (lineOf (part s at e)) ++ blockPeriodsAt c s next
   unfolding blockPeriodsAt propertiesIn blockPeriods
   periods-property {e} {next} h =
       ap (λ (k : Items). blockPeriods c (propertiesIn k)) (h .items 1)
-      ∙ ap (λ (l : List BusyPeriod). periodsBy (sayingOf c Scope.FreeBusy (lineOf (part s at e))) (lineOf (part s at e)) ++ l)
+      ∙ ap (λ (l : List BusyPeriod). periodsBy (propertyValueOf c Scope.FreeBusy (lineOf (part s at e))) (lineOf (part s at e)) ++ l)
       (periods-number c s next 0 (1 + 1) 1)
 
   pub periods-inner : {e next j : ℕ} {p : Place} → InnerAt s at e next → SkipsTo s next j p → blockPeriodsAt c s at ≡ blockPeriodsAt c s (p .at)
@@ -171,7 +171,7 @@ module _ (c : Context) {s : List ℕ} {at : ℕ} where
 
 module _ (c : Context) (o : Scope) {s : List ℕ} {at : ℕ} (i : ℕ) where
   pub fault-property : {e next : ℕ} → PropertyAt s at e next
-      → faultAt c o s at i ≡ faultOr i (sayingOf c o (lineOf (part s at e))) (faultAt c o s next (i + 1))
+      → faultAt c o s at i ≡ faultOr i (propertyValueOf c o (lineOf (part s at e))) (faultAt c o s next (i + 1))
   unfolding faultAt propertiesIn faultIn
   fault-property h = ap (λ (k : Items). faultIn c o (propertiesIn k) ValueCheck.Good) (h .items i)
 
@@ -215,25 +215,25 @@ fault-else-twice ValueCheck.Good b r = refl
 fault-else-twice (ValueCheck.Unsupported n) b r = refl
 fault-else-twice (ValueCheck.Bad n) b r = refl
 
-pub faultOr-else : (n : ℕ) (x : Saying) (r : ValueCheck) → faultOr n x r ≡ faultElse (faultOr n x ValueCheck.Good) r
+pub faultOr-else : (n : ℕ) (x : PropertyValue) (r : ValueCheck) → faultOr n x r ≡ faultElse (faultOr n x ValueCheck.Good) r
 unfolding faultOr faultElse
-faultOr-else n Saying.Nothing r = refl
-faultOr-else n Saying.Unsupported r = refl
-faultOr-else n Saying.Bad r = refl
-faultOr-else n (Saying.Start t) r = refl
-faultOr-else n (Saying.End t) r = refl
-faultOr-else n (Saying.Lasts d) r = refl
-faultOr-else n (Saying.Repeats x) r = refl
-faultOr-else n (Saying.HasStatus x) r = refl
-faultOr-else n (Saying.Transparent x) r = refl
-faultOr-else n (Saying.HasPeriods b) r = refl
+faultOr-else n PropertyValue.Nothing r = refl
+faultOr-else n PropertyValue.Unsupported r = refl
+faultOr-else n PropertyValue.Bad r = refl
+faultOr-else n (PropertyValue.Start t) r = refl
+faultOr-else n (PropertyValue.End t) r = refl
+faultOr-else n (PropertyValue.Lasts d) r = refl
+faultOr-else n (PropertyValue.Repeats x) r = refl
+faultOr-else n (PropertyValue.HasStatus x) r = refl
+faultOr-else n (PropertyValue.Transparent x) r = refl
+faultOr-else n (PropertyValue.HasPeriods b) r = refl
 
 pub faultIn-else : (c : Context) (o : Scope) (xs : List Numbered) (r : ValueCheck) → faultIn c o xs r ≡ faultElse (faultIn c o xs ValueCheck.Good) r
 unfolding faultIn faultElse
 faultIn-else c o [] r = refl
 faultIn-else c o (x ∷ xs) r =
     let n = x .number in
-    let y = sayingOf c o (x .line) in
+    let y = propertyValueOf c o (x .line) in
     faultOr-else n y (faultIn c o xs r)
     ∙ ap (faultElse (faultOr n y ValueCheck.Good)) (faultIn-else c o xs r)
     ∙ sym (fault-else-twice (faultOr n y ValueCheck.Good) (faultIn c o xs ValueCheck.Good) r)

@@ -7,21 +7,21 @@ use Rattle.line.specs.Grammar.{ContentLine}
 use Rattle.line.specs.Reading.{lineOf}
 use Rattle.line.specs.WellFormed.{lineCheck}
 use Rattle.line.specs.declared.check.LineCheck.{LineCheck}
-use Rattle.marks.specs.Innermost.{isEvent, isFreeBusy}
-use Rattle.values.specs.Period.{periodsIn, goodPeriods}
+use Rattle.delimiters.specs.Innermost.{isEvent, isFreeBusy}
+use Rattle.values.specs.Period.{periodItems, goodPeriods}
 use Rattle.values.specs.declared.times.Context.{Context}
-use Rattle.said.specs.Said.{sayingOf}
-use Rattle.said.specs.declared.Scope.{Scope}
-use Rattle.said.specs.declared.Saying.{Saying}
+use Rattle.property.specs.Properties.{propertyValueOf}
+use Rattle.property.specs.declared.Scope.{Scope}
+use Rattle.property.specs.declared.PropertyValue.{PropertyValue}
 use Rattle.nesting.specs.Nesting.{nestingOf}
 use Rattle.nesting.specs.Components.{Numbered, Component, treeOf, itemsBelow, componentsIn, propertiesIn}
 use Rattle.nesting.specs.declared.Nesting.{Nesting}
-use Rattle.rules.specs.Gathered.{nothingGathered, gather}
-use Rattle.rules.specs.BusyTypes.{BusyPeriod, typed}
-use Rattle.rules.specs.Events.{eventBy, blockBy, Entry, event, block}
-use Rattle.rules.specs.declared.Event.{Event}
-use Rattle.rules.specs.declared.EventRead.{EventRead}
-use Rattle.rules.specs.declared.BlockRead.{BlockRead}
+use Rattle.events.specs.ComponentProperties.{noProperties, withProperties}
+use Rattle.periods.specs.BusyTypes.{BusyPeriod, typed}
+use Rattle.events.specs.Events.{eventBy, blockBy, Entry, event, block}
+use Rattle.events.specs.declared.Event.{Event}
+use Rattle.events.specs.declared.EventRead.{EventRead}
+use Rattle.events.specs.declared.BlockRead.{BlockRead}
 use Rattle.calendar.specs.declared.ValueCheck.{ValueCheck}
 use Rattle.calendar.specs.declared.RuleCheck.{RuleCheck}
 use Rattle.calendar.specs.declared.Fault.{Fault}
@@ -34,29 +34,29 @@ unfoldable pub componentScope : Component → Scope
 componentScope k = scopeOf (k .begin .line .value)
 
 -- what each line directly in a component says, in order
-unfoldable pub sayingsIn : Context → Scope → List Numbered → List Saying
-sayingsIn c s [] = []
-sayingsIn c s (x ∷ xs) = sayingOf c s (x .line) ∷ sayingsIn c s xs
+unfoldable pub propertyValuesIn : Context → Scope → List Numbered → List PropertyValue
+propertyValuesIn c s [] = []
+propertyValuesIn c s (x ∷ xs) = propertyValueOf c s (x .line) ∷ propertyValuesIn c s xs
 
 -- ---- 8 and 9: the first line in file order with either
 
 -- a line's own fault, else what the lines after it have
-unfoldable pub faultOr : ℕ → Saying → ValueCheck → ValueCheck
-faultOr n Saying.Nothing r = r
-faultOr n Saying.Unsupported r = ValueCheck.Unsupported n
-faultOr n Saying.Bad r = ValueCheck.Bad n
-faultOr n (Saying.Start t) r = r
-faultOr n (Saying.End t) r = r
-faultOr n (Saying.Lasts d) r = r
-faultOr n (Saying.Repeats x) r = r
-faultOr n (Saying.HasStatus x) r = r
-faultOr n (Saying.Transparent x) r = r
-faultOr n (Saying.HasPeriods b) r = r
+unfoldable pub faultOr : ℕ → PropertyValue → ValueCheck → ValueCheck
+faultOr n PropertyValue.Nothing r = r
+faultOr n PropertyValue.Unsupported r = ValueCheck.Unsupported n
+faultOr n PropertyValue.Bad r = ValueCheck.Bad n
+faultOr n (PropertyValue.Start t) r = r
+faultOr n (PropertyValue.End t) r = r
+faultOr n (PropertyValue.Lasts d) r = r
+faultOr n (PropertyValue.Repeats x) r = r
+faultOr n (PropertyValue.HasStatus x) r = r
+faultOr n (PropertyValue.Transparent x) r = r
+faultOr n (PropertyValue.HasPeriods b) r = r
 
 -- the lines of one component, and then what is to follow
 unfoldable pub faultIn : Context → Scope → List Numbered → ValueCheck → ValueCheck
 faultIn c s [] r = r
-faultIn c s (x ∷ xs) r = faultOr (x .number) (sayingOf c s (x .line)) (faultIn c s xs r)
+faultIn c s (x ∷ xs) r = faultOr (x .number) (propertyValueOf c s (x .line)) (faultIn c s xs r)
 
 unfoldable pub valueFault : Context → List Component → ValueCheck
 valueFault c [] = ValueCheck.Good
@@ -65,10 +65,10 @@ valueFault c (k ∷ ks) = faultIn c (componentScope k) (propertiesIn (k .items))
 -- ---- 10: the first component in file order that breaks a rule
 
 unfoldable pub eventOf : Context → Component → EventRead
-eventOf c k = eventBy (gather nothingGathered (sayingsIn c Scope.Event (propertiesIn (k .items))))
+eventOf c k = eventBy (withProperties noProperties (propertyValuesIn c Scope.Event (propertiesIn (k .items))))
 
 unfoldable pub blockOf : Context → Component → BlockRead
-blockOf c k = blockBy (gather nothingGathered (sayingsIn c Scope.FreeBusy (propertiesIn (k .items))))
+blockOf c k = blockBy (withProperties noProperties (propertyValuesIn c Scope.FreeBusy (propertiesIn (k .items))))
 
 abbrev pub eventBroken : EventRead → Bool
 eventBroken (EventRead.Of e) = false
@@ -95,22 +95,22 @@ ruleFault c (k ∷ ks) = brokenOr (isBroken c (componentScope k) k) (k .begin .n
 -- ---- the meaning
 
 -- the periods that a line gives
-unfoldable pub periodsBy : Saying → ContentLine → List BusyPeriod
-periodsBy Saying.Nothing x = []
-periodsBy Saying.Unsupported x = []
-periodsBy Saying.Bad x = []
-periodsBy (Saying.Start t) x = []
-periodsBy (Saying.End t) x = []
-periodsBy (Saying.Lasts d) x = []
-periodsBy (Saying.Repeats r) x = []
-periodsBy (Saying.HasStatus s) x = []
-periodsBy (Saying.Transparent t) x = []
-periodsBy (Saying.HasPeriods b) x = typed b (goodPeriods (periodsIn (x .value)))
+unfoldable pub periodsBy : PropertyValue → ContentLine → List BusyPeriod
+periodsBy PropertyValue.Nothing x = []
+periodsBy PropertyValue.Unsupported x = []
+periodsBy PropertyValue.Bad x = []
+periodsBy (PropertyValue.Start t) x = []
+periodsBy (PropertyValue.End t) x = []
+periodsBy (PropertyValue.Lasts d) x = []
+periodsBy (PropertyValue.Repeats r) x = []
+periodsBy (PropertyValue.HasStatus s) x = []
+periodsBy (PropertyValue.Transparent t) x = []
+periodsBy (PropertyValue.HasPeriods b) x = typed b (goodPeriods (periodItems (x .value)))
 
 -- the periods of a block, in file order
 unfoldable pub blockPeriods : Context → List Numbered → List BusyPeriod
 blockPeriods c [] = []
-blockPeriods c (x ∷ xs) = periodsBy (sayingOf c Scope.FreeBusy (x .line)) (x .line) ++ blockPeriods c xs
+blockPeriods c (x ∷ xs) = periodsBy (propertyValueOf c Scope.FreeBusy (x .line)) (x .line) ++ blockPeriods c xs
 
 abbrev pub eventEntry : EventRead → List Entry
 eventEntry (EventRead.Of e) = event e ∷ []

@@ -5,13 +5,13 @@ use mathlib.Core.Bool.{cond}
 use mathlib.Core.List.{List, [], _∷_}
 use lib.Dec.{ltb}
 use lib.ListN.{length, drop}
-use Rattle.values.specs.Period.{periodsIn, goodPeriods, PeriodSmall}
-use Rattle.values.specs.declared.period.Period.{Period}
-use Rattle.calendar.specs.declared.periods.PeriodStep.{PeriodStep}
+use Rattle.values.specs.Period.{periodItems, goodPeriods, PeriodSmall}
+use Rattle.periods.specs.declared.Period.{Period}
+use Rattle.calendar.specs.declared.period_list.PeriodStep.{PeriodStep}
 
 -- the periods from a place on; from place 0 on they are all those of the value
 unfoldable pub periodsFrom : List ℕ → ℕ → List Period
-periodsFrom v from = goodPeriods (periodsIn (drop from v))
+periodsFrom v from = goodPeriods (periodItems (drop from v))
 
 -- the place behind the separator at a place, or the end
 unfoldable pub behind : List ℕ → ℕ → ℕ

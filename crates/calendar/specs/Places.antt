@@ -7,34 +7,34 @@ use lib.ListN.{length}
 use Rattle.text.specs.Lines.{part}
 use Rattle.line.specs.Reading.{lineOf}
 use Rattle.values.specs.declared.times.Context.{Context}
-use Rattle.said.specs.declared.Scope.{Scope}
-use Rattle.said.specs.declared.Saying.{Saying}
+use Rattle.property.specs.declared.Scope.{Scope}
+use Rattle.property.specs.declared.PropertyValue.{PropertyValue}
 use Rattle.nesting.specs.Components.{Component, none, endOf, itemsOf, treeOf, itemsBelow, componentsIn, propertiesIn}
 use Rattle.nesting.specs.Passing.{linesFrom, numbered, SkipsTo}
-use Rattle.rules.specs.Gathered.{nothingGathered, gather}
-use Rattle.rules.specs.Events.{eventBy, blockBy, Entry}
-use Rattle.rules.specs.BusyTypes.{BusyPeriod}
-use Rattle.rules.specs.declared.Gathered.{Gathered}
-use Rattle.rules.specs.declared.EventRead.{EventRead}
-use Rattle.rules.specs.declared.BlockRead.{BlockRead}
-use Rattle.calendar.specs.Meaning.{sayingsIn, faultIn, valueFault, ruleFault, eventBroken, blockBroken, fileLines, blockPeriods, eventEntry, blockEntry}
+use Rattle.events.specs.ComponentProperties.{noProperties, withProperties}
+use Rattle.events.specs.Events.{eventBy, blockBy, Entry}
+use Rattle.periods.specs.BusyTypes.{BusyPeriod}
+use Rattle.events.specs.declared.ComponentProperties.{ComponentProperties}
+use Rattle.events.specs.declared.EventRead.{EventRead}
+use Rattle.events.specs.declared.BlockRead.{BlockRead}
+use Rattle.calendar.specs.Meaning.{propertyValuesIn, faultIn, valueFault, ruleFault, eventBroken, blockBroken, fileLines, blockPeriods, eventEntry, blockEntry}
 use Rattle.calendar.specs.declared.ValueCheck.{ValueCheck}
 use Rattle.calendar.specs.declared.places.Below.{Below}
 use Rattle.calendar.specs.declared.component.ComponentRead.{ComponentRead}
 use Rattle.calendar.specs.declared.contents.ContentsCheck.{ContentsCheck}
 
 -- what each line directly in it says; by which number the lines begin plays no part
-unfoldable pub sayingsAt : Context → Scope → List ℕ → ℕ → List Saying
-sayingsAt c o s at = sayingsIn c o (propertiesIn (itemsOf 0 (linesFrom s at 1)))
+unfoldable pub propertyValuesAt : Context → Scope → List ℕ → ℕ → List PropertyValue
+propertyValuesAt c o s at = propertyValuesIn c o (propertiesIn (itemsOf 0 (linesFrom s at 1)))
 
-unfoldable pub gatheredAt : Context → Scope → List ℕ → ℕ → Gathered
-gatheredAt c o s at = gather nothingGathered (sayingsAt c o s at)
+unfoldable pub componentPropertiesAt : Context → Scope → List ℕ → ℕ → ComponentProperties
+componentPropertiesAt c o s at = withProperties noProperties (propertyValuesAt c o s at)
 
 unfoldable pub eventAt : Context → List ℕ → ℕ → EventRead
-eventAt c s at = eventBy (gatheredAt c Scope.Event s at)
+eventAt c s at = eventBy (componentPropertiesAt c Scope.Event s at)
 
 unfoldable pub blockAt : Context → List ℕ → ℕ → BlockRead
-blockAt c s at = blockBy (gatheredAt c Scope.FreeBusy s at)
+blockAt c s at = blockBy (componentPropertiesAt c Scope.FreeBusy s at)
 
 unfoldable pub brokenAt : Context → Scope → List ℕ → ℕ → Bool
 brokenAt c Scope.Event s at = eventBroken (eventAt c s at)
@@ -90,7 +90,7 @@ BelowIs s Below.None = NoneBelow s
 -- what one walk over it answers
 pub record ReadsComponent (c : Context) (o : Scope) (s : List ℕ) (at i : ℕ) (r : ComponentRead) : Type 0 where
   pub first-fault : r .fault ≡ faultAt c o s at i
-  pub together : r .gathered ≡ gatheredAt c o s at
+  pub together : r .properties ≡ componentPropertiesAt c o s at
   pub ends : SkipsTo s at i (r .behind)
 
 -- what one walk over the components from a place on answers; rules are told where no value is at fault

@@ -1,19 +1,19 @@
 // One walk over the items of a component: its first fault, what its lines say together, and where it ends.
 // Each line is asked once what it says, for all that the callers want to know.
 use crate::ValueCheck;
+use events::ComponentProperties;
+use events::properties;
 use nesting::items;
 use nesting::items::Item;
 use nesting::items::Place;
-use rules::Gathered;
-use rules::gather;
-use said::Saying;
-use said::Scope;
+use property::PropertyValue;
+use property::Scope;
 use values::times::Context;
 ghost use mathlib.Core.Bool.{true};
 ghost use mathlib.Core.Path.{_≡_};
 ghost use Prim.Native.Nat.{_+_, _≤_};
 ghost use lib.ListN.{length};
-ghost use Rattle.said.specs.declared.Saying.{Saying};
+ghost use Rattle.property.specs.declared.PropertyValue.{PropertyValue};
 ghost use Rattle.calendar.specs.Meaning.{faultOr};
 ghost use Rattle.calendar.specs.Places.{ReadsComponent, faultElse};
 ghost use Rattle.calendar.specs.declared.ValueCheck.{ValueCheck};
@@ -23,7 +23,7 @@ pub struct ComponentRead {
     // The first fault of its own lines.
     pub fault: ValueCheck,
     // What its own lines say together.
-    pub gathered: Gathered,
+    pub properties: ComponentProperties,
     // The place behind its END line.
     pub behind: Place,
 }
@@ -40,29 +40,29 @@ fn fault_else(fault: ValueCheck, next: ValueCheck) -> ValueCheck
 }
 
 // The first fault so far, after a line that says this.
-fn fault_with(fault: ValueCheck, number: usize, said: Saying) -> ValueCheck
+fn fault_with(fault: ValueCheck, number: usize, said: PropertyValue) -> ValueCheck
     ensures { λ r. ⌜ r ≡ faultElse fault (faultOr number said ValueCheck.Good) ⌝ }
 {
     match said {
-        Saying::Unsupported => fault_else(fault, ValueCheck::Unsupported(number)),
-        Saying::Bad => fault_else(fault, ValueCheck::Bad(number)),
-        Saying::Nothing => fault,
-        Saying::Start(_) => fault,
-        Saying::End(_) => fault,
-        Saying::Lasts(_) => fault,
-        Saying::Repeats(_) => fault,
-        Saying::HasStatus(_) => fault,
-        Saying::Transparent(_) => fault,
-        Saying::HasPeriods(_) => fault,
+        PropertyValue::Unsupported => fault_else(fault, ValueCheck::Unsupported(number)),
+        PropertyValue::Bad => fault_else(fault, ValueCheck::Bad(number)),
+        PropertyValue::Nothing => fault,
+        PropertyValue::Start(_) => fault,
+        PropertyValue::End(_) => fault,
+        PropertyValue::Lasts(_) => fault,
+        PropertyValue::Repeats(_) => fault,
+        PropertyValue::HasStatus(_) => fault,
+        PropertyValue::Transparent(_) => fault,
+        PropertyValue::HasPeriods(_) => fault,
     }
 }
 
 // Does the line say nothing? Then it has no fault and adds nothing; most lines do.
-fn says_nothing(said: Saying) -> bool
-    ensures { λ r. ⌜ (r ≡ true → said ≡ Saying.Nothing) ⌝ }
+fn says_nothing(said: PropertyValue) -> bool
+    ensures { λ r. ⌜ (r ≡ true → said ≡ PropertyValue.Nothing) ⌝ }
 {
     match said {
-        Saying::Nothing => true,
+        PropertyValue::Nothing => true,
         _ => false,
     }
 }
@@ -79,16 +79,16 @@ pub fn read_component(
     ensures { λ r. ⌜ ReadsComponent c scope (now (s .entry)) from first r ⌝ }
 {
     let mut fault = ValueCheck::Good;
-    let mut gathered = gather::nothing_gathered();
+    let mut properties = properties::no_properties();
     let mut at = from;
     let mut number = first;
     loop {
         match items::next_item(s, at) {
             Item::Property(e, next) => {
-                let said = said::saying_of(c, scope, &s[at..e]);
+                let said = property::property_value_of(c, scope, &s[at..e]);
                 if !says_nothing(said) {
                     fault = fault_with(fault, number, said);
-                    gathered = gather::gathered_with(gathered, said);
+                    properties = properties::with_property(properties, said);
                 }
                 at = next;
                 number += 1;
@@ -103,7 +103,7 @@ pub fn read_component(
     }
     ComponentRead {
         fault,
-        gathered,
+        properties,
         behind: items::pass_end(s, at, number),
     }
 }

@@ -5,13 +5,13 @@ use crate::RuleCheck;
 use crate::ValueCheck;
 use crate::component;
 use crate::places;
+use events::BlockRead;
+use events::ComponentProperties;
+use events::EventRead;
+use events::rules;
 use nesting::items;
 use nesting::items::Item;
-use rules::BlockRead;
-use rules::EventRead;
-use rules::Gathered;
-use rules::events;
-use said::Scope;
+use property::Scope;
 use values::times::Context;
 ghost use mathlib.Core.Path.{_≡_};
 ghost use mathlib.Core.List.{[]};
@@ -49,12 +49,12 @@ fn block_broken(b: BlockRead) -> bool
 }
 
 // Does a component break a rule whose lines say this together?
-pub fn is_broken(scope: Scope, g: Gathered) -> bool
+pub fn is_broken(scope: Scope, g: ComponentProperties) -> bool
     ensures { λ r. ⌜ r ≡ brokenBy scope g ⌝ }
 {
     match scope {
-        Scope::Event => event_broken(events::event_by(g)),
-        Scope::FreeBusy => block_broken(events::block_by(g)),
+        Scope::Event => event_broken(rules::event_by(g)),
+        Scope::FreeBusy => block_broken(rules::block_by(g)),
         Scope::Other => false,
     }
 }
@@ -70,7 +70,12 @@ pub fn broken_else(before: RuleCheck, number: usize) -> RuleCheck
 }
 
 // The first broken component of those before and the one of this line.
-pub fn first_broken(before: RuleCheck, number: usize, scope: Scope, g: Gathered) -> RuleCheck
+pub fn first_broken(
+    before: RuleCheck,
+    number: usize,
+    scope: Scope,
+    g: ComponentProperties,
+) -> RuleCheck
     ensures { λ r. ⌜ r ≡ firstBroken before number scope g ⌝ }
 {
     if is_broken(scope, g) {
@@ -99,8 +104,8 @@ pub fn check_from(s: &[u8], from: usize, first: usize, c: Context) -> ContentsCh
                 let values = r.fault;
                 match values {
                     ValueCheck::Good => {
-                        let gathered = r.gathered;
-                        rules = first_broken(rules, number, scope, gathered);
+                        let properties = r.properties;
+                        rules = first_broken(rules, number, scope, properties);
                         at = r.behind.at;
                         number = r.behind.number;
                     }

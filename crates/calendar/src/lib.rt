@@ -3,7 +3,7 @@
 pub mod component;
 pub mod contents;
 pub mod faults;
-pub mod periods;
+pub mod period_list;
 pub mod places;
 
 // The first line with a fault of its value, or none.

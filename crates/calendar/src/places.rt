@@ -1,18 +1,18 @@
 // From place to place in the bytes of a file: the events and blocks there.
 // A component is known by the place where its items begin; nothing of it is kept in memory.
+use events::BlockRead;
+use events::ComponentProperties;
+use events::EventRead;
+use events::properties;
+use events::rules;
 use nesting::items;
 use nesting::items::Item;
-use rules::BlockRead;
-use rules::EventRead;
-use rules::Gathered;
-use rules::events;
-use rules::gather;
-use said::Scope;
+use property::Scope;
 use values::times::Context;
 ghost use mathlib.Core.Path.{_≡_};
 ghost use Prim.Native.Nat.{_+_, _≤_};
 ghost use Rattle.calendar.specs.Meaning.{scopeOf};
-ghost use Rattle.calendar.specs.Places.{gatheredAt, eventAt, blockAt, BelowIs};
+ghost use Rattle.calendar.specs.Places.{componentPropertiesAt, eventAt, blockAt, BelowIs};
 
 // The items of the first component.
 pub enum Below {
@@ -35,16 +35,21 @@ pub fn scope_of(name: &[u8]) -> Scope
 }
 
 // What the lines directly in the component say together; inner components are passed over.
-pub fn gather_at(s: &[u8], from: usize, c: Context, scope: Scope) -> Gathered
+pub fn component_properties_at(
+    s: &[u8],
+    from: usize,
+    c: Context,
+    scope: Scope,
+) -> ComponentProperties
     requires { ⌜ c .shift ≤ 100800 ⌝ }
-    ensures { λ r. ⌜ r ≡ gatheredAt c scope (now (s .entry)) from ⌝ }
+    ensures { λ r. ⌜ r ≡ componentPropertiesAt c scope (now (s .entry)) from ⌝ }
 {
-    let mut g = gather::nothing_gathered();
+    let mut g = properties::no_properties();
     let mut at = from;
     loop {
         match items::next_item(s, at) {
             Item::Property(e, next) => {
-                g = gather::gathered_with(g, said::saying_of(c, scope, &s[at..e]));
+                g = properties::with_property(g, property::property_value_of(c, scope, &s[at..e]));
                 at = next;
             }
             Item::Inner(_, next) => {
@@ -61,7 +66,7 @@ pub fn event_at(s: &[u8], at: usize, c: Context) -> EventRead
     requires { ⌜ c .shift ≤ 100800 ⌝ }
     ensures { λ r. ⌜ r ≡ eventAt c (now (s .entry)) at ⌝ }
 {
-    events::event_by(gather_at(s, at, c, Scope::Event))
+    rules::event_by(component_properties_at(s, at, c, Scope::Event))
 }
 
 // The block of the component whose items begin here.
@@ -69,7 +74,7 @@ pub fn block_at(s: &[u8], at: usize, c: Context) -> BlockRead
     requires { ⌜ c .shift ≤ 100800 ⌝ }
     ensures { λ r. ⌜ r ≡ blockAt c (now (s .entry)) at ⌝ }
 {
-    events::block_by(gather_at(s, at, c, Scope::FreeBusy))
+    rules::block_by(component_properties_at(s, at, c, Scope::FreeBusy))
 }
 
 // Where the items of the first component begin.

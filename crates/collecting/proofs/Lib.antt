@@ -1,2 +1,2 @@
-pub mod CollectTables
-pub mod CollectCalls
+pub mod CollectStages
+pub mod Collecting

@@ -7,14 +7,14 @@ use lib.Dec.{ltb}
 use lib.ListN.{length}
 use lib.IntN.{ℤ}
 use Rattle.text.specs.Unfolding.{unfolded}
-use Rattle.values.specs.declared.period.Period.{Period}
+use Rattle.periods.specs.declared.Period.{Period}
 use Rattle.values.specs.declared.times.Context.{Context}
-use Rattle.said.specs.declared.Busy.{Busy}
+use Rattle.periods.specs.declared.BusyType.{BusyType}
 use Rattle.table.specs.Runs.{runs}
 use Rattle.table.specs.Tables.{Sound}
 use Rattle.report.specs.Writing.{byType}
-use Rattle.rules.specs.BusyTypes.{isBusy}
-use Rattle.rules.specs.Events.{Entry}
+use Rattle.periods.specs.BusyTypes.{isBusy}
+use Rattle.events.specs.Events.{Entry}
 use Rattle.calendar.specs.Meaning.{entriesOf, componentsOf}
 use Rattle.calendar.specs.declared.Fault.{Fault}
 use Rattle.pieces.specs.Covered.{covered}
@@ -42,7 +42,7 @@ pub record AllSound (r : Collected) : Type 0 where
 -- a refusal, and no period
 pub record Refuses (f : Fault) (r : Collected) : Type 0 where
   pub fault-is : r .fault ≡ f
-  pub no-periods : (b : Busy) → byType (r .busy) (r .tentative) (r .unavailable) b ≡ []
+  pub no-periods : (b : BusyType) → byType (r .busy) (r .tentative) (r .unavailable) b ≡ []
   pub sound : AllSound r
 
 -- no refusal, and a table for each place of a report, from the first n pieces of a column
@@ -58,14 +58,14 @@ unlessFault Fault.None ps = ps
 unlessFault (Fault.At n i) ps = []
 
 -- the lowest refusal of some rows, and the tables of these periods where there is none
-pub record Tabled (rows : List Row) (periods : Busy → List Period) (r : Collected) : Type 0 where
+pub record Tabled (rows : List Row) (periods : BusyType → List Period) (r : Collected) : Type 0 where
   pub fault-is : r .fault ≡ lowest rows
-  pub periods-are : (b : Busy) → isBusy b ≡ true
+  pub periods-are : (b : BusyType) → isBusy b ≡ true
       → byType (r .busy) (r .tentative) (r .unavailable) b ≡ unlessFault (lowest rows) (periods b)
   pub sound : AllSound r
 
 -- the same, and the work buffer that goes with it
-pub record Gathered (rows : List Row) (periods : Busy → List Period) (cal work : List ℕ) (r : Collected) (left : List ℕ) : Type 0 where
+pub record CollectedAs (rows : List Row) (periods : BusyType → List Period) (cal work : List ℕ) (r : Collected) (left : List ℕ) : Type 0 where
   pub tabled : Tabled rows periods r
   pub work-left : left ≡ workBy (lowest rows) cal work
 
@@ -76,17 +76,17 @@ unfoldable pub pieceRows : ℕ → ℕ → List Entry → List Row
 pieceRows a e es = row 11 0 (ltb 512 (length (busyPieces a e es))) ∷ []
 
 -- the covered seconds of the range as the fewest periods
-unfoldable pub periodsIn : ℕ → ℕ → List Entry → Busy → List Period
-periodsIn a e es b = runs (covered b es) a (e - a)
+unfoldable pub fewestPeriods : ℕ → ℕ → List Entry → BusyType → List Period
+fewestPeriods a e es b = runs (covered b es) a (e - a)
 
 -- the lowest of 8 to 11, and the tables where there is none
 abbrev pub ContentsTabled : Context → List ℕ → ℕ → ℕ → Collected → Type 0
 ContentsTabled c u a e r =
-    Tabled (contentsRows c u (pieceRows a e (entriesOf c (componentsOf u)))) (periodsIn a e (entriesOf c (componentsOf u))) r
+    Tabled (contentsRows c u (pieceRows a e (entriesOf c (componentsOf u)))) (fewestPeriods a e (entriesOf c (componentsOf u))) r
 
 -- 6 to 11
 unfoldable pub laterRows : Context → List ℕ → ℕ → ℕ → List Row
 laterRows c cal a e = calendarRows c (unfolded cal) (pieceRows a e (entriesOf c (componentsOf (unfolded cal))))
 
-unfoldable pub laterPeriods : Context → List ℕ → ℕ → ℕ → Busy → List Period
-laterPeriods c cal a e = periodsIn a e (entriesOf c (componentsOf (unfolded cal)))
+unfoldable pub laterPeriods : Context → List ℕ → ℕ → ℕ → BusyType → List Period
+laterPeriods c cal a e = fewestPeriods a e (entriesOf c (componentsOf (unfolded cal)))

@@ -3,11 +3,11 @@ use Prim.Native.Nat.{ℕ}
 use mathlib.Core.Path.{_≡_}
 use mathlib.Core.Bool.{true}
 use mathlib.Core.List.{List, []}
-use Rattle.values.specs.declared.period.Period.{Period}
-use Rattle.said.specs.declared.Busy.{Busy}
+use Rattle.periods.specs.declared.Period.{Period}
+use Rattle.periods.specs.declared.BusyType.{BusyType}
 use Rattle.table.specs.Tables.{Sound}
 use Rattle.report.specs.Writing.{byType}
-use Rattle.rules.specs.BusyTypes.{isBusy}
+use Rattle.periods.specs.BusyTypes.{isBusy}
 use Rattle.calendar.specs.declared.Fault.{Fault}
 use Rattle.refusals.specs.Refusals.{lowest}
 use Rattle.refusals.specs.Stages.{workBy}
@@ -15,7 +15,7 @@ use Rattle.collecting.specs.ReportCalls.{ReportCall, reportFor, collectR
 use Rattle.collecting.specs.declared.Collected.{Collected}
 
 -- the periods of each type, none where there is a refusal
-unfoldable pub periodsBy : Fault → ReportCall → Busy → List Period
+unfoldable pub periodsBy : Fault → ReportCall → BusyType → List Period
 periodsBy Fault.None m b = reportFor m .periods b
 periodsBy (Fault.At n i) m b = []
 
@@ -23,7 +23,7 @@ periodsBy (Fault.At n i) m b = []
 pub record Collects (m : ReportCall) (r : Collected) (work-left : List ℕ) : Type 0 where
   pub fault-is : r .fault ≡ lowest (collectRows m [])
   pub work-left-is : work-left ≡ workBy (lowest (collectRows m [])) (m .calendar) (m .work)
-  pub periods-are : (b : Busy) → isBusy b ≡ true
+  pub periods-are : (b : BusyType) → isBusy b ≡ true
       → byType (r .busy) (r .tentative) (r .unavailable) b ≡ periodsBy (lowest (collectRows m [])) m b
   pub busy-sound : Sound (r .busy)
   pub tentative-sound : Sound (r .tentative)

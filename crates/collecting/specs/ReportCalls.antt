@@ -6,11 +6,11 @@ use lib.Dec.{ltb, leb}
 use lib.ListN.{length}
 use lib.IntN.{ℤ}
 use Rattle.text.specs.Unfolding.{unfolded}
-use Rattle.said.specs.declared.Busy.{Busy}
+use Rattle.periods.specs.declared.BusyType.{BusyType}
 use Rattle.table.specs.Runs.{runs}
 use Rattle.report.specs.Bytes.{Report}
-use Rattle.rules.specs.BusyTypes.{BusyPeriod}
-use Rattle.rules.specs.Events.{Entry}
+use Rattle.periods.specs.BusyTypes.{BusyPeriod}
+use Rattle.events.specs.Events.{Entry}
 use Rattle.calendar.specs.Meaning.{entriesOf, componentsOf}
 use Rattle.pieces.specs.Covered.{covered}
 use Rattle.pieces.specs.Pieces.{busyPieces}
@@ -39,7 +39,7 @@ unfoldable pub entriesIn : List ℕ → ℤ → List Entry
 entriesIn cal o = entriesOf (contextOf o) (componentsOf (unfolded cal))
 
 -- is a second covered under a busy type, by the calendar and its offset alone?
-unfoldable pub coveredIn : List ℕ → ℤ → Busy → ℕ → Bool
+unfoldable pub coveredIn : List ℕ → ℤ → BusyType → ℕ → Bool
 coveredIn cal o b x = covered b (entriesIn cal o) x
 
 -- the busy pieces of a call

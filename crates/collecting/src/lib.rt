@@ -9,7 +9,7 @@ ghost use mathlib.Core.List.{List};
 ghost use Prim.Native.Nat.{ℕ, _*_, _≤_, _<_};
 ghost use lib.ListN.{length};
 ghost use Rattle.collecting.specs.Collecting.{Collects};
-ghost use Rattle.collecting.specs.CollectStages.{callRead, Refuses, Typed, ContentsTabled, Gathered, laterRows, laterPeriods};
+ghost use Rattle.collecting.specs.CollectStages.{callRead, Refuses, Typed, ContentsTabled, CollectedAs, laterRows, laterPeriods};
 
 // The lowest refusal or none, and the periods of each busy type.
 pub struct Collected {
@@ -57,16 +57,16 @@ fn tables_of(column: &[u32], n: usize) -> Collected
 }
 
 // Refusals 8 to 11, then the tables: the pieces are noted in the column.
-fn collect_noted(column: &mut [u32], s: &[u8], c: Context, start: u64, end: u64) -> Collected
+fn collect_stored(column: &mut [u32], s: &[u8], c: Context, start: u64, end: u64) -> Collected
     requires { ⌜ length (now column) ≡ 1539 ⌝ }
     requires { ⌜ c .shift ≤ 100800 ⌝ }
     requires { ⌜ start < end ⌝ }
     requires { ⌜ end ≤ 4102444799 ⌝ }
     ensures { λ r. ⌜ ContentsTabled c (now (s .entry)) start end r ⌝ }
 {
-    let noted = walk::note_contents(column, s, c, start, end);
-    let f = noted.fault;
-    let n = noted.count;
+    let stored = walk::store_contents(column, s, c, start, end);
+    let f = stored.fault;
+    let n = stored.count;
     match f {
         Fault::At(k, line) => refused(Fault::At(k, line)),
         Fault::None => {
@@ -86,7 +86,7 @@ fn collect_contents(s: &[u8], c: Context, start: u64, end: u64) -> Collected
     ensures { λ r. ⌜ ContentsTabled c (now (s .entry)) start end r ⌝ }
 {
     let mut column = [0u32; 1539];
-    collect_noted(&mut column, s, c, start, end)
+    collect_stored(&mut column, s, c, start, end)
 }
 
 // Unfolds the calendar to the front of the work buffer; then refusals 6 to 11, then the tables.
@@ -95,7 +95,7 @@ fn collect_calendar(work: &mut [u8], cal: &[u8], c: Context, start: u64, end: u6
     requires { ⌜ c .shift ≤ 100800 ⌝ }
     requires { ⌜ start < end ⌝ }
     requires { ⌜ end ≤ 4102444799 ⌝ }
-    ensures { λ r. ⌜ Gathered (laterRows c (now (cal .entry)) start end) (laterPeriods c (now (cal .entry)) start end) (now (cal .entry)) (now (work .entry)) r (now (work .exit)) ⌝ }
+    ensures { λ r. ⌜ CollectedAs (laterRows c (now (cal .entry)) start end) (laterPeriods c (now (cal .entry)) start end) (now (cal .entry)) (now (work .entry)) r (now (work .exit)) ⌝ }
 {
     let n = text::unfold_into(work, cal);
     let f = calendar::faults::check_structure(&work[..n]);

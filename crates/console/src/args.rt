@@ -1,8 +1,8 @@
 // The numbers among the arguments; what is wrong with one is said here.
 // A caller that gets none has nothing more to print.
 use crate::out;
-use desk::arguments::Number;
-use desk::arguments::Offset;
+use cli::arguments::Number;
+use cli::arguments::Offset;
 
 // What a report is asked for.
 pub struct Plan {
@@ -21,7 +21,7 @@ pub enum Planned {
 fn second_at(i: usize) -> Number {
     let mut word = [0u8; 64];
     let n = os::arg(i, &mut word);
-    let read = desk::arguments::second_of(&word[..n]);
+    let read = cli::arguments::second_of(&word[..n]);
     match read {
         Number::Of(t) => Number::Of(t),
         Number::Bad => {
@@ -35,7 +35,7 @@ fn second_at(i: usize) -> Number {
 pub fn offset_at(i: usize) -> Offset {
     let mut word = [0u8; 64];
     let n = os::arg(i, &mut word);
-    let read = desk::arguments::offset_of(&word[..n]);
+    let read = cli::arguments::offset_of(&word[..n]);
     match read {
         Offset::Of(z) => Offset::Of(z),
         Offset::Bad => {

@@ -66,7 +66,7 @@ pub fn unreadable(name: &[u8], error: i32) {
 // A refusal's number and meaning.
 pub fn refused(n: u8) {
     let mut words = [0u8; 64];
-    let k = desk::words::meaning(&mut words, n);
+    let k = cli::words::meaning(&mut words, n);
     print(b"refused ");
     print_number(n as u64);
     print(b": ");

@@ -3,14 +3,14 @@
 use crate::file;
 use crate::file::Got;
 use crate::out;
-use desk::hex::Decoded;
+use cli::hex::Decoded;
 
 fn from_hex(name: &[u8], text: &[u8], n: usize, query: &mut [u8]) -> Got {
     if text.len() <= n {
         out::wrong(b"the text of a .hex query is at most 131,071 bytes long");
         return Got::Failed(0);
     }
-    let read = desk::hex::decode_hex(query, &text[0..n]);
+    let read = cli::hex::decode_hex(query, &text[0..n]);
     match read {
         Decoded::Of(k) => Got::Bytes(k),
         Decoded::TooLong => Got::Bytes(query.len()),
@@ -23,7 +23,7 @@ fn from_hex(name: &[u8], text: &[u8], n: usize, query: &mut [u8]) -> Got {
 
 // The query's bytes; one that is too long stays too long for the engine.
 fn read_query(name: &[u8], text: &mut [u8], query: &mut [u8]) -> Got {
-    if !desk::arguments::is_hex_name(name) {
+    if !cli::arguments::is_hex_name(name) {
         return file::read_or_say(name, query);
     }
     let got = file::read_or_say(name, text);

@@ -8,24 +8,24 @@ use native.Mathlib.Omega.{arith}
 use Rattle.text.specs.Unfolding.{unfolded}
 use Rattle.nesting.specs.Passing.{treeIn}
 use Rattle.calendar.specs.declared.Fault.{Fault}
-use Rattle.query.proofs.Laying.{layout-fits, layout-sections}
-use Rattle.paper.specs.Paper.{WellFormedQuery}
-use Rattle.paper.specs.WellFormed.{queryGood}
-use Rattle.paper.proofs.Refusing.{query-records}
-use Rattle.paper.proofs.WellFormed.{queryGood-iff}
-use Rattle.filter.proofs.Sentences.{query-iff}
-use Rattle.filter.specs.Paper.{QueryPasses}
+use Rattle.query.proofs.LayoutLaws.{layout-fits, layout-sections}
+use Rattle.query_check.specs.QueryRules.{WellFormedQuery}
+use Rattle.query_check.specs.WellFormed.{queryGood}
+use Rattle.query_check.proofs.Queries.{query-records}
+use Rattle.query_check.proofs.WellFormed.{queryGood-iff}
+use Rattle.filter.proofs.FilterRules.{query-iff}
+use Rattle.filter.specs.FilterRules.{QueryPasses}
 use Rattle.filter.specs.Tests.{queryHolds}
 use Rattle.refusals.specs.Refusals.{lowest, Rising, ends, sizeRows}
 use Rattle.refusals.specs.Offsets.{offsetGood, contextOf}
-use Rattle.refusals.proofs.Tables.{none-iff, lowest-iff}
-use Rattle.refusals.proofs.Passing.{rises, sizes-rising, calendar-rising}
+use Rattle.refusals.proofs.Refusals.{none-iff, lowest-iff}
+use Rattle.refusals.proofs.Stages.{rises, sizes-rising, calendar-rising}
 use Rattle.engine.specs.Answers.{verdict, unlessRefused}
 use Rattle.engine.specs.Matching.{MatchCall, queryRows, matchRows, verdictBy, verdictOf, matchOutcome, Matched}
 use Rattle.engine.specs.Demands.{NoneApplies, AnswersOrRefuses, MatchesWhen}
 use Rattle.engine.specs.declared.Answer.{Answer}
-use Rattle.engine.proofs.QueryRows.{query-rising}
-use Rattle.engine.proofs.Outcomes.{refused, let-through, verdict-apart, refusal-found, answer-found}
+use Rattle.engine.proofs.MatchingLaws.{query-rising}
+use Rattle.engine.proofs.MatchStages.{refused, let-through, verdict-apart, refusal-found, answer-found}
 
 -- ---- the table of a match call
 

@@ -14,24 +14,24 @@ use Rattle.time.specs.DateTime.{digitPair, pairAt, joined, yearAt, checkedDay, 
 use Rattle.time.specs.Days.{isLeap, yearDays, daysBeforeYear, monthLengths, lengthIn, beforeIn, monthDays, daysBeforeMonth, dayNumber, isDay}
 use Rattle.time.specs.Limits.{epoch, lastSecond, since, utcSecond}
 use Rattle.query.specs.Records.{textPlace, textFrom, textOf, componentAt}
-use Rattle.query.specs.Sections.{byteAt, countFits, within, behindRecords, behindText, behindTexts, behindTextSection, sectionsOf}
+use Rattle.query.specs.Sections.{byteAt, countFits, placeWithin, behindRecords, behindText, behindTexts, behindTextSection, sectionsOf}
 use Rattle.query.specs.Counting.{everyBelow, someBelow}
-use Rattle.line.specs.Pieces.{firstOutside, before, after, pieces}
+use Rattle.line.specs.Splitting.{firstOutside, before, after, pieces}
 use Rattle.line.specs.Reading.{headOf, valueOf, nameOf, parameterTexts, lineOf, parametersNamed, someList, hasParameter, hasTwice, hasList}
 use Rattle.line.specs.Scanner.{step, isEnding, scan, isWellFormed}
 use Rattle.line.specs.WellFormed.{lineCheckFrom, lineCheck}
-use Rattle.paper.specs.WellFormed.{nameGood, hasChildComponent, hasProperty, standsGood, componentGood, rangesGood, componentsGood, propertiesGood, parametersGood, recordsGood, sectionsGood, queryGood, componentMisplaced, componentsMisplaced, propertiesMisplaced, rangeMisplaced}
-use Rattle.marks.specs.Marks.{markOf}
-use Rattle.marks.specs.Innermost.{isCalendar, isEvent, mayBegin}
+use Rattle.query_check.specs.WellFormed.{nameGood, hasChildComponent, hasProperty, parentGood, componentGood, rangesGood, componentsGood, propertiesGood, parametersGood, recordsGood, sectionsGood, queryGood, componentMisplaced, componentsMisplaced, propertiesMisplaced, rangeMisplaced}
+use Rattle.delimiters.specs.Delimiters.{delimiterOf}
+use Rattle.delimiters.specs.Innermost.{isCalendar, isEvent, mayBegin}
 use Rattle.values.specs.Times.{atSecond, timeBy, readTime, formOf, timeOf}
-use Rattle.said.specs.Said.{isUnsupported, timesOr, eventProperty, propertyOf, timeIn, startBy, unlessZoned, saidBy, sayingOf}
-use Rattle.nesting.specs.Components.{markedFrom, itemsOf, treeOf, componentsIn, propertiesIn, itemsBelow}
+use Rattle.property.specs.Properties.{isUnsupported, timesOr, eventProperty, propertyOf, timeIn, startBy, unlessZoned, valueAs, propertyValueOf}
+use Rattle.nesting.specs.Components.{delimitedFrom, itemsOf, treeOf, componentsIn, propertiesIn, itemsBelow}
 use Rattle.nesting.specs.Nesting.{afterBegin, afterEnd, afterProperty, walk, outcome, nestingOf}
 use Rattle.nesting.specs.Passing.{treeIn}
-use Rattle.properties.specs.PropertyTests.{propertiesHold}
-use Rattle.rules.specs.Events.{endingBy, repeatBy, eventMade, eventWith, eventFrom, eventBy}
-use Rattle.rules.specs.Gathered.{nothingGathered, timeGiven, durationGiven, ruleGiven, statusGiven, transparencyGiven, gatheredWith, gather}
-use Rattle.calendar.specs.Meaning.{scopeOf, componentScope, sayingsIn, faultOr, faultIn, valueFault, eventOf, isBroken, brokenOr, ruleFault, fileLines, componentsOf}
+use Rattle.property_tests.specs.PropertyTests.{propertiesHold}
+use Rattle.events.specs.Events.{endingBy, repeatBy, eventMade, eventWith, eventFrom, eventBy}
+use Rattle.events.specs.ComponentProperties.{noProperties, timeGiven, durationGiven, ruleGiven, statusGiven, transparencyGiven, withProperty, withProperties}
+use Rattle.calendar.specs.Meaning.{scopeOf, componentScope, propertyValuesIn, faultOr, faultIn, valueFault, eventOf, isBroken, brokenOr, ruleFault, fileLines, componentsOf}
 use Rattle.refusals.specs.Refusals.{lowest, sizeRows, lineRow, nestingRow, unsupportedRow, badValueRow, ruleRow, calendarRows, contentsRows}
 use Rattle.refusals.specs.Offsets.{offsetGood}
 use Rattle.filter.specs.Tests.{rangeHolds, someComponentNamed, someComponent, componentHolds, childrenHold, componentTest, queryHolds}
@@ -120,5 +120,5 @@ table =
     ∷ []
 
 pub edges : AllHold table
-unfolding matchOutcome unlessRefused lowest matchRows offsetGood sizeRows queryRows queryGood sectionsGood sectionsOf behindRecords countFits byteAt within behindTextSection behindTexts behindText recordsGood rangesGood everyBelow componentsGood componentGood nameGood componentAt isName textOf textFrom textPlace isNameByte isLetter standsGood sameName upper propertiesGood parametersGood misplacedIn rangeMisplaced componentsMisplaced someBelow componentMisplaced propertiesMisplaced calendarRows contentsRows lineRow lineCheck lineCheckFrom cut unfolded isFold isBreak isBlank isWellFormed scan isEnding step isDigit isControl nestingRow nestingOf outcome walk fileLines contentLines markOf lineOf nameOf before firstOutside headOf parameterTexts pieces valueOf after afterEnd afterBegin isCalendar unsupportedRow valueFault componentsOf componentsIn itemsBelow treeOf itemsOf markedFrom badValueRow ruleRow ruleFault verdictOf verdictBy queryHolds componentTest componentHolds someComponent treeIn rangeHolds propertiesHold childrenHold hasChildComponent hasProperty someComponentNamed afterProperty mayBegin faultIn propertiesIn faultOr sayingOf saidBy propertyOf componentScope scopeOf isEvent timesOr unlessZoned hasParameter parametersNamed startBy timeIn timeOf readTime formOf hasTwice hasList someList timeBy readDateTime clockAt clockOf dateAt three yearAt joined pairAt digitPair checkedDay isDay monthDays lengthIn monthLengths timeAt checkedTime atSecond utcSecond since epoch dayNumber daysBeforeYear endingBy repeatBy eventMade eventWith eventFrom eventBy nothingGathered timeGiven durationGiven ruleGiven statusGiven transparencyGiven gatheredWith gather sayingsIn eventOf isBroken brokenOr isUnsupported eventProperty isLeap yearDays beforeIn daysBeforeMonth lastSecond
+unfolding matchOutcome unlessRefused lowest matchRows offsetGood sizeRows queryRows queryGood sectionsGood sectionsOf behindRecords countFits byteAt placeWithin behindTextSection behindTexts behindText recordsGood rangesGood everyBelow componentsGood componentGood nameGood componentAt isName textOf textFrom textPlace isNameByte isLetter parentGood sameName upper propertiesGood parametersGood misplacedIn rangeMisplaced componentsMisplaced someBelow componentMisplaced propertiesMisplaced calendarRows contentsRows lineRow lineCheck lineCheckFrom cut unfolded isFold isBreak isBlank isWellFormed scan isEnding step isDigit isControl nestingRow nestingOf outcome walk fileLines contentLines delimiterOf lineOf nameOf before firstOutside headOf parameterTexts pieces valueOf after afterEnd afterBegin isCalendar unsupportedRow valueFault componentsOf componentsIn itemsBelow treeOf itemsOf delimitedFrom badValueRow ruleRow ruleFault verdictOf verdictBy queryHolds componentTest componentHolds someComponent treeIn rangeHolds propertiesHold childrenHold hasChildComponent hasProperty someComponentNamed afterProperty mayBegin faultIn propertiesIn faultOr propertyValueOf valueAs propertyOf componentScope scopeOf isEvent timesOr unlessZoned hasParameter parametersNamed startBy timeIn timeOf readTime formOf hasTwice hasList someList timeBy readDateTime clockAt clockOf dateAt three yearAt joined pairAt digitPair checkedDay isDay monthDays lengthIn monthLengths timeAt checkedTime atSecond utcSecond since epoch dayNumber daysBeforeYear endingBy repeatBy eventMade eventWith eventFrom eventBy noProperties timeGiven durationGiven ruleGiven statusGiven transparencyGiven withProperty withProperties propertyValuesIn eventOf isBroken brokenOr isUnsupported eventProperty isLeap yearDays beforeIn daysBeforeMonth lastSecond
 edges = (refl, (refl, (refl, (refl, (refl, (refl, (refl, (refl, (refl, (refl, (refl, (refl, (refl, (refl, (refl, (refl, (refl, tt)))))))))))))))))

@@ -9,8 +9,8 @@ use lib.Seq.{take-at}
 use Rattle.text.specs.Unfolding.{unfolded}
 use Rattle.nesting.specs.Passing.{treeIn}
 use Rattle.calendar.specs.declared.Fault.{Fault}
-use Rattle.paper.specs.Paper.{WellFormedQuery}
-use Rattle.filter.specs.Paper.{QueryPasses}
+use Rattle.query_check.specs.QueryRules.{WellFormedQuery}
+use Rattle.filter.specs.FilterRules.{QueryPasses}
 use Rattle.refusals.specs.Refusals.{lowest}
 use Rattle.refusals.specs.Offsets.{contextOf}
 use Rattle.refusals.specs.Stages.{earlyFault}
@@ -18,7 +18,7 @@ use Rattle.engine.specs.Answers.{verdict, report, Outcome, outcomeOf, re
 use Rattle.engine.specs.Matching.{MatchCall, matchRows, verdictOf, matchOutcome, Matched}
 use Rattle.engine.specs.Demands.{NoneApplies}
 use Rattle.engine.specs.declared.Answer.{Answer}
-use Rattle.engine.proofs.Outcomes.{left-by}
+use Rattle.engine.proofs.MatchStages.{left-by}
 use Rattle.engine.proofs.Demands.{answers-or-refuses, matches-when}
 
 -- outcomes of two kinds are apart

@@ -7,17 +7,17 @@ use mathlib.Core.Logic.{_↔_}
 use native.Mathlib.Omega.{arith}
 use lib.IntN.{pos}
 use lib.ListN.{length, take}
-use Rattle.said.specs.declared.Busy.{Busy}
+use Rattle.periods.specs.declared.BusyType.{BusyType}
 use Rattle.table.proofs.Runs.{runs-same}
 use Rattle.report.specs.Bytes.{reportBytes}
-use Rattle.rules.specs.BusyTypes.{isBusy}
+use Rattle.periods.specs.BusyTypes.{isBusy}
 use Rattle.collecting.specs.ReportCalls.{ReportCall, coveredIn, reportFor}
 use Rattle.engine.specs.Reporting.{Reported}
 use Rattle.engine.specs.Meanings.{NoRefusal, IsReport, SameRange, SameSeconds, OneMeaning}
 use Rattle.engine.specs.declared.Answer.{Answer}
-use Rattle.engine.proofs.Reports.{reports-or-refuses, report-stands}
-use Rattle.engine.proofs.Written.{range-good, stamp-good, equal-bytes}
-use Rattle.engine.proofs.Saying.{read-covers}
+use Rattle.engine.proofs.ReportAnswers.{reports-or-refuses, written-report}
+use Rattle.engine.proofs.Reports.{range-good, stamp-good, equal-bytes}
+use Rattle.engine.proofs.CoveredSeconds.{read-covers}
 
 -- ---- same seconds, same bytes
 
@@ -26,7 +26,7 @@ before-end : (a e t : ℕ) → a ≤ t → t < a + (e - a) → t < e
 before-end a e t h k = omega arith
 
 module _ {x y : ReportCall} (r : SameRange x y) where
-  pub same-periods : SameSeconds x y → (b : Busy) → isBusy b ≡ true → reportFor x .periods b ≡ reportFor y .periods b
+  pub same-periods : SameSeconds x y → (b : BusyType) → isBusy b ≡ true → reportFor x .periods b ≡ reportFor y .periods b
   unfolding SameSeconds reportFor
   same-periods s b u =
       let g = coveredIn (y .calendar) (y .offset) b in
@@ -41,7 +41,7 @@ module _ {x y : ReportCall} (r : SameRange x y) where
 
 -- a second of both ranges is covered in both calendars or in neither, whatever else the calls are
 pub same-second : (x y : ReportCall) → NoRefusal x → NoRefusal y → reportBytes (reportFor x) ≡ reportBytes (reportFor y)
-    → (b : Busy) → isBusy b ≡ true → (t : ℕ) → x .start ≤ t → t < x .end → y .start ≤ t → t < y .end
+    → (b : BusyType) → isBusy b ≡ true → (t : ℕ) → x .start ≤ t → t < x .end → y .start ≤ t → t < y .end
     → coveredIn (x .calendar) (x .offset) b t ≡ coveredIn (y .calendar) (y .offset) b t
 same-second x y f g e b u t h k i j =
     sym (read-covers x (range-good x f) (stamp-good x f) (pos 0) b u t h k)
@@ -55,8 +55,8 @@ module _ {x y : ReportCall} {a b : Answer} {work-x out-x work-y out-y : List ℕ
   same-report : (n k : ℕ) → IsReport a n → IsReport b k → ((n ≡ k) × (take n out-x ≡ take k out-y)) ↔ SameSeconds x y
   unfolding SameSeconds
   same-report n k e f =
-      let v = report-stands p e in
-      let w = report-stands q f in (
+      let v = written-report p e in
+      let w = written-report q f in (
         λ z d u t h l.
             same-second x y (v .none-applies) (w .none-applies) (sym (v .its-bytes) ∙ z .1 ∙ w .its-bytes) d u t h l (rw (← r .same-start) h) (rw (← r .same-end) l),
         λ s.
@@ -68,7 +68,7 @@ module _ {x y : ReportCall} {a b : Answer} {work-x out-x work-y out-y : List ℕ
   one-meaning =
       record {
         both-report = (
-          λ z. (report-stands p (z .2 .0) .none-applies, report-stands q (z .2 .1) .none-applies),
+          λ z. (written-report p (z .2 .0) .none-applies, written-report q (z .2 .1) .none-applies),
           λ h. (length (reportBytes (reportFor x)), length (reportBytes (reportFor y)), (reports-or-refuses p .report-when (h .0), reports-or-refuses q .report-when (h .1))),
         );
         same-report = same-report;

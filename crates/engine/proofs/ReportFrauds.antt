@@ -6,12 +6,12 @@ use mathlib.Core.List.{List, [], _∷_}
 use native.Mathlib.Omega.{arith}
 use lib.ListN.{length, take}
 use Rattle.ascii.proofs.Bools.{clash}
-use Rattle.values.specs.declared.period.Period.{Period}
-use Rattle.said.specs.declared.Busy.{Busy}
-use Rattle.table.specs.Runs.{covers}
+use Rattle.periods.specs.declared.Period.{Period}
+use Rattle.periods.specs.declared.BusyType.{BusyType}
+use Rattle.periods.specs.Periods.{covers}
 use Rattle.report.specs.Bytes.{Report, reportBytes, reportLength}
-use Rattle.report.proofs.Lengths.{report-length}
-use Rattle.rules.specs.BusyTypes.{reportPlace, isBusy}
+use Rattle.report.proofs.Bytes.{report-length}
+use Rattle.periods.specs.BusyTypes.{reportPlace, isBusy}
 use Rattle.calendar.specs.declared.Fault.{Fault}
 use Rattle.refusals.specs.Refusals.{lowest}
 use Rattle.collecting.specs.ReportCalls.{ReportCall, coveredIn, reportFor}
@@ -19,20 +19,20 @@ use Rattle.engine.specs.Answers.{Outcome, verdict, report, outcomeOf, un
 use Rattle.engine.specs.Reporting.{reportRows, reportOutcome, outputAfter, Reported}
 use Rattle.engine.specs.Meanings.{NoRefusal, IsReport}
 use Rattle.engine.specs.declared.Answer.{Answer}
-use Rattle.engine.proofs.Reports.{reports-or-refuses, report-stands}
-use Rattle.engine.proofs.Written.{range-good, periods-cover}
+use Rattle.engine.proofs.ReportAnswers.{reports-or-refuses, written-report}
+use Rattle.engine.proofs.Reports.{range-good, periods-cover}
 use Rattle.engine.proofs.Meanings.{same-second}
 
 -- ---- one report for calendars that differ
 
 -- a second of a call's range, covered under a type or not
-pub record SecondIs (m : ReportCall) (b : Busy) (t : ℕ) (c : Bool) : Type 0 where
+pub record SecondIs (m : ReportCall) (b : BusyType) (t : ℕ) (c : Bool) : Type 0 where
   pub from : m .start ≤ t
   pub to : t < m .end
   pub is-covered : coveredIn (m .calendar) (m .offset) b t ≡ c
 
 -- two calls that differ in a covered second have not the same report
-pub reports-differ : (x y : ReportCall) → NoRefusal x → NoRefusal y → (b : Busy) → isBusy b ≡ true → (t : ℕ) → SecondIs x b t true → SecondIs y b t false
+pub reports-differ : (x y : ReportCall) → NoRefusal x → NoRefusal y → (b : BusyType) → isBusy b ≡ true → (t : ℕ) → SecondIs x b t true → SecondIs y b t false
     → reportBytes (reportFor x) ≡ reportBytes (reportFor y)
     → ⊥
 reports-differ x y f g b u t h k e =
@@ -41,11 +41,11 @@ reports-differ x y f g b u t h k e =
 -- a report that stays the same
 pub constant-report : {x y : ReportCall} {a c : Answer} {work-x out-x work-y out-y : List ℕ} → Reported x a work-x out-x → Reported y c work-y out-y
     → (n k : ℕ) → IsReport a n → IsReport c k → take n out-x ≡ take k out-y
-    → (b : Busy) → isBusy b ≡ true → (t : ℕ) → SecondIs x b t true → SecondIs y b t false
+    → (b : BusyType) → isBusy b ≡ true → (t : ℕ) → SecondIs x b t true → SecondIs y b t false
     → ⊥
 constant-report {x} {y} p q n k i j e b u t h l =
-    let v = report-stands p i in
-    let w = report-stands q j in
+    let v = written-report p i in
+    let w = written-report q j in
     reports-differ x y (v .none-applies) (w .none-applies) b u t h l (sym (v .its-bytes) ∙ e ∙ w .its-bytes)
 
 -- ---- a report of nothing
@@ -56,19 +56,19 @@ none-cover [] t e = refl
 none-cover (p ∷ ps) t e = absurd (omega arith)
 
 -- a report of 190 bytes lists no period
-empty-periods : (r : Report) → length (reportBytes r) ≡ 190 → (b : Busy) → isBusy b ≡ true → length (r .periods b) ≡ 0
+empty-periods : (r : Report) → length (reportBytes r) ≡ 190 → (b : BusyType) → isBusy b ≡ true → length (r .periods b) ≡ 0
 unfolding reportLength isBusy reportPlace
-empty-periods r e Busy.Busy u = omega (arith, report-length r)
-empty-periods r e Busy.Tentative u = omega (arith, report-length r)
-empty-periods r e Busy.Unavailable u = omega (arith, report-length r)
-empty-periods r e Busy.Free u = clash u refl
+empty-periods r e BusyType.Busy u = omega (arith, report-length r)
+empty-periods r e BusyType.Tentative u = omega (arith, report-length r)
+empty-periods r e BusyType.Unavailable u = omega (arith, report-length r)
+empty-periods r e BusyType.Free u = clash u refl
 
 pub empty-report : {m : ReportCall} {work-left out-left : List ℕ} → Reported m (Answer.Length 190) work-left out-left
-    → (b : Busy) → isBusy b ≡ true → (t : ℕ) → SecondIs m b t true
+    → (b : BusyType) → isBusy b ≡ true → (t : ℕ) → SecondIs m b t true
     → ⊥
 unfolding IsReport outcomeOf
 empty-report {m} p b u t h =
-    let z = report-stands p refl in
+    let z = written-report p refl in
     clash (periods-cover m (range-good m (z .none-applies)) b t (h .from) (h .to) ∙ h .is-covered)
     (none-cover (reportFor m .periods b) t (empty-periods (reportFor m) (sym (z .its-length)) b u))
 
@@ -88,7 +88,7 @@ module _ {m : ReportCall} {work-left out-left : List ℕ} where
   -- a length that is not the report's
   pub made-up-length : {n : ℕ} → (n ≡ length (reportBytes (reportFor m)) → ⊥) → Reported m (Answer.Length n) work-left out-left → ⊥
   unfolding IsReport outcomeOf
-  made-up-length h p = h (report-stands p refl .its-length)
+  made-up-length h p = h (written-report p refl .its-length)
 
   -- a verdict for a report
   pub verdict-given : {t : Bool} → Reported m (Answer.Verdict t) work-left out-left → ⊥
@@ -104,4 +104,4 @@ module _ {m : ReportCall} {work-left out-left : List ℕ} where
 pub output-unwritten : {m : ReportCall} {n : ℕ} {work-left : List ℕ} → Reported m (Answer.Length n) work-left (m .output)
     → take n (m .output) ≡ reportBytes (reportFor m)
 unfolding IsReport outcomeOf
-output-unwritten p = report-stands p refl .its-bytes
+output-unwritten p = written-report p refl .its-bytes

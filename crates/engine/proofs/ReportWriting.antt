@@ -12,7 +12,7 @@ use Rattle.table.specs.Tables.{Sound}
 use Rattle.table.specs.declared.Table.{Table}
 use Rattle.report.specs.Bytes.{reportBytes, reportLength}
 use Rattle.report.specs.Writing.{reportOf, Put}
-use Rattle.report.proofs.Lengths.{tables-length}
+use Rattle.report.proofs.Bytes.{tables-length}
 use Rattle.refusals.specs.Refusals.{lowest}
 use Rattle.refusals.specs.Stages.{earlyFault}
 use Rattle.engine.specs.Answers.{Outcome, report, refusal, outcomeOf, refusalIn, unlessRefused}

@@ -1,80 +1,168 @@
--- Demand 1 of the report call follows from its promise: the lowest refusal that applies, else the report, whose bytes stand first in the output.
-use Prim.Native.Nat.{ℕ, _≤_, _<_}
-use mathlib.Core.Path.{_≡_, refl, sym, ap, _∙_}
-use mathlib.Core.Bool.{false}
-use mathlib.Core.List.{List, _++_, List·Memᴰ}
+-- What a report call has to write: its report keeps the limits, has no more periods than the call has busy pieces, and depends on covered seconds alone.
+use Prim.Native.Nat.{ℕ, _+_, _-_, _≤_, _<_}
+use mathlib.Core.Path.{_≡_, refl, sym, ap, _∙_, subst}
+use mathlib.Core.Bool.{Bool, true, false, _&&_}
+use mathlib.Core.List.{List, [], _∷_, List·Memᴰ, List·Memᴰ·head, List·Memᴰ·tail, List·Memᴰ·not-nil, List·Memᴰ·cases-cons}
+use mathlib.Core.Logic.{⊎-elim}
+use native.Mathlib.Nat.{add-sub-of-le}
 use native.Mathlib.Omega.{arith}
-use lib.ListN.{length, take, drop, length-append}
-use lib.Seq.{take-at}
-use Rattle.ascii.proofs.Bools.{not-so}
-use Rattle.text.specs.Unfolding.{unfolded}
-use Rattle.calendar.specs.declared.Fault.{Fault}
-use Rattle.report.specs.Bytes.{reportBytes}
-use Rattle.refusals.specs.Refusals.{Row, lowest, Rising, ends, goes-on}
-use Rattle.refusals.specs.Offsets.{contextOf}
-use Rattle.refusals.proofs.Tables.{none-iff, lowest-iff}
-use Rattle.refusals.proofs.Passing.{rises, sizes-rising, calendar-rising}
-use Rattle.collecting.specs.ReportCalls.{ReportCall, reportFor, collectRows}
-use Rattle.engine.specs.Answers.{Outcome, report, refusal, unlessRefused}
-use Rattle.engine.specs.Reporting.{reportRows, reportOutcome, outputAfter, Reported}
-use Rattle.engine.specs.Meanings.{NoRefusal, IsReport}
-use Rattle.engine.specs.ReportAnswers.{ReportsOrRefuses, ReportStands}
-use Rattle.engine.specs.declared.Answer.{Answer}
-use Rattle.engine.proofs.Outcomes.{refused, let-through, report-apart, refusal-found, answer-found}
+use lib.Dec.{ltb}
+use lib.ListN.{length}
+use borrow.Author.Tests.{ltb-true, ltb-false, leb-true, not-false}
+use Rattle.ascii.proofs.Bools.{and-left, and-right}
+use Rattle.periods.specs.declared.Period.{Period}
+use Rattle.periods.specs.declared.BusyType.{BusyType}
+use Rattle.periods.specs.Periods.{covers}
+use Rattle.table.specs.Runs.{Rising, Lies}
+use Rattle.table.specs.Runs.Rising.{none, then}
+use Rattle.table.proofs.Runs.{runs-rising, runs-same, runs-here}
+use Rattle.table.proofs.Inserting.{fewest}
+use Rattle.periods.proofs.Periods.{secondIn-true}
+use Rattle.report.specs.Bytes.{Report, busyLines, reportLines, reportBytes, GoodPeriods, Writable, periodCount}
+use Rattle.periods.specs.BusyTypes.{reportPlace, isBusy, sameBusy, BusyPeriod}
+use Rattle.pieces.specs.BusyPeriods.{busyPeriods}
+use Rattle.pieces.specs.Covered.{ofType, coveredBy, covered}
+use Rattle.pieces.specs.Pieces.{busyPieces}
+use Rattle.pieces.proofs.Pieces.{clipped-covers, pieces-inside, pieces-count}
+use Rattle.refusals.specs.Refusals.{sizeRows, calendarRows, contentsRows}
+use Rattle.refusals.specs.Offsets.{offsetGood}
+use Rattle.collecting.specs.ReportCalls.{ReportCall, rangeGood, stampGood, entriesIn, coveredIn, piecesFor, reportFor, collectRows}
+use Rattle.engine.specs.Reporting.{reportRows}
+use Rattle.engine.specs.Meanings.{NoRefusal}
+use Rattle.engine.proofs.ReportAnswers.{not-applied}
 
--- ---- the table of a report call
+-- ---- what is known where nothing refuses
 
--- rows above a number are above any lower one
-from-lower : {n m : ℕ} {rows : List Row} → n ≤ m → Rising m rows → Rising n rows
-from-lower h ends = ends
-from-lower {n} {m} h (goes-on {r = r} k g) = let z : n < r .number = omega arith in goes-on z g
+module _ (m : ReportCall) (h : NoRefusal m) where
+  first-row : (rangeGood (m .start) (m .end) && stampGood (m .stamp) && offsetGood (m .offset)) ≡ true
+  unfolding reportRows collectRows
+  first-row = not-false _ (not-applied m h (List·Memᴰ·head refl))
 
-pub report-rising : (m : ReportCall) → Rising 0 (reportRows m)
-unfolding reportRows collectRows
-report-rising m =
-    rises 0 1 refl (omega arith)
-    (sizes-rising _ _ _
-    (from-lower (omega arith)
-    (calendar-rising (contextOf (m .offset)) (unfolded (m .calendar)) _ (rises 10 11 refl (omega arith) (rises 11 12 refl (omega arith) ends)))))
+  pub range-good : rangeGood (m .start) (m .end) ≡ true
+  range-good = and-left (rangeGood (m .start) (m .end)) _ (and-left (rangeGood (m .start) (m .end) && stampGood (m .stamp)) _ first-row)
 
--- no row of a call that nothing refuses applies
-pub not-applied : (m : ReportCall) → NoRefusal m → {r : Row} → List·Memᴰ r (reportRows m) → r .applies ≡ false
-unfolding NoRefusal
-not-applied m h {r} l = not-so (r .applies) (λ e. h (r .number) (record { which = r; listed = l; numbered = refl; applies = e }))
+  pub stamp-good : stampGood (m .stamp) ≡ true
+  stamp-good = and-right (rangeGood (m .start) (m .end)) _ (and-left (rangeGood (m .start) (m .end) && stampGood (m .stamp)) _ first-row)
 
--- ---- outcomes
+  pub few-pieces : length (piecesFor m) ≤ 512
+  unfolding reportRows collectRows sizeRows calendarRows contentsRows
+  few-pieces =
+      ltb-false _ _
+      (not-applied m h
+      (List·Memᴰ·tail
+      (List·Memᴰ·tail
+      (List·Memᴰ·tail
+      (List·Memᴰ·tail (List·Memᴰ·tail (List·Memᴰ·tail (List·Memᴰ·tail (List·Memᴰ·tail (List·Memᴰ·head refl))))))))))
 
-report-found : {k : ℕ} (n : ℕ) (f : Fault) → unlessRefused f (report n) ≡ report k → (f ≡ Fault.None) × (k ≡ n)
-report-found {k} n f e = let w = answer-found (report n) (report-apart k) f e in let same = w .1 in (w .0, cc)
+-- ---- a good range
 
--- ---- the promise
+pub range-rising : (a e : ℕ) → rangeGood a e ≡ true → a < e
+unfolding rangeGood
+range-rising a e g = ltb-true a e (and-left (ltb a e) _ g)
 
-module _ {m : ReportCall} {a : Answer} {work-left out-left : List ℕ} (p : Reported m a work-left out-left) where
-  pub reports-or-refuses : ReportsOrRefuses m a
-  unfolding reportOutcome NoRefusal IsReport
-  reports-or-refuses =
-      record {
-        refused-when =
-            λ k.
-            let n = lowest-iff (reportRows m) k (report-rising m) in
-            (λ e. n .0 (refusal-found (report (length (reportBytes (reportFor m)))) (report-apart (length (reportBytes (reportFor m)))) (lowest (reportRows m)) (sym (p .answered) ∙ e)), λ l. p .answered ∙ refused _ (n .1 l .1));
-        report-when = λ h. p .answered ∙ let-through _ (none-iff (reportRows m) .1 h);
-      }
+pub range-limit : (a e : ℕ) → rangeGood a e ≡ true → e ≤ 4102444799
+unfolding rangeGood
+range-limit a e g = leb-true e 4102444799 (and-right (ltb a e) _ g)
 
-  output-is : (n : ℕ) → IsReport a n → out-left ≡ reportBytes (reportFor m) ++ drop (length (reportBytes (reportFor m))) (m .output)
-  unfolding IsReport outputAfter
-  output-is n e =
-      p .output-left-is ∙ ap (λ (o : Outcome). outputAfter o (reportBytes (reportFor m)) (m .output)) (sym (p .answered) ∙ e)
+-- its seconds, counted from its start, reach its end
+pub range-width : (a e : ℕ) → rangeGood a e ≡ true → a + (e - a) ≡ e
+range-width a e g = add-sub-of-le (let z : a ≤ e = omega (arith, range-rising a e g) in z)
 
-  pub report-stands : {n : ℕ} → IsReport a n → ReportStands m n out-left
-  unfolding reportOutcome NoRefusal IsReport
-  report-stands {n} e =
-      let x = reportBytes (reportFor m) in
-      let f = report-found (length x) (lowest (reportRows m)) (sym (p .answered) ∙ e) in
-      let z = output-is n e in
-      record {
-        none-applies = none-iff (reportRows m) .0 (f .0);
-        its-length = f .1;
-        its-bytes = ap (take n) z ∙ take-at x _ n (sym (f .1));
-        has-room = rw z (omega (arith, f .1, length-append x (drop (length x) (m .output))));
-      }
+-- ---- it can be written
+
+good-rising : {lo hi : ℕ} {ps : List Period} → Rising lo ps hi → hi ≤ 4102444799 → GoodPeriods ps
+good-rising none l = GoodPeriods.none
+good-rising {hi = hi} (then {p = p} x y z r) l = let k : p .end ≤ 4102444799 = omega arith in GoodPeriods.then y k (good-rising r l)
+
+-- a report over a good range, with a good stamp, whose periods rise inside the range, keeps the limits
+pub rising-writable : (r : Report) → rangeGood (r .start) (r .end) ≡ true → stampGood (r .stamp) ≡ true
+    → ((b : BusyType) → Rising (r .start) (r .periods b) (r .end))
+    → Writable r
+unfolding stampGood
+rising-writable r g s f =
+    record {
+      start-first = range-rising (r .start) (r .end) g;
+      end-limit = range-limit (r .start) (r .end) g;
+      stamp-limit = leb-true (r .stamp) 4102444799 s;
+      periods-good = λ b. good-rising (f b) (range-limit (r .start) (r .end) g);
+    }
+
+module _ (m : ReportCall) (g : rangeGood (m .start) (m .end) ≡ true) where
+  -- its periods rise from the range's start to its end
+  pub periods-rising : (b : BusyType) → Rising (m .start) (reportFor m .periods b) (m .end)
+  unfolding reportFor
+  periods-rising b =
+      subst (Rising (m .start) (reportFor m .periods b)) (range-width (m .start) (m .end) g)
+      (runs-rising (coveredIn (m .calendar) (m .offset) b) (m .start) (m .end - m .start))
+
+  pub writable : stampGood (m .stamp) ≡ true → Writable (reportFor m)
+  unfolding reportFor
+  writable s = rising-writable (reportFor m) g s periods-rising
+
+  -- inside the range its periods cover what the calendar does
+  pub periods-cover : (b : BusyType) (x : ℕ) → m .start ≤ x → x < m .end → covers (reportFor m .periods b) x ≡ coveredIn (m .calendar) (m .offset) b x
+  unfolding reportFor
+  periods-cover b x h k =
+      runs-here (coveredIn (m .calendar) (m .offset) b) (m .start) (m .end - m .start) x h (rw (range-width (m .start) (m .end) g) k)
+
+-- ---- it has few periods
+
+-- what holds of every busy period holds of those of one type
+type-lies : {lo hi : ℕ} (b : BusyType) (ps : List BusyPeriod) → ((p : BusyPeriod) → List·Memᴰ p ps → Lies lo hi (p .period))
+    → (q : Period) → List·Memᴰ q (ofType b ps) → Lies lo hi q
+unfolding ofType
+type-lies b [] f q m = absurd (List·Memᴰ·not-nil m)
+type-lies {lo} {hi} b (p ∷ ps) f q m = go (sameBusy b (p .busy)) m (type-lies b ps (λ r d. f r (List·Memᴰ·tail d)) q)
+  where
+    go : (t : Bool) → List·Memᴰ q (elim t [ true ↦ p .period ∷ ofType b ps | false ↦ ofType b ps ]) → (List·Memᴰ q (ofType b ps) → Lies lo hi q) → Lies lo hi q
+    go true d k = ⊎-elim (λ e. subst (Lies lo hi) (sym e) (f p (List·Memᴰ·head refl))) k (List·Memᴰ·cases-cons d)
+    go false d k = k d
+
+module _ (m : ReportCall) (g : rangeGood (m .start) (m .end) ≡ true) where
+  -- the pieces of a type cover what the calendar does inside the range
+  pieces-cover : (b : BusyType) → isBusy b ≡ true → (x : ℕ) → m .start ≤ x → x < m .end
+      → coveredIn (m .calendar) (m .offset) b x ≡ covers (ofType b (piecesFor m)) x
+  unfolding coveredIn covered coveredBy piecesFor busyPieces
+  pieces-cover b u x h k =
+      let ps = busyPeriods (entriesIn (m .calendar) (m .offset)) in
+      sym (clipped-covers b u (m .start) (m .end) x ps
+      ∙ ap (λ (t : Bool). t && coveredBy b ps x) (secondIn-true (m .start) (m .end) x h k))
+
+  pieces-lie : (p : BusyPeriod) → List·Memᴰ p (piecesFor m) → Lies (m .start) (m .end) (p .period)
+  unfolding piecesFor busyPieces
+  pieces-lie p d =
+      let i = pieces-inside (m .start) (m .end) (busyPeriods (entriesIn (m .calendar) (m .offset))) d in
+      record { from = i .from; some = i .rising; to = i .to }
+
+  -- no more periods of a type than pieces of it
+  type-few : (b : BusyType) → isBusy b ≡ true → length (reportFor m .periods b) ≤ length (ofType b (piecesFor m))
+  unfolding reportFor
+  type-few b u =
+      let f = coveredIn (m .calendar) (m .offset) b in
+      let qs = ofType b (piecesFor m) in
+      let n = m .end - m .start in
+      let w = range-width (m .start) (m .end) g in
+      rw (runs-same f (covers qs) (m .start) n (λ x h k. pieces-cover b u x h (rw w at k)))
+      (fewest (m .start) n qs (λ q d. rw w (type-lies b (piecesFor m) pieces-lie q d)))
+
+  pub periods-few : periodCount (reportFor m) ≤ length (piecesFor m)
+  unfolding periodCount piecesFor busyPieces isBusy reportPlace
+  periods-few =
+      omega (
+        arith,
+        type-few BusyType.Busy refl,
+        type-few BusyType.Tentative refl,
+        type-few BusyType.Unavailable refl,
+        pieces-count (m .start) (m .end) (busyPeriods (entriesIn (m .calendar) (m .offset))),
+      )
+
+pub few-periods : (m : ReportCall) → NoRefusal m → periodCount (reportFor m) ≤ 512
+few-periods m h = omega (arith, periods-few m (range-good m h), few-pieces m h)
+
+-- ---- equal periods, equal bytes
+
+pub equal-bytes : (r s : Report) → r .start ≡ s .start → r .end ≡ s .end → r .stamp ≡ s .stamp
+    → ((b : BusyType) → isBusy b ≡ true → r .periods b ≡ s .periods b)
+    → reportBytes r ≡ reportBytes s
+unfolding reportBytes reportLines busyLines isBusy reportPlace
+equal-bytes r s x y z p = rw (x, y, z, p BusyType.Busy refl, p BusyType.Tentative refl, p BusyType.Unavailable refl)

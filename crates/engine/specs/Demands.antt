@@ -5,8 +5,8 @@ use mathlib.Core.Bool.{Bool, true}
 use mathlib.Core.Logic.{_↔_}
 use Rattle.text.specs.Unfolding.{unfolded}
 use Rattle.nesting.specs.Passing.{treeIn}
-use Rattle.paper.specs.Paper.{WellFormedQuery}
-use Rattle.filter.specs.Paper.{QueryPasses}
+use Rattle.query_check.specs.QueryRules.{WellFormedQuery}
+use Rattle.filter.specs.FilterRules.{QueryPasses}
 use Rattle.refusals.specs.Refusals.{RowApplies, Lowest}
 use Rattle.refusals.specs.Offsets.{contextOf}
 use Rattle.engine.specs.Answers.{verdict, refusal, outcomeOf}

@@ -8,7 +8,7 @@ use Rattle.text.specs.Unfolding.{unfolded}
 use Rattle.nesting.specs.Passing.{treeIn}
 use Rattle.query.specs.Sections.{sectionsOf}
 use Rattle.query.specs.declared.SectionsRead.{SectionsRead}
-use Rattle.paper.specs.WellFormed.{queryGood, rangeMisplaced}
+use Rattle.query_check.specs.WellFormed.{queryGood, rangeMisplaced}
 use Rattle.filter.specs.Tests.{queryHolds}
 use Rattle.refusals.specs.Refusals.{Row, row, lowest, sizeRows, calendarRows}
 use Rattle.refusals.specs.Offsets.{offsetGood, contextOf}

@@ -6,8 +6,8 @@ use mathlib.Core.List.{List}
 use mathlib.Core.Logic.{_↔_}
 use lib.ListN.{length, take}
 use lib.IntN.{ℤ}
-use Rattle.said.specs.declared.Busy.{Busy}
-use Rattle.rules.specs.BusyTypes.{isBusy}
+use Rattle.periods.specs.declared.BusyType.{BusyType}
+use Rattle.periods.specs.BusyTypes.{isBusy}
 use Rattle.pieces.specs.Covered.{Covers}
 use Rattle.refusals.specs.Refusals.{RowApplies}
 use Rattle.refusals.specs.Offsets.{offsetGood}
@@ -25,12 +25,12 @@ unfoldable pub IsReport : Answer → ℕ → Type 0
 IsReport a n = outcomeOf a ≡ report n
 
 -- Demand 2: a second stands under a busy type in the report where the report's bytes, read as a calendar at any offset, cover it
-unfoldable pub StandsUnder : List ℕ → Busy → ℕ → Type 0
+unfoldable pub StandsUnder : List ℕ → BusyType → ℕ → Type 0
 StandsUnder bytes b x = (o : ℤ) → offsetGood o ≡ true → coveredIn bytes o b x ≡ true
 
 -- a second of the range stands there exactly when a non-free instance or period of that type covers it
 pub record SaysCovered (m : ReportCall) (a : Answer) (out-left : List ℕ) : Type 0 where
-  pub stands-when : (n : ℕ) → IsReport a n → (b : Busy) → isBusy b ≡ true → (x : ℕ) → m .start ≤ x → x < m .end
+  pub stands-when : (n : ℕ) → IsReport a n → (b : BusyType) → isBusy b ≡ true → (x : ℕ) → m .start ≤ x → x < m .end
       → StandsUnder (take n out-left) b x ↔ Covers (entriesIn (m .calendar) (m .offset)) b x
 
 -- a call on the report that the first one left, over the same range with the same stamp
@@ -55,7 +55,7 @@ pub record SameRange (x y : ReportCall) : Type 0 where
 
 -- the covered seconds of the two calendars are the same seconds, for each of the three busy types
 unfoldable pub SameSeconds : ReportCall → ReportCall → Type 0
-SameSeconds x y = (b : Busy) → isBusy b ≡ true → (t : ℕ) → x .start ≤ t → t < x .end
+SameSeconds x y = (b : BusyType) → isBusy b ≡ true → (t : ℕ) → x .start ≤ t → t < x .end
     → coveredIn (x .calendar) (x .offset) b t ≡ coveredIn (y .calendar) (y .offset) b t
 
 -- both answer with a report exactly when no numbered refusal applies to either; where both do, same length and same bytes exactly when same seconds

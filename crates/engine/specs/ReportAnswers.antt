@@ -18,7 +18,7 @@ pub record ReportsOrRefuses (m : ReportCall) (a : Answer) : Type 0 where
   pub report-when : NoRefusal m → IsReport a (length (reportBytes (reportFor m)))
 
 -- a report of n bytes: nothing refuses, and they stand first in the output
-pub record ReportStands (m : ReportCall) (n : ℕ) (out-left : List ℕ) : Type 0 where
+pub record ReportWritten (m : ReportCall) (n : ℕ) (out-left : List ℕ) : Type 0 where
   pub none-applies : NoRefusal m
   pub its-length : n ≡ length (reportBytes (reportFor m))
   pub its-bytes : take n out-left ≡ reportBytes (reportFor m)

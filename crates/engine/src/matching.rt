@@ -2,15 +2,15 @@
 // The query is read before the calendar, as the table has it.
 use crate::Answer;
 use calendar::Fault;
-use paper::QueryRead;
 use query::Sections;
+use query_check::QueryRead;
 use values::times::Context;
 ghost use mathlib.Core.Path.{_≡_};
 ghost use mathlib.Core.Bool.{true};
 ghost use Prim.Native.Nat.{_≤_};
 ghost use lib.ListN.{length};
 ghost use Rattle.query.specs.Fits.{Fits};
-ghost use Rattle.paper.specs.WellFormed.{recordsGood};
+ghost use Rattle.query_check.specs.WellFormed.{recordsGood};
 ghost use Rattle.engine.specs.MatchStages.{Answered, queryOutcome, calendarOutcome};
 
 // Refusals 6 to 10, then the filter.
@@ -39,7 +39,7 @@ pub fn match_query(work: &mut [u8], cal: &[u8], paper: &[u8], c: Context) -> Ans
     requires { ⌜ c .shift ≤ 100800 ⌝ }
     ensures { λ r. ⌜ Answered (queryOutcome c (now (cal .entry)) (now (paper .entry))) (now (cal .entry)) (now (work .entry)) r (now (work .exit)) ⌝ }
 {
-    match paper::read_query(paper) {
+    match query_check::read_query(paper) {
         QueryRead::Bad => Answer::Refused(4),
         QueryRead::Misplaced => Answer::Refused(5),
         QueryRead::Of(q) => match_calendar(work, cal, paper, q, c),

@@ -14,26 +14,27 @@ use Rattle.time.specs.Days.{isLeap, yearDays, daysBeforeYear, monthLengths, len
 use Rattle.time.specs.Duration.{timeStart, nextStage, weightOf, blank, withDigit, fitting, unitTo, withUnit, step, runs as textRuns, finish, durationText, durationSeconds, withinLimit, limited, readDuration}
 use Rattle.time.specs.Limits.{epoch, lastSecond, since, utcSecond}
 use Rattle.time.specs.declared.date_time.Kind.{Kind}
-use Rattle.line.specs.Pieces.{firstOutside, before, after, pieces}
+use Rattle.line.specs.Splitting.{firstOutside, before, after, pieces}
 use Rattle.line.specs.Reading.{headOf, valueOf, nameOf, parameterTexts, lineOf, parametersNamed, someList, hasParameter, hasTwice, hasList}
 use Rattle.values.specs.Times.{atSecond, timeBy, readTime, formOf, timeOf}
-use Rattle.values.specs.declared.period.Period.{Period}
-use Rattle.said.specs.Said.{timesOr, eventProperty, propertyOf, timeIn, startBy, unlessZoned, durationBy, saidBy, sayingOf}
-use Rattle.said.specs.declared.Busy.{Busy}
-use Rattle.said.specs.declared.Saying.{Saying}
-use Rattle.table.specs.Runs.{period, within, covers, lead, leadIf, runs}
-use Rattle.rules.specs.BusyTypes.{reportPlace, sameBusy}
-use Rattle.rules.specs.declared.Event.{Event}
+use Rattle.periods.specs.declared.Period.{Period}
+use Rattle.property.specs.Properties.{timesOr, eventProperty, propertyOf, timeIn, startBy, unlessZoned, durationBy, valueAs, propertyValueOf}
+use Rattle.periods.specs.declared.BusyType.{BusyType}
+use Rattle.property.specs.declared.PropertyValue.{PropertyValue}
+use Rattle.periods.specs.Periods.{period, secondIn, covers}
+use Rattle.table.specs.Runs.{lead, leadIf, runs}
+use Rattle.periods.specs.BusyTypes.{reportPlace, sameBusy}
+use Rattle.events.specs.declared.Event.{Event}
 use Rattle.calendar.specs.Meaning.{faultOr, byValues, faultOf}
 use Rattle.calendar.specs.declared.Fault.{Fault}
-use Rattle.busy.specs.Candidates.{firstAt, spanOf, candidateOf, startsBefore}
-use Rattle.busy.specs.Instances.{stepOf, startOf, repeats, isInstance, stands, defaultLength, lengthBy, endOf}
-use Rattle.busy.specs.TimeRange.{touches, instanceIn}
-use Rattle.busy.proofs.Starts.{instance-before, standing}
-use Rattle.busy.proofs.Searching.{before-candidate, search-finds, search-ends}
+use Rattle.recurrence.specs.Candidates.{firstAt, spanOf, candidateOf, startsBefore}
+use Rattle.recurrence.specs.Instances.{stepOf, startOf, repeats, isInstance, occurs, defaultLength, lengthBy, endOf}
+use Rattle.recurrence.specs.TimeRange.{overlaps, instanceIn}
+use Rattle.recurrence.proofs.Instances.{instance-before, occurs-instance}
+use Rattle.recurrence.proofs.Candidates.{before-candidate, search-finds, search-ends}
 use Rattle.pieces.specs.BusyPeriods.{entryPeriods, busyPeriods}
 use Rattle.pieces.specs.Covered.{ofType, coveredBy, covered}
-use Rattle.examples.specs.Examples.{seconds, refused, Claim, time, duration, range, noPiece, periods, last, lineSaid, lineFault, startAt, Lasting, blockWith, Last, Holds, All, eventFrom, busy, table}
+use Rattle.examples.specs.Examples.{seconds, refused, Claim, time, duration, range, noPiece, periods, last, lineValue, lineFault, startAt, Lasting, blockWith, Last, Holds, All, eventFrom, busy, table}
 use Rattle.examples.proofs.NoPieces.{no-pieces}
 
 -- ---- what a line says
@@ -43,7 +44,7 @@ data Wanted : Type 0 where
   start : ℕ → Wanted
   length : ℕ → Wanted
 
-abbrev Meets : Wanted → Saying → Type 0
+abbrev Meets : Wanted → PropertyValue → Type 0
 Meets (start n) s = s ≡ startAt n
 Meets (length n) s = Lasting s n
 
@@ -52,19 +53,19 @@ isUtc Kind.Utc = true
 isUtc Kind.Floating = false
 isUtc Kind.Date = false
 
-meets : Wanted → Saying → Bool
-meets w Saying.Nothing = false
-meets w Saying.Unsupported = false
-meets w Saying.Bad = false
-meets (start n) (Saying.Start t) = isUtc (t .kind) && eqb (t .second) n
-meets (length n) (Saying.Start t) = false
-meets w (Saying.End t) = false
-meets (start n) (Saying.Lasts d) = false
-meets (length n) (Saying.Lasts d) = eqb (durationSeconds d) n
-meets w (Saying.Repeats r) = false
-meets w (Saying.HasStatus x) = false
-meets w (Saying.Transparent x) = false
-meets w (Saying.HasPeriods x) = false
+meets : Wanted → PropertyValue → Bool
+meets w PropertyValue.Nothing = false
+meets w PropertyValue.Unsupported = false
+meets w PropertyValue.Bad = false
+meets (start n) (PropertyValue.Start t) = isUtc (t .kind) && eqb (t .second) n
+meets (length n) (PropertyValue.Start t) = false
+meets w (PropertyValue.End t) = false
+meets (start n) (PropertyValue.Lasts d) = false
+meets (length n) (PropertyValue.Lasts d) = eqb (durationSeconds d) n
+meets w (PropertyValue.Repeats r) = false
+meets w (PropertyValue.HasStatus x) = false
+meets w (PropertyValue.Transparent x) = false
+meets w (PropertyValue.HasPeriods x) = false
 
 utc : (k : Kind) → isUtc k ≡ true → k ≡ Kind.Utc
 unfolding isUtc
@@ -72,26 +73,26 @@ utc Kind.Utc h = refl
 utc Kind.Floating h = clash h refl
 utc Kind.Date h = clash h refl
 
-starts : (k : Kind) (s n : ℕ) → (isUtc k && eqb s n) ≡ true → Saying.Start (record { kind = k; second = s }) ≡ startAt n
+starts : (k : Kind) (s n : ℕ) → (isUtc k && eqb s n) ≡ true → PropertyValue.Start (record { kind = k; second = s }) ≡ startAt n
 unfolding startAt
 starts k s n h =
-    ap (λ (j : Kind). Saying.Start (record { kind = j; second = s })) (utc k (and-left (isUtc k) _ h))
-    ∙ ap (λ (i : ℕ). Saying.Start (record { kind = Kind.Utc; second = i })) (eqb-true s n (and-right (isUtc k) _ h))
+    ap (λ (j : Kind). PropertyValue.Start (record { kind = j; second = s })) (utc k (and-left (isUtc k) _ h))
+    ∙ ap (λ (i : ℕ). PropertyValue.Start (record { kind = Kind.Utc; second = i })) (eqb-true s n (and-right (isUtc k) _ h))
 
-met : (w : Wanted) (s : Saying) → meets w s ≡ true → Meets w s
+met : (w : Wanted) (s : PropertyValue) → meets w s ≡ true → Meets w s
 unfolding meets
-met w Saying.Nothing h = clash h refl
-met w Saying.Unsupported h = clash h refl
-met w Saying.Bad h = clash h refl
-met (start n) (Saying.Start t) h = starts (t .kind) (t .second) n h
-met (length n) (Saying.Start t) h = clash h refl
-met w (Saying.End t) h = clash h refl
-met (start n) (Saying.Lasts d) h = clash h refl
-met (length n) (Saying.Lasts d) h = record { lasts = d; said = refl; long = eqb-true (durationSeconds d) n h }
-met w (Saying.Repeats r) h = clash h refl
-met w (Saying.HasStatus x) h = clash h refl
-met w (Saying.Transparent x) h = clash h refl
-met w (Saying.HasPeriods x) h = clash h refl
+met w PropertyValue.Nothing h = clash h refl
+met w PropertyValue.Unsupported h = clash h refl
+met w PropertyValue.Bad h = clash h refl
+met (start n) (PropertyValue.Start t) h = starts (t .kind) (t .second) n h
+met (length n) (PropertyValue.Start t) h = clash h refl
+met w (PropertyValue.End t) h = clash h refl
+met (start n) (PropertyValue.Lasts d) h = clash h refl
+met (length n) (PropertyValue.Lasts d) h = record { lasts = d; said = refl; long = eqb-true (durationSeconds d) n h }
+met w (PropertyValue.Repeats r) h = clash h refl
+met w (PropertyValue.HasStatus x) h = clash h refl
+met w (PropertyValue.Transparent x) h = clash h refl
+met w (PropertyValue.HasPeriods x) h = clash h refl
 
 -- a refusal of line 1
 isRefusal : ℕ → Fault → Bool
@@ -132,14 +133,14 @@ same-periods (p ∷ ps) (q ∷ qs) h =
 
 -- ---- the last instance
 
-none-later-by : (e : Event) (k : ℕ) → isInstance e (k + 1) ≡ false → (j : ℕ) → k < j → stands e j ≡ false
-none-later-by e k q j p = not-so _ (λ h. clash (instance-before e (k + 1) j (omega arith) (standing e j h)) q)
+none-later-by : (e : Event) (k : ℕ) → isInstance e (k + 1) ≡ false → (j : ℕ) → k < j → occurs e j ≡ false
+none-later-by e k q j p = not-so _ (λ h. clash (instance-before e (k + 1) j (omega arith) (occurs-instance e j h)) q)
 
-last-by : (e : Event) (k s : ℕ) → (stands e k && (eqb (startOf e k) s && not (isInstance e (k + 1)))) ≡ true → Last e k s
+last-by : (e : Event) (k s : ℕ) → (occurs e k && (eqb (startOf e k) s && not (isInstance e (k + 1)))) ≡ true → Last e k s
 last-by e k s h =
-    let m = and-right (stands e k) _ h in
+    let m = and-right (occurs e k) _ h in
     record {
-      there = and-left (stands e k) _ h;
+      there = and-left (occurs e k) _ h;
       starts = eqb-true _ s (and-left (eqb (startOf e k) s) _ m);
       none-later = none-later-by e k (not-true _ (and-right (eqb (startOf e k) s) _ m));
     }
@@ -147,15 +148,15 @@ last-by e k s h =
 -- ---- the table
 
 test : Claim → Bool
-test (time s (seconds n)) = meets (start n) (lineSaid "DTSTART:" s)
+test (time s (seconds n)) = meets (start n) (lineValue "DTSTART:" s)
 test (time s (refused r)) = isRefusal r (lineFault "DTSTART:" s)
-test (duration s (seconds n)) = meets (length n) (lineSaid "DURATION:" s)
+test (duration s (seconds n)) = meets (length n) (lineValue "DURATION:" s)
 test (duration s (refused r)) = isRefusal r (lineFault "DURATION:" s)
 test (range e a b true) = instanceIn e a b (candidateOf e a)
 test (range e a b false) = not (startsBefore e b (candidateOf e a)) && ltb 0 (stepOf e)
 test (noPiece e a b) = eqb (lengthBy e (e .ending)) 0
-test (periods ps n qs) = samePeriods (runs (covered Busy.Busy (blockWith ps)) 0 n) qs
-test (last e k s) = stands e k && (eqb (startOf e k) s && not (isInstance e (k + 1)))
+test (periods ps n qs) = samePeriods (runs (covered BusyType.Busy (blockWith ps)) 0 n) qs
+test (last e k s) = occurs e k && (eqb (startOf e k) s && not (isInstance e (k + 1)))
 
 sound : (c : Claim) → test c ≡ true → Holds c
 unfolding test
@@ -182,5 +183,5 @@ all-hold (c ∷ cs) h = (sound c (and-left (test c) (tests cs) h), all-hold cs (
 
 -- document 01, Examples at the edges: every row holds
 pub edges : All table
-unfolding table eventFrom busy blockWith lineSaid lineFault tests test meets isUtc isRefusal samePeriod samePeriods isDigit upper sameName firstOutside before after pieces headOf valueOf nameOf parameterTexts lineOf parametersNamed someList hasParameter hasTwice hasList digitPair pairAt joined yearAt checkedDay three dateAt checkedTime timeAt clockOf clockAt readDateTime isLeap yearDays daysBeforeYear monthLengths lengthIn beforeIn monthDays daysBeforeMonth dayNumber isDay timeStart nextStage weightOf blank withDigit fitting unitTo withUnit step textRuns finish durationText durationSeconds withinLimit limited readDuration epoch lastSecond since utcSecond timesOr eventProperty propertyOf timeIn startBy unlessZoned durationBy saidBy sayingOf atSecond timeBy readTime formOf timeOf reportPlace sameBusy faultOr byValues faultOf within covers lead leadIf runs firstAt spanOf startsBefore stepOf startOf repeats isInstance stands defaultLength lengthBy endOf touches instanceIn entryPeriods busyPeriods ofType coveredBy covered
+unfolding table eventFrom busy blockWith lineValue lineFault tests test meets isUtc isRefusal samePeriod samePeriods isDigit upper sameName firstOutside before after pieces headOf valueOf nameOf parameterTexts lineOf parametersNamed someList hasParameter hasTwice hasList digitPair pairAt joined yearAt checkedDay three dateAt checkedTime timeAt clockOf clockAt readDateTime isLeap yearDays daysBeforeYear monthLengths lengthIn beforeIn monthDays daysBeforeMonth dayNumber isDay timeStart nextStage weightOf blank withDigit fitting unitTo withUnit step textRuns finish durationText durationSeconds withinLimit limited readDuration epoch lastSecond since utcSecond timesOr eventProperty propertyOf timeIn startBy unlessZoned durationBy valueAs propertyValueOf atSecond timeBy readTime formOf timeOf reportPlace sameBusy faultOr byValues faultOf secondIn covers lead leadIf runs firstAt spanOf startsBefore stepOf startOf repeats isInstance occurs defaultLength lengthBy endOf overlaps instanceIn entryPeriods busyPeriods ofType coveredBy covered
 edges = all-hold table refl

@@ -9,23 +9,24 @@ use Rattle.time.specs.Duration.{durationSeconds}
 use Rattle.time.specs.declared.date_time.Kind.{Kind}
 use Rattle.time.specs.declared.duration.Duration.{Duration}
 use Rattle.line.specs.Reading.{lineOf}
-use Rattle.values.specs.declared.period.Period.{Period}
-use Rattle.said.specs.Said.{sayingOf}
-use Rattle.said.specs.declared.Busy.{Busy}
-use Rattle.said.specs.declared.Saying.{Saying}
-use Rattle.said.specs.declared.Scope.{Scope}
-use Rattle.table.specs.Runs.{period, runs}
-use Rattle.rules.specs.Events.{Entry, event, block}
-use Rattle.rules.specs.BusyTypes.{BusyPeriod}
-use Rattle.rules.specs.declared.Bound.{Bound}
-use Rattle.rules.specs.declared.Ending.{Ending}
-use Rattle.rules.specs.declared.Event.{Event}
-use Rattle.rules.specs.declared.Repeat.{Repeat}
+use Rattle.periods.specs.declared.Period.{Period}
+use Rattle.property.specs.Properties.{propertyValueOf}
+use Rattle.periods.specs.declared.BusyType.{BusyType}
+use Rattle.property.specs.declared.PropertyValue.{PropertyValue}
+use Rattle.property.specs.declared.Scope.{Scope}
+use Rattle.periods.specs.Periods.{period}
+use Rattle.table.specs.Runs.{runs}
+use Rattle.events.specs.Events.{Entry, event, block}
+use Rattle.periods.specs.BusyTypes.{BusyPeriod}
+use Rattle.events.specs.declared.Bound.{Bound}
+use Rattle.events.specs.declared.Ending.{Ending}
+use Rattle.events.specs.declared.Event.{Event}
+use Rattle.events.specs.declared.Repeat.{Repeat}
 use Rattle.calendar.specs.Meaning.{calendar, faultOr, byValues, faultOf}
 use Rattle.calendar.specs.declared.Fault.{Fault}
 use Rattle.calendar.specs.declared.ValueCheck.{ValueCheck}
-use Rattle.busy.specs.Instances.{startOf, stands}
-use Rattle.busy.specs.TimeRange.{EventIn, Decides}
+use Rattle.recurrence.specs.Instances.{startOf, occurs}
+use Rattle.recurrence.specs.TimeRange.{EventIn, Decides}
 use Rattle.pieces.specs.Covered.{covered}
 use Rattle.pieces.specs.Pieces.{busyPieces}
 
@@ -53,41 +54,41 @@ pub data Claim : Type 0 where
 -- ---- what a claim says
 
 -- what a line directly in an event says, at offset 0: its name with the colon, then its value
-unfoldable pub lineSaid : String → String → Saying
-lineSaid name value = sayingOf (record { shift = 50400 }) Scope.Event (lineOf (ascii name ++ ascii value))
+unfoldable pub lineValue : String → String → PropertyValue
+lineValue name value = propertyValueOf (record { shift = 50400 }) Scope.Event (lineOf (ascii name ++ ascii value))
 
 -- the refusal of that line, were it the first of its file
 unfoldable pub lineFault : String → String → Fault
-lineFault name value = faultOf (byValues (faultOr 1 (lineSaid name value) ValueCheck.Good) (calendar []))
+lineFault name value = faultOf (byValues (faultOr 1 (lineValue name value) ValueCheck.Good) (calendar []))
 
 -- a start at a UTC second
-unfoldable pub startAt : ℕ → Saying
-startAt n = Saying.Start (record { kind = Kind.Utc; second = n })
+unfoldable pub startAt : ℕ → PropertyValue
+startAt n = PropertyValue.Start (record { kind = Kind.Utc; second = n })
 
 -- a duration of n seconds
-pub record Lasting (s : Saying) (n : ℕ) : Type 0 where
+pub record Lasting (s : PropertyValue) (n : ℕ) : Type 0 where
   pub lasts : Duration
-  pub said : s ≡ Saying.Lasts lasts
+  pub said : s ≡ PropertyValue.Lasts lasts
   pub long : durationSeconds lasts ≡ n
 
 -- instance k stands and starts at s, and none after it stands
 pub record Last (e : Event) (k s : ℕ) : Type 0 where
-  pub there : stands e k ≡ true
+  pub there : occurs e k ≡ true
   pub starts : startOf e k ≡ s
-  pub none-later : (j : ℕ) → k < j → stands e j ≡ false
+  pub none-later : (j : ℕ) → k < j → occurs e j ≡ false
 
 -- a calendar of one block with these periods
 unfoldable pub blockWith : List BusyPeriod → List Entry
 blockWith ps = block (record { start = Bound.None; end = Bound.None }) ps ∷ []
 
 abbrev pub Holds : Claim → Type 0
-Holds (time s (seconds n)) = lineSaid "DTSTART:" s ≡ startAt n
+Holds (time s (seconds n)) = lineValue "DTSTART:" s ≡ startAt n
 Holds (time s (refused r)) = lineFault "DTSTART:" s ≡ Fault.At r 1
-Holds (duration s (seconds n)) = Lasting (lineSaid "DURATION:" s) n
+Holds (duration s (seconds n)) = Lasting (lineValue "DURATION:" s) n
 Holds (duration s (refused r)) = lineFault "DURATION:" s ≡ Fault.At r 1
 Holds (range e a b t) = Decides t (EventIn e a b)
 Holds (noPiece e a b) = busyPieces a b (event e ∷ []) ≡ []
-Holds (periods ps n qs) = runs (covered Busy.Busy (blockWith ps)) 0 n ≡ qs
+Holds (periods ps n qs) = runs (covered BusyType.Busy (blockWith ps)) 0 n ≡ qs
 Holds (last e k s) = Last e k s
 
 abbrev pub All : List Claim → Type 0
@@ -98,11 +99,11 @@ All (c ∷ cs) = Holds c × All cs
 
 -- a UTC event from s, with this ending; where it repeats, daily
 unfoldable pub eventFrom : ℕ → Ending → Repeat → Event
-eventFrom s x r = record { kind = Kind.Utc; start = s; ending = x; days = 1; interval = 1; repeat = r; busy = Busy.Busy }
+eventFrom s x r = record { kind = Kind.Utc; start = s; ending = x; days = 1; interval = 1; repeat = r; busy = BusyType.Busy }
 
 -- a FREEBUSY period of type BUSY
 unfoldable pub busy : ℕ → ℕ → BusyPeriod
-busy a b = record { busy = Busy.Busy; period = period a b }
+busy a b = record { busy = BusyType.Busy; period = period a b }
 
 unfoldable pub table : List Claim
 table =

@@ -1,5 +1,5 @@
-pub mod InRange
+pub mod Places
 pub mod Parts
-pub mod Trying
-pub mod Descending
-pub mod Sentences
+pub mod TrialsLaws
+pub mod Tests
+pub mod FilterRules

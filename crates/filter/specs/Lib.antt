@@ -1,4 +1,4 @@
 pub mod Tests
 pub mod Places
 pub mod Trials
-pub mod Paper
+pub mod FilterRules

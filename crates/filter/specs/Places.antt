@@ -4,40 +4,40 @@ use mathlib.Core.Bool.{Bool, true, false, _||_}
 use mathlib.Core.List.{List, [], _∷_}
 use Rattle.line.specs.Grammar.{ContentLine}
 use Rattle.values.specs.declared.times.Context.{Context}
-use Rattle.values.specs.declared.period.Period.{Period}
-use Rattle.said.specs.Said.{sayingOf}
-use Rattle.said.specs.declared.Scope.{Scope}
-use Rattle.said.specs.declared.Saying.{Saying}
+use Rattle.periods.specs.declared.Period.{Period}
+use Rattle.property.specs.Properties.{propertyValueOf}
+use Rattle.property.specs.declared.Scope.{Scope}
+use Rattle.property.specs.declared.PropertyValue.{PropertyValue}
 use Rattle.nesting.specs.Components.{Numbered}
-use Rattle.rules.specs.declared.BlockRead.{BlockRead}
+use Rattle.events.specs.declared.BlockRead.{BlockRead}
 use Rattle.calendar.specs.Meaning.{periodsBy, blockPeriods}
-use Rattle.busy.specs.TimeRange.{touches, periodsTouch, blockIn}
+use Rattle.recurrence.specs.TimeRange.{overlaps, periodsOverlap, blockIn}
 
 -- some period of a value touches the range
 unfoldable pub somePeriodIn : ℕ → ℕ → List Period → Bool
 somePeriodIn a b [] = false
-somePeriodIn a b (p ∷ ps) = touches a b (p .start) (p .end) || somePeriodIn a b ps
+somePeriodIn a b (p ∷ ps) = overlaps a b (p .start) (p .end) || somePeriodIn a b ps
 
 -- a line that gives periods
-unfoldable pub saysPeriods : Saying → Bool
-saysPeriods Saying.Nothing = false
-saysPeriods Saying.Unsupported = false
-saysPeriods Saying.Bad = false
-saysPeriods (Saying.Start t) = false
-saysPeriods (Saying.End t) = false
-saysPeriods (Saying.Lasts d) = false
-saysPeriods (Saying.Repeats r) = false
-saysPeriods (Saying.HasStatus s) = false
-saysPeriods (Saying.Transparent t) = false
-saysPeriods (Saying.HasPeriods b) = true
+unfoldable pub givesPeriods : PropertyValue → Bool
+givesPeriods PropertyValue.Nothing = false
+givesPeriods PropertyValue.Unsupported = false
+givesPeriods PropertyValue.Bad = false
+givesPeriods (PropertyValue.Start t) = false
+givesPeriods (PropertyValue.End t) = false
+givesPeriods (PropertyValue.Lasts d) = false
+givesPeriods (PropertyValue.Repeats r) = false
+givesPeriods (PropertyValue.HasStatus s) = false
+givesPeriods (PropertyValue.Transparent t) = false
+givesPeriods (PropertyValue.HasPeriods b) = true
 
 -- some period of a line touches the range
 unfoldable pub lineIn : Context → ℕ → ℕ → ContentLine → Bool
-lineIn c a b x = periodsTouch a b (periodsBy (sayingOf c Scope.FreeBusy x) x)
+lineIn c a b x = periodsOverlap a b (periodsBy (propertyValueOf c Scope.FreeBusy x) x)
 
 -- some period of these lines does
 unfoldable pub linesIn : Context → ℕ → ℕ → List Numbered → Bool
-linesIn c a b xs = periodsTouch a b (blockPeriods c xs)
+linesIn c a b xs = periodsOverlap a b (blockPeriods c xs)
 
 -- is a block of these lines in the range?
 unfoldable pub blockLinesIn : Context → BlockRead → List Numbered → ℕ → ℕ → Bool

@@ -10,15 +10,15 @@ use Rattle.query.specs.Counting.{someBelow, implies}
 use Rattle.query.specs.declared.Sections.{Sections}
 use Rattle.query.specs.declared.ComponentRecord.{ComponentRecord}
 use Rattle.values.specs.declared.times.Context.{Context}
-use Rattle.said.specs.declared.Scope.{Scope}
+use Rattle.property.specs.declared.Scope.{Scope}
 use Rattle.nesting.specs.Components.{Items, Component, componentsIn, propertiesIn}
-use Rattle.properties.specs.PropertyTests.{propertiesHold}
-use Rattle.rules.specs.declared.Event.{Event}
-use Rattle.rules.specs.declared.EventRead.{EventRead}
-use Rattle.rules.specs.declared.BlockRead.{BlockRead}
+use Rattle.property_tests.specs.PropertyTests.{propertiesHold}
+use Rattle.events.specs.declared.Event.{Event}
+use Rattle.events.specs.declared.EventRead.{EventRead}
+use Rattle.events.specs.declared.BlockRead.{BlockRead}
 use Rattle.calendar.specs.Meaning.{componentScope, eventOf, blockOf, blockPeriods}
-use Rattle.busy.specs.TimeRange.{instanceIn, blockIn}
-use Rattle.busy.specs.Instances.{instancesAtMost}
+use Rattle.recurrence.specs.TimeRange.{instanceIn, blockIn}
+use Rattle.recurrence.specs.Instances.{instancesAtMost}
 
 -- some instance of the event is in the range
 unfoldable pub eventIn : EventRead → ℕ → ℕ → Bool

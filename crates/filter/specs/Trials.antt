@@ -9,17 +9,17 @@ use Rattle.query.specs.Records.{rangeStart, rangeEnd, textOf, componentAt}
 use Rattle.query.specs.Counting.{someBelow}
 use Rattle.query.specs.declared.Sections.{Sections}
 use Rattle.values.specs.declared.times.Context.{Context}
-use Rattle.said.specs.declared.Scope.{Scope}
+use Rattle.property.specs.declared.Scope.{Scope}
 use Rattle.nesting.specs.Components.{itemsOf}
 use Rattle.nesting.specs.Passing.{linesFrom}
-use Rattle.properties.specs.PropertyTests.{propertiesHold, propertiesAt}
-use Rattle.rules.specs.declared.EventRead.{EventRead}
+use Rattle.property_tests.specs.PropertyTests.{propertiesHold, propertiesAt}
+use Rattle.events.specs.declared.EventRead.{EventRead}
 use Rattle.calendar.specs.Meaning.{scopeOf}
 use Rattle.calendar.specs.Places.{eventAt, blockAt}
-use Rattle.busy.specs.Sizes.{Small}
-use Rattle.busy.specs.TimeRange.{instanceIn}
-use Rattle.busy.specs.Candidates.{startsBefore}
-use Rattle.busy.specs.Instances.{instancesAtMost}
+use Rattle.recurrence.specs.Sizes.{Small}
+use Rattle.recurrence.specs.TimeRange.{instanceIn}
+use Rattle.recurrence.specs.Candidates.{startsBefore}
+use Rattle.recurrence.specs.Instances.{instancesAtMost}
 use Rattle.filter.specs.Tests.{childrenHold}
 use Rattle.filter.specs.Places.{blockLinesIn}
 use Rattle.filter.specs.declared.trials.Trial.{Trial}

@@ -17,7 +17,7 @@ ghost use Rattle.nesting.specs.Components.{itemsOf};
 ghost use Rattle.nesting.specs.Passing.{linesFrom, treeIn};
 ghost use Rattle.calendar.specs.Places.{componentsFrom};
 ghost use Rattle.query.specs.Fits.{Fits};
-ghost use Rattle.paper.specs.WellFormed.{recordsGood};
+ghost use Rattle.query_check.specs.WellFormed.{recordsGood};
 ghost use Rattle.filter.specs.Tests.{someComponentNamed, childrenHold, componentTest, queryHolds};
 ghost use Rattle.filter.specs.Trials.{hereAlone, trialHere};
 
@@ -166,7 +166,7 @@ fn alone_holds(paper: &[u8], q: Sections, j: usize, name: &[u8], s: &[u8], at: u
 {
     let r = fields::component_at(paper, q, j);
     if ascii::same_name(name, fields::text_of(paper, q, r.name)) {
-        properties::properties_hold(paper, q, j, s, at)
+        property_tests::properties_hold(paper, q, j, s, at)
     } else {
         false
     }

@@ -1,27 +1,27 @@
 // Is a block in a time range, from a up to, but not including, b?
 // A block with both ends is tested by them alone, any other by its periods.
-use busy::time_range;
-use calendar::periods;
-use calendar::periods::PeriodStep;
+use calendar::period_list;
+use calendar::period_list::PeriodStep;
 use calendar::places;
+use events::Block;
+use events::BlockRead;
+use events::Bound;
 use line::read;
 use nesting::items;
 use nesting::items::Item;
-use rules::Block;
-use rules::BlockRead;
-use rules::Bound;
-use said::Saying;
-use said::Scope;
+use property::PropertyValue;
+use property::Scope;
+use recurrence::time_range;
 use values::times::Context;
 ghost use mathlib.Core.Path.{_≡_};
 ghost use Prim.Native.Nat.{_≤_};
 ghost use Rattle.line.specs.Reading.{lineOf};
-ghost use Rattle.properties.specs.PropertyTests.{propertiesAt};
+ghost use Rattle.property_tests.specs.PropertyTests.{propertiesAt};
 ghost use Rattle.calendar.specs.Meaning.{blockPeriods};
 ghost use Rattle.calendar.specs.Periods.{periodsFrom};
 ghost use Rattle.calendar.specs.Places.{blockAt};
-ghost use Rattle.busy.specs.TimeRange.{blockIn};
-ghost use Rattle.filter.specs.Places.{somePeriodIn, saysPeriods, lineIn, linesIn, blockLinesIn};
+ghost use Rattle.recurrence.specs.TimeRange.{blockIn};
+ghost use Rattle.filter.specs.Places.{somePeriodIn, givesPeriods, lineIn, linesIn, blockLinesIn};
 
 // Does some period of a value touch the range?
 fn value_in(v: &[u8], a: u64, b: u64) -> bool
@@ -29,9 +29,9 @@ fn value_in(v: &[u8], a: u64, b: u64) -> bool
 {
     let mut at: usize = 0;
     loop {
-        match periods::next_period(v, at) {
+        match period_list::next_period(v, at) {
             PeriodStep::Of(p, next) => {
-                if time_range::touches(a, b, p.start, p.end) {
+                if time_range::overlaps(a, b, p.start, p.end) {
                     return true;
                 }
                 at = next;
@@ -42,20 +42,20 @@ fn value_in(v: &[u8], a: u64, b: u64) -> bool
 }
 
 // Does a line give periods?
-fn says_periods(said: Saying) -> bool
-    ensures { λ r. ⌜ r ≡ saysPeriods said ⌝ }
+fn says_periods(said: PropertyValue) -> bool
+    ensures { λ r. ⌜ r ≡ givesPeriods said ⌝ }
 {
     match said {
-        Saying::Nothing => false,
-        Saying::Unsupported => false,
-        Saying::Bad => false,
-        Saying::Start(_) => false,
-        Saying::End(_) => false,
-        Saying::Lasts(_) => false,
-        Saying::Repeats(_) => false,
-        Saying::HasStatus(_) => false,
-        Saying::Transparent(_) => false,
-        Saying::HasPeriods(_) => true,
+        PropertyValue::Nothing => false,
+        PropertyValue::Unsupported => false,
+        PropertyValue::Bad => false,
+        PropertyValue::Start(_) => false,
+        PropertyValue::End(_) => false,
+        PropertyValue::Lasts(_) => false,
+        PropertyValue::Repeats(_) => false,
+        PropertyValue::HasStatus(_) => false,
+        PropertyValue::Transparent(_) => false,
+        PropertyValue::HasPeriods(_) => true,
     }
 }
 
@@ -64,7 +64,7 @@ fn line_in(line: &[u8], c: Context, a: u64, b: u64) -> bool
     requires { ⌜ c .shift ≤ 100800 ⌝ }
     ensures { λ r. ⌜ r ≡ lineIn c a b (lineOf (now (line .entry))) ⌝ }
 {
-    if says_periods(said::saying_of(c, Scope::FreeBusy, line)) {
+    if says_periods(property::property_value_of(c, Scope::FreeBusy, line)) {
         value_in(read::value(line), a, b)
     } else {
         false

@@ -1,19 +1,19 @@
 // What is tried of a component against a record's range: the instances of an event one by one, anything else once.
 // So one search serves events, blocks and records without a range.
 use crate::ranges;
-use busy::time_range;
 use calendar::places;
+use events::Event;
+use events::EventRead;
+use property::Scope;
 use query::Sections;
 use query::fields;
-use rules::Event;
-use rules::EventRead;
-use said::Scope;
+use recurrence::time_range;
 use values::times::Context;
 ghost use mathlib.Core.Path.{_≡_};
 ghost use mathlib.Core.Bool.{true};
 ghost use Prim.Native.Nat.{_≤_};
 ghost use Rattle.query.specs.Fits.{Fits};
-ghost use Rattle.paper.specs.WellFormed.{recordsGood};
+ghost use Rattle.query_check.specs.WellFormed.{recordsGood};
 ghost use Rattle.filter.specs.Trials.{trialIn, trialOf, trialGoesOn, trialPasses, Tried, SmallTrial};
 
 // The trial of one component.

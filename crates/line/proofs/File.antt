@@ -10,7 +10,7 @@ use borrow.Author.Tests.{eqb-true, ne-eqb}
 use Rattle.ascii.specs.Bytes.{isNameByte, isControl, isLetter, isDigit}
 use Rattle.ascii.proofs.Bools.{and-left, and-right, and-both, clash, apart}
 use Rattle.text.specs.Unfolding.{isBlank, unfolded}
-use Rattle.text.specs.Lines.{line, cut, bytesOf, joined, linesOf, allLines, contentLines, everyLine, holdsNoCR, beginsPlain, standsPlain}
+use Rattle.text.specs.Lines.{line, cut, bytesOf, joined, linesOf, allLines, contentLines, everyLine, holdsNoCR, noLeadingBlank, isWholeLine}
 use Rattle.text.proofs.Lines.{bytesOf-cut, unfolded-joined, cut-unfolded-joined}
 use Rattle.line.specs.Grammar.{ContentLine}
 use Rattle.line.specs.Scanner.{step, afterValue, scan, isWellFormed}
@@ -53,7 +53,7 @@ scan-noCR q (b ∷ s) e = and-both (go (eqb b 13) refl) (scan-noCR (step q b) s 
     go false h = ap not h
 
 -- a line begins with a name byte, and a blank is none
-scan-begins : (s : List ℕ) → scan Start s ≡ true → beginsPlain s ≡ true
+scan-begins : (s : List ℕ) → scan Start s ≡ true → noLeadingBlank s ≡ true
 unfolding scan step isBlank isNameByte isLetter isDigit
 scan-begins [] e = refl
 scan-begins (b ∷ s) e = go (isNameByte b) refl
@@ -62,13 +62,13 @@ scan-begins (b ∷ s) e = go (isNameByte b) refl
     go true h = rw (ne-eqb b 32 (apart isNameByte b 32 h refl), ne-eqb b 9 (apart isNameByte b 9 h refl))
     go false h = clash e (rw h (wrong-stays s))
 
-pub wellFormed-plain : (l : List ℕ) → isWellFormed l ≡ true → standsPlain l ≡ true
+pub wellFormed-plain : (l : List ℕ) → isWellFormed l ≡ true → isWholeLine l ≡ true
 unfolding isWellFormed
 wellFormed-plain l e =
     let k : scan Start l ≡ true = and-right (leb (length l) 1024) _ e in
     and-both (scan-noCR Start l k) (scan-begins l k)
 
-every-plain : (ls : List (List ℕ)) → everyLine isWellFormed ls ≡ true → everyLine standsPlain ls ≡ true
+every-plain : (ls : List (List ℕ)) → everyLine isWellFormed ls ≡ true → everyLine isWholeLine ls ≡ true
 every-plain [] e = refl
 every-plain (l ∷ ls) e =
     and-both (wellFormed-plain l (and-left (isWellFormed l) _ e)) (every-plain ls (and-right (isWellFormed l) _ e))
@@ -105,7 +105,7 @@ written (next {l} {r} {x} {xs} g f) =
 pub file-read : {s : List ℕ} {xs : List ContentLine} → FileGrammar s xs → ReadBack s xs
 file-read {s} {xs} f =
     let w : Written s xs = written f in
-    let plain : everyLine standsPlain (w .lines) ≡ true = every-plain (w .lines) (w .good) in
+    let plain : everyLine isWholeLine (w .lines) ≡ true = every-plain (w .lines) (w .good) in
     let whole : cut s ≡ linesOf (w .lines) =
     ap cut (w .bytes ∙ sym (unfolded-joined (w .lines) plain)) ∙ cut-unfolded-joined (w .lines) plain in
     let lines : contentLines s ≡ w .lines = contentLines-cut s (w .lines) whole in

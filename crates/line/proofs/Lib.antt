@@ -1,5 +1,5 @@
 pub mod Scanner
-pub mod Pieces
+pub mod Splitting
 pub mod Reading
 pub mod Parameters
 pub mod WellFormed

@@ -11,11 +11,11 @@ use borrow.Author.Tests.{ltb-true, ltb-false, lt-ltb, le-ltb}
 use Rattle.ascii.specs.Names.{sameName}
 use Rattle.ascii.proofs.Bools.{and-left, and-right, and-both, clash}
 use Rattle.line.specs.Grammar.{Parameter, ContentLine}
-use Rattle.line.specs.Pieces.{nextPlace, after, pieces, piecesAfter, quotesOff}
+use Rattle.line.specs.Splitting.{nextPlace, after, pieces, splitAfter, quotesOff}
 use Rattle.line.specs.Reading.{headOf, isNamed, parameterTexts, valuesOf, parameterOf, lineOf, firstOf, restOf, keepIf, parametersNamed, someList, usageOf, pooled, valuesNamed, countedWith, hasParameter, hasTwice, hasList, firstValue, allValued}
 use Rattle.line.specs.declared.read.Usage.{Usage}
 use Rattle.line.proofs.Scanner.{or-none}
-use Rattle.line.proofs.Pieces.{pieces-from, pieces-some, pieces-end, piecesAfter-in, piecesAfter-out, piecesAfter-next, nextPlace-ge, nextPlace-le, after-is, after-none}
+use Rattle.line.proofs.Splitting.{pieces-from, pieces-some, pieces-end, splitAfter-in, splitAfter-out, splitAfter-next, nextPlace-ge, nextPlace-le, after-is, after-none}
 
 -- ---- one parameter, one value, by its number
 
@@ -28,7 +28,7 @@ unfolding parameterTexts
 parameterTexts-count l = length-rest (pieces true 59 false (headOf l))
 
 -- the parameters stand behind the first semicolon of the head
-pub parameterTexts-after : (l : List ℕ) → parameterTexts l ≡ piecesAfter true 59 (headOf l) (nextPlace true 59 (headOf l) 0)
+pub parameterTexts-after : (l : List ℕ) → parameterTexts l ≡ splitAfter true 59 (headOf l) (nextPlace true 59 (headOf l) 0)
 unfolding parameterTexts
 parameterTexts-after l = ap restOf (pieces-from true 59 (headOf l) 0 (omega arith))
 
@@ -46,16 +46,16 @@ parameterTexts-at l n = go (ltb at (length h)) refl ∙ ap (λ (ts : List (List 
     at : ℕ
     at = nextPlace true 59 h 0
 
-    go : (t : Bool) → ltb at (length h) ≡ t → getD (pieces true 59 false (after true 59 h)) n [] ≡ getD (piecesAfter true 59 h at) n []
+    go : (t : Bool) → ltb at (length h) ≡ t → getD (pieces true 59 false (after true 59 h)) n [] ≡ getD (splitAfter true 59 h at) n []
     go true e =
         ap (λ (r : List ℕ). getD (pieces true 59 false r) n []) (sym (after-is true 59 h at refl))
-        ∙ ap (λ (ts : List (List ℕ)). getD ts n []) (sym (piecesAfter-in true 59 h at (ltb-true at (length h) e)))
+        ∙ ap (λ (ts : List (List ℕ)). getD ts n []) (sym (splitAfter-in true 59 h at (ltb-true at (length h) e)))
     go false e =
         let k : length h ≤ at = ltb-false at (length h) e in
         ap (λ (r : List ℕ). getD (pieces true 59 false r) n []) (sym (after-none true 59 h at refl k))
         ∙ ap (λ (ts : List (List ℕ)). getD ts n []) (pieces-end true 59 false)
         ∙ getD-empty n []
-        ∙ ap (λ (ts : List (List ℕ)). getD ts n []) (sym (piecesAfter-out true 59 h at k))
+        ∙ ap (λ (ts : List (List ℕ)). getD ts n []) (sym (splitAfter-out true 59 h at k))
 
 pub valuesOf-count : (t : List ℕ) → length (pieces true 44 false (after true 61 t)) ≡ length (valuesOf t)
 unfolding valuesOf
@@ -108,16 +108,16 @@ usageFold-none n ps = usageFold-added n noUsage ps ∙ usage-eq (omega arith) re
 -- ---- a loop over the parameters of a head: those from a semicolon on
 
 abbrev pub parametersFrom : List ℕ → ℕ → List Parameter
-parametersFrom h at = map parameterOf (piecesAfter true 59 h at)
+parametersFrom h at = map parameterOf (splitAfter true 59 h at)
 
 pub parameters-next : (h : List ℕ) (at e : ℕ) → at < length h → e ≡ nextPlace true 59 h (at + 1)
     → parametersFrom h at ≡ parameterOf (take (e - (at + 1)) (drop (at + 1) h)) ∷ parametersFrom h e
 parameters-next h at e k q =
-    ap (map parameterOf) (piecesAfter-next true 59 h at k)
+    ap (map parameterOf) (splitAfter-next true 59 h at k)
     ∙ ap (λ (i : ℕ). parameterOf (take (i - (at + 1)) (drop (at + 1) h)) ∷ parametersFrom h i) (sym q)
 
 pub parameters-end : (h : List ℕ) (at : ℕ) → length h ≤ at → parametersFrom h at ≡ []
-parameters-end h at k = ap (map parameterOf) (piecesAfter-out true 59 h at k)
+parameters-end h at k = ap (map parameterOf) (splitAfter-out true 59 h at k)
 
 -- all of them, from the first semicolon on
 pub parameters-all : (l h : List ℕ) → h ≡ headOf l → parametersFrom h (nextPlace true 59 h 0) ≡ lineOf l .parameters

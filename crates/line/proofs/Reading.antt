@@ -18,9 +18,9 @@ use Rattle.ascii.proofs.Names.{sameName-first}
 use Rattle.ascii.proofs.Lists.{drop-next, drop-end}
 use Rattle.line.specs.Grammar.{Parameter, ContentLine, contentLine, parameter, isQuotable, isUnquoted, ParameterValue, ParameterValues, Parameters, LineGrammar, quoted, unquoted, one, comma, none, semicolon, colon}
 use Rattle.line.specs.Scanner.{isWellFormed}
-use Rattle.line.specs.Pieces.{quotedAfter, cutsAt, firstOutside, before, after, pieces, quotesOff}
+use Rattle.line.specs.Splitting.{quotedAfter, cutsAt, firstOutside, before, after, pieces, quotesOff}
 use Rattle.line.specs.Reading.{headOf, valueOf, nameOf, parameterTexts, valuesOf, parameterName, parameterOf, lineOf, Plain}
-use Rattle.line.proofs.Pieces.{firstOutside-cut, firstOutside-keep, firstOutside-end, firstOutside-le, nextPlace-first, closed, closed-append, closed-class, closed-quoted, pieces-closed, pieces-one, before-closed, before-alone, after-closed, quotesOff-quoted, quotesOff-class}
+use Rattle.line.proofs.Splitting.{firstOutside-cut, firstOutside-keep, firstOutside-end, firstOutside-le, nextPlace-first, closed, closed-append, closed-class, closed-quoted, pieces-closed, pieces-one, before-closed, before-alone, after-closed, quotesOff-quoted, quotesOff-class}
 use Rattle.line.proofs.Parameters.{parameters-end, parameters-all}
 use Rattle.line.proofs.Scanner.{every-of-name, grammar-wellFormed, wellFormed-grammar}
 

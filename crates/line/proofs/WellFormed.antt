@@ -8,7 +8,7 @@ use native.Mathlib.Omega.{arith}
 use lib.ListN.{length, drop}
 use borrow.Author.Tests.{not-true}
 use Rattle.ascii.proofs.Bools.{and-left, and-right, and-both, clash}
-use Rattle.text.specs.Lines.{Pieces, end, unended, line, cut, part, LineAt, LastPiece, NoPiece, linesOf, allLines, contentLines, everyLine}
+use Rattle.text.specs.Lines.{Pieces, end, unended, line, cut, part, LineAt, UnendedAt, NothingAt, linesOf, allLines, contentLines, everyLine}
 use Rattle.line.specs.Scanner.{isWellFormed}
 use Rattle.line.specs.WellFormed.{lineCheckFrom, lineCheck, AllGood, linesThen, beginsBadly, FirstBad, GoodLineAt, BadLineAt, NextAt, Checked}
 use Rattle.line.specs.declared.check.LineCheck.the-variants.{Good, BadLine}
@@ -40,11 +40,11 @@ pub next-badly : {s : List ℕ} {from : ℕ} (e : ℕ) {t : Bool} → LineAt s f
 unfolding NextAt beginsBadly
 next-badly e h q w = record { bad = ap beginsBadly (h .pieces) ∙ ap not (sym q ∙ w) }
 
-pub next-unended : {s : List ℕ} {from : ℕ} → LastPiece s from → NextAt s from Next.Bad
+pub next-unended : {s : List ℕ} {from : ℕ} → UnendedAt s from → NextAt s from Next.Bad
 unfolding NextAt beginsBadly
 next-unended h = record { bad = ap beginsBadly (h .pieces) }
 
-pub next-none : {s : List ℕ} {from : ℕ} → NoPiece s from → NextAt s from Next.End
+pub next-none : {s : List ℕ} {from : ℕ} → NothingAt s from → NextAt s from Next.End
 unfolding NextAt
 next-none h = h
 
@@ -57,7 +57,7 @@ pub bad-line : {s : List ℕ} {from : ℕ} {r : Next} → NextAt s from r → r 
 unfolding NextAt
 bad-line {s} {from} h q = subst (NextAt s from) q h
 
-pub no-line : {s : List ℕ} {from : ℕ} {r : Next} → NextAt s from r → r ≡ Next.End → NoPiece s from
+pub no-line : {s : List ℕ} {from : ℕ} {r : Next} → NextAt s from r → r ≡ Next.End → NothingAt s from
 unfolding NextAt
 no-line {s} {from} h q = subst (NextAt s from) q h
 
@@ -81,7 +81,7 @@ module _ {s : List ℕ} {n from : ℕ} (k : Checked s n from) where
   pub checked-bad : BadLineAt s from → BadLine n ≡ lineCheck s
   checked-bad h = sym (begins-badly n (cut (drop from s)) (h .bad)) ∙ k .rest
 
-  pub checked-end : NoPiece s from → Good ≡ lineCheck s
+  pub checked-end : NothingAt s from → Good ≡ lineCheck s
   unfolding lineCheckFrom
   checked-end h = sym (ap (lineCheckFrom n) (h .pieces)) ∙ k .rest
 

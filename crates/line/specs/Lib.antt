@@ -1,6 +1,6 @@
 pub mod Grammar
 pub mod Scanner
-pub mod Pieces
+pub mod Splitting
 pub mod Reading
 pub mod WellFormed
 pub mod Rendering

@@ -8,7 +8,7 @@ use lib.Dec.{ltb}
 use lib.ListN.{length, drop}
 use Rattle.ascii.specs.Names.{sameName}
 use Rattle.line.specs.Grammar.{Parameter, ContentLine, parameter, contentLine}
-use Rattle.line.specs.Pieces.{before, after, pieces, quotesOff}
+use Rattle.line.specs.Splitting.{before, after, pieces, quotesOff}
 use Rattle.line.specs.declared.read.Usage.{Usage}
 
 -- the first element, and all but the first

@@ -4,7 +4,7 @@ use mathlib.Core.Path.{_≡_}
 use mathlib.Core.Bool.{Bool, true, false, not}
 use mathlib.Core.List.{List, [], _∷_}
 use lib.ListN.{length, drop}
-use Rattle.text.specs.Lines.{Pieces, end, unended, line, cut, part, LineAt, NoPiece, linesOf, contentLines, everyLine}
+use Rattle.text.specs.Lines.{Pieces, end, unended, line, cut, part, LineAt, NothingAt, linesOf, contentLines, everyLine}
 use Rattle.line.specs.Scanner.{isWellFormed}
 use Rattle.line.specs.declared.check.LineCheck.{LineCheck}
 use Rattle.line.specs.declared.check.LineCheck.the-variants.{Good, BadLine}
@@ -60,7 +60,7 @@ pub record BadLineAt (s : List ℕ) (from : ℕ) : Type 0 where
 unfoldable pub NextAt : List ℕ → ℕ → Next → Type 0
 NextAt s from (Next.Line e) = GoodLineAt s from e
 NextAt s from Next.Bad = BadLineAt s from
-NextAt s from Next.End = NoPiece s from
+NextAt s from Next.End = NothingAt s from
 
 -- the lines before `from` are well formed, so the check of the lines there, the first of them number n, is that of the file
 pub record Checked (s : List ℕ) (n from : ℕ) : Type 0 where

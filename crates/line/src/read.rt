@@ -73,14 +73,14 @@ pub fn is_plain(line: &[u8], n: usize) -> bool
 pub fn parameter_count(line: &[u8]) -> usize
     ensures { λ r. ⌜ r ≡ length (parameterTexts (now (line .entry))) ⌝ }
 {
-    split::piece_count(head(line), 59, true) - 1
+    split::part_count(head(line), 59, true) - 1
 }
 
 // Parameter number n as it is written, counted from 0; nothing, where there are not so many.
 pub fn parameter(line: &[u8], n: usize) -> &[u8]
     ensures { λ r. ⌜ now r ≡ getD (parameterTexts (now (line .entry))) n [] ⌝ }
 {
-    split::nth_piece(split::after(head(line), 59, true), 59, true, n)
+    split::nth_part(split::after(head(line), 59, true), 59, true, n)
 }
 
 pub fn parameter_name(p: &[u8]) -> &[u8]
@@ -99,14 +99,14 @@ pub fn is_named(p: &[u8], name: &[u8]) -> bool
 pub fn value_count(p: &[u8]) -> usize
     ensures { λ r. ⌜ r ≡ length (valuesOf (now (p .entry))) ⌝ }
 {
-    split::piece_count(split::after(p, 61, true), 44, true)
+    split::part_count(split::after(p, 61, true), 44, true)
 }
 
 // Value number n of a parameter, quotes taken off; nothing, where there are not so many.
 pub fn parameter_value(p: &[u8], n: usize) -> &[u8]
     ensures { λ r. ⌜ now r ≡ getD (valuesOf (now (p .entry))) n [] ⌝ }
 {
-    split::quotes_off(split::nth_piece(split::after(p, 61, true), 44, true, n))
+    split::quotes_off(split::nth_part(split::after(p, 61, true), 44, true, n))
 }
 
 // How the name is used on the line, in one pass over its parameters.

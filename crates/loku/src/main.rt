@@ -9,6 +9,8 @@
 // A batch prints a line for each file, tab between two: name, verdict where a query was given, `report`, `refused` or `unreadable`,
 // its length, refusal number or reason, and the busy seconds of BUSY, BUSY-TENTATIVE and BUSY-UNAVAILABLE; then a line of
 // counts that begins with `files`. A report that cannot be written beside its file adds `not written`.
+use cli::arguments::Command;
+use cli::arguments::Offset;
 use console::args;
 use console::args::Plan;
 use console::args::Planned;
@@ -16,8 +18,6 @@ use console::file;
 use console::file::Got;
 use console::out;
 use console::query;
-use desk::arguments::Command;
-use desk::arguments::Offset;
 use engine::Answer;
 
 // The first n bytes.
@@ -91,11 +91,11 @@ fn match_query(cal: &mut [u8], query: &mut [u8], work: &mut [u8]) {
 fn run(cal: &mut [u8], query: &mut [u8], work: &mut [u8], out: &mut [u8]) {
     let mut word = [0u8; 16];
     let n = os::arg(1, &mut word);
-    let command = desk::arguments::command_of(&word[..n]);
+    let command = cli::arguments::command_of(&word[..n]);
     match command {
         Command::Report => report(cal, work, out),
         Command::Match => match_query(cal, query, work),
-        Command::Batch => ledger::batch::run(cal, query, work, out),
+        Command::Batch => batch::batch::run(cal, query, work, out),
         Command::Other => out::wrong(b"the first word is report, match or batch"),
     }
 }

@@ -11,10 +11,10 @@ use Rattle.ascii.specs.Names.{sameName, isName}
 use Rattle.ascii.specs.Words.{ascii}
 use Rattle.ascii.proofs.Bools.{and-left, and-right, clash}
 use Rattle.line.specs.Grammar.{ContentLine}
-use Rattle.line.specs.Pieces.{firstOutside, before, after, pieces}
+use Rattle.line.specs.Splitting.{firstOutside, before, after, pieces}
 use Rattle.line.specs.Reading.{lineOf, nameOf, headOf, valueOf, parameterTexts}
-use Rattle.marks.specs.Marks.{markOf}
-use Rattle.marks.specs.Innermost.{isCalendar, isEvent, isFreeBusy, mayBegin}
+use Rattle.delimiters.specs.Delimiters.{delimiterOf}
+use Rattle.delimiters.specs.Innermost.{isCalendar, isEvent, isFreeBusy, mayBegin}
 use Rattle.nesting.specs.Nesting.{afterBegin, afterEnd, afterProperty, afterWrong, walk, outcome, nestingOf}
 use Rattle.nesting.specs.declared.Nesting.{Nesting}
 use Rattle.nesting.specs.declared.Nesting.the-variants.{Good, BadLine}
@@ -92,5 +92,5 @@ table =
     ∷ []
 
 pub edges : AllHold table
-unfolding nestingOf walk outcome markOf lineOf nameOf headOf valueOf parameterTexts firstOutside before after pieces sameName upper isName isNameByte isLetter isDigit isCalendar isEvent isFreeBusy mayBegin afterBegin afterEnd afterProperty afterWrong
+unfolding nestingOf walk outcome delimiterOf lineOf nameOf headOf valueOf parameterTexts firstOutside before after pieces sameName upper isName isNameByte isLetter isDigit isCalendar isEvent isFreeBusy mayBegin afterBegin afterEnd afterProperty afterWrong
 edges = sound table refl

@@ -13,15 +13,15 @@ use Rattle.ascii.specs.Words.{ascii}
 use Rattle.ascii.proofs.Bools.{and-left, and-right, and-both, clash}
 use Rattle.ascii.proofs.Names.{sameName-iff}
 use Rattle.line.specs.Grammar.{ContentLine, contentLine}
-use Rattle.marks.specs.Marks.{markOf, noParameters}
-use Rattle.marks.specs.Innermost.{isCalendar, mayBegin}
-use Rattle.marks.specs.declared.Mark.{Mark}
-use Rattle.marks.specs.declared.Mark.the-variants.{Begins, Ends, Property, Wrong}
-use Rattle.nesting.specs.Nesting.{Walk, start, inside, closed, broken, afterBegin, outside, afterEnd, afterProperty, afterWrong, afterMark, walk, outcome, nestingOf}
+use Rattle.delimiters.specs.Delimiters.{delimiterOf, noParameters}
+use Rattle.delimiters.specs.Innermost.{isCalendar, mayBegin}
+use Rattle.delimiters.specs.declared.Delimiter.{Delimiter}
+use Rattle.delimiters.specs.declared.Delimiter.the-variants.{Begins, Ends, Property, Wrong}
+use Rattle.nesting.specs.Nesting.{Walk, start, inside, closed, broken, afterBegin, outside, afterEnd, afterProperty, afterWrong, afterDelimiter, walk, outcome, nestingOf}
 use Rattle.nesting.specs.WellNested.{numberedFrom}
 use Rattle.nesting.specs.Faults.{GoesOn, BreaksAt, StopsAt, FaultAt, breaks, stops}
 use Rattle.nesting.specs.declared.Nesting.the-variants.{Good, BadLine}
-use Rattle.nesting.proofs.Walks.{walk-numbered, stays-broken, step-end}
+use Rattle.nesting.proofs.Walking.{walk-numbered, stays-broken, step-end}
 
 -- ---- what is open has names
 
@@ -37,7 +37,7 @@ sound (inside (n ∷ o) k) = isName n && allNames o
 sound closed = true
 sound (broken j) = true
 
-abbrev isBegins : Mark → Bool
+abbrev isBegins : Delimiter → Bool
 isBegins Begins = true
 isBegins Ends = false
 isBegins Property = false
@@ -49,8 +49,8 @@ begins-named true b false e = e
 begins-named false true false e = e
 begins-named false false false e = e
 
-begin-name : (x : ContentLine) → markOf x ≡ Begins → isName (x .value) ≡ true
-unfolding markOf
+begin-name : (x : ContentLine) → delimiterOf x ≡ Begins → isName (x .value) ≡ true
+unfolding delimiterOf
 begin-name x e =
     and-right (noParameters (x .parameters)) _
     (begins-named (sameName (x .name) (ascii "BEGIN")) (sameName (x .name) (ascii "END")) (noParameters (x .parameters) && isName (x .value)) (ap isBegins e))
@@ -95,16 +95,16 @@ sound-wrong i (inside o k) = refl
 sound-wrong i closed = refl
 sound-wrong i (broken j) = refl
 
-sound-mark : (m : Mark) (i : ℕ) (x : ContentLine) (w : Walk) → markOf x ≡ m → sound w ≡ true → sound (afterMark m i x w) ≡ true
-sound-mark Begins i x w h s = sound-begin i (x .value) w (begin-name x h) s
-sound-mark Ends i x w h s = sound-end i (x .value) w s
-sound-mark Property i x w h s = sound-property i w s
-sound-mark Wrong i x w h s = sound-wrong i w
+sound-delimiter : (m : Delimiter) (i : ℕ) (x : ContentLine) (w : Walk) → delimiterOf x ≡ m → sound w ≡ true → sound (afterDelimiter m i x w) ≡ true
+sound-delimiter Begins i x w h s = sound-begin i (x .value) w (begin-name x h) s
+sound-delimiter Ends i x w h s = sound-end i (x .value) w s
+sound-delimiter Property i x w h s = sound-property i w s
+sound-delimiter Wrong i x w h s = sound-wrong i w
 
 sound-walk : (i : ℕ) (w : Walk) (xs : List ContentLine) → sound w ≡ true → sound (walk i w xs) ≡ true
 unfolding walk
 sound-walk i w [] s = s
-sound-walk i w (x ∷ xs) s = sound-walk (suc i) (afterMark (markOf x) i x w) xs (sound-mark (markOf x) i x w refl s)
+sound-walk i w (x ∷ xs) s = sound-walk (suc i) (afterDelimiter (delimiterOf x) i x w) xs (sound-delimiter (delimiterOf x) i x w refl s)
 
 -- ---- the END lines of what is open close the walk
 
@@ -118,16 +118,16 @@ closings (n ∷ o) = endLine n ∷ closings o
 same-self : (n : List ℕ) → sameName n n ≡ true
 same-self n = sameName-iff n n .1 refl
 
-end-marked : (n : List ℕ) → isName n ≡ true → markOf (endLine n) ≡ Ends
-unfolding markOf sameName upper
-end-marked n h = rw h
+end-delimited : (n : List ℕ) → isName n ≡ true → delimiterOf (endLine n) ≡ Ends
+unfolding delimiterOf sameName upper
+end-delimited n h = rw h
 
 closes : (i : ℕ) (n : List ℕ) (o : List (List ℕ)) (k : ℕ) → (isName n && allNames o) ≡ true → walk i (inside (n ∷ o) k) (closings (n ∷ o)) ≡ closed
 unfolding walk
-closes i n [] k s = step-end n [] k (record { number = i; line = endLine n }) (end-marked n (and-left (isName n) true s)) (same-self n)
+closes i n [] k s = step-end n [] k (record { number = i; line = endLine n }) (end-delimited n (and-left (isName n) true s)) (same-self n)
 closes i n (m ∷ o) k s =
     ap (λ (v : Walk). walk (suc i) v (closings (m ∷ o)))
-    (step-end n (m ∷ o) k (record { number = i; line = endLine n }) (end-marked n (and-left (isName n) (allNames (m ∷ o)) s)) (same-self n))
+    (step-end n (m ∷ o) k (record { number = i; line = endLine n }) (end-delimited n (and-left (isName n) (allNames (m ∷ o)) s)) (same-self n))
     ∙ closes (suc i) m o k (and-right (isName n) (allNames (m ∷ o)) s)
 
 -- a calendar with nothing in it
@@ -135,7 +135,7 @@ abbrev emptyCalendar : List ContentLine
 emptyCalendar = contentLine (ascii "BEGIN") [] (ascii "VCALENDAR") ∷ endLine (ascii "VCALENDAR") ∷ []
 
 empty-closes : (i : ℕ) → walk i start emptyCalendar ≡ closed
-unfolding walk markOf sameName upper isName isNameByte isLetter isDigit afterBegin afterEnd isCalendar
+unfolding walk delimiterOf sameName upper isName isNameByte isLetter isDigit afterBegin afterEnd isCalendar
 empty-closes i = refl
 
 abbrev isBroken : Walk → Bool
@@ -163,7 +163,7 @@ unfolding walk
 walk-append i w [] r = let z : i ≡ 0 + i = omega arith in ap (λ (j : ℕ). walk j w r) z
 walk-append i w (x ∷ p) r =
     let z : length p + suc i ≡ suc (length p) + i = omega arith in
-    walk-append (suc i) (afterMark (markOf x) i x w) p r ∙ ap (λ (j : ℕ). walk j (walk (suc i) (afterMark (markOf x) i x w) p) r) z
+    walk-append (suc i) (afterDelimiter (delimiterOf x) i x w) p r ∙ ap (λ (j : ℕ). walk j (walk (suc i) (afterDelimiter (delimiterOf x) i x w) p) r) z
 
 walk-broken : (i j : ℕ) (xs : List ContentLine) → walk i (broken j) xs ≡ broken j
 walk-broken i j xs = walk-numbered i (broken j) xs ∙ stays-broken j (numberedFrom i xs)
@@ -238,7 +238,7 @@ wrong-breaks i j (inside o k) b e = cc
 wrong-breaks i j closed b e = cc
 wrong-breaks i j (broken h) b e = clash refl b
 
-step-breaks : (m : Mark) (i j : ℕ) (x : ContentLine) (w : Walk) → isBroken w ≡ false → afterMark m i x w ≡ broken j → j ≡ i
+step-breaks : (m : Delimiter) (i j : ℕ) (x : ContentLine) (w : Walk) → isBroken w ≡ false → afterDelimiter m i x w ≡ broken j → j ≡ i
 step-breaks Begins i j x w b e = begin-breaks i j (x .value) w b e
 step-breaks Ends i j x w b e = end-breaks i j (x .value) w b e
 step-breaks Property i j x w b e = property-breaks i j w b e
@@ -254,7 +254,7 @@ record Split (i : ℕ) (w : Walk) (xs : List ContentLine) (j : ℕ) : Type 0 whe
   pub unbroken : isBroken (walk i w before) ≡ false
   pub breaks : walk i w (before ++ (line ∷ [])) ≡ broken j
 
-split-here : (i j : ℕ) (w : Walk) (x : ContentLine) (xs : List ContentLine) → isBroken w ≡ false → Broken (afterMark (markOf x) i x w)
+split-here : (i j : ℕ) (w : Walk) (x : ContentLine) (xs : List ContentLine) → isBroken w ≡ false → Broken (afterDelimiter (delimiterOf x) i x w)
     → walk i w (x ∷ xs) ≡ broken j → Split i w (x ∷ xs) j
 unfolding walk
 split-here i j w x xs b q e =
@@ -264,12 +264,12 @@ split-here i j w x xs b q e =
       line = x;
       behind = xs;
       file = refl;
-      number = omega (arith, step-breaks (markOf x) i j x w b (q .is ∙ s));
+      number = omega (arith, step-breaks (delimiterOf x) i j x w b (q .is ∙ s));
       unbroken = b;
       breaks = q .is ∙ s;
     }
 
-split-later : (i j : ℕ) (w : Walk) (x : ContentLine) (xs : List ContentLine) → Split (suc i) (afterMark (markOf x) i x w) xs j → Split i w (x ∷ xs) j
+split-later : (i j : ℕ) (w : Walk) (x : ContentLine) (xs : List ContentLine) → Split (suc i) (afterDelimiter (delimiterOf x) i x w) xs j → Split i w (x ∷ xs) j
 unfolding walk
 split-later i j w x xs s = record {
   before = x ∷ s .before;
@@ -281,17 +281,17 @@ split-later i j w x xs s = record {
   breaks = s .breaks;
 }
 
-split-by : (i j : ℕ) (w : Walk) (x : ContentLine) (xs : List ContentLine) (t : Bool) → isBroken (afterMark (markOf x) i x w) ≡ t → isBroken w ≡ false
-    → walk i w (x ∷ xs) ≡ broken j → (isBroken (afterMark (markOf x) i x w) ≡ false → Split (suc i) (afterMark (markOf x) i x w) xs j)
+split-by : (i j : ℕ) (w : Walk) (x : ContentLine) (xs : List ContentLine) (t : Bool) → isBroken (afterDelimiter (delimiterOf x) i x w) ≡ t → isBroken w ≡ false
+    → walk i w (x ∷ xs) ≡ broken j → (isBroken (afterDelimiter (delimiterOf x) i x w) ≡ false → Split (suc i) (afterDelimiter (delimiterOf x) i x w) xs j)
     → Split i w (x ∷ xs) j
-split-by i j w x xs true q b e ih = split-here i j w x xs b (is-broken (afterMark (markOf x) i x w) q) e
+split-by i j w x xs true q b e ih = split-here i j w x xs b (is-broken (afterDelimiter (delimiterOf x) i x w) q) e
 split-by i j w x xs false q b e ih = split-later i j w x xs (ih q)
 
 split : (i j : ℕ) (w : Walk) (xs : List ContentLine) → isBroken w ≡ false → walk i w xs ≡ broken j → Split i w xs j
 unfolding walk
 split i j w [] b e = clash (ap isBroken e) b
 split i j w (x ∷ xs) b e =
-    split-by i j w x xs (isBroken (afterMark (markOf x) i x w)) refl b e (λ q. split (suc i) j (afterMark (markOf x) i x w) xs q e)
+    split-by i j w x xs (isBroken (afterDelimiter (delimiterOf x) i x w)) refl b e (λ q. split (suc i) j (afterDelimiter (delimiterOf x) i x w) xs q e)
 
 -- ---- from the walk's outcome to the line, and back
 
@@ -336,9 +336,9 @@ break-walk : (p : List ContentLine) (x : ContentLine) (r : List ContentLine) (v 
     → Broken (walk 1 start (p ++ (x ∷ []))) → walk 1 start (p ++ (x ∷ r)) ≡ broken (length p + 1)
 unfolding walk
 break-walk p x r v e u b =
-    let s : afterMark (markOf x) (length p + 1) x v ≡ broken (b .number) =
+    let s : afterDelimiter (delimiterOf x) (length p + 1) x v ≡ broken (b .number) =
     ap (λ (w : Walk). walk (length p + 1) w (x ∷ [])) (sym e) ∙ sym (walk-append 1 start p (x ∷ [])) ∙ b .is in
-    let n : b .number ≡ length p + 1 = step-breaks (markOf x) (length p + 1) (b .number) x v u s in
+    let n : b .number ≡ length p + 1 = step-breaks (delimiterOf x) (length p + 1) (b .number) x v u s in
     walk-append 1 start p (x ∷ r)
     ∙ ap (λ (w : Walk). walk (length p + 1) w (x ∷ r)) e
     ∙ ap (λ (w : Walk). walk (suc (length p + 1)) w r) s

@@ -6,13 +6,13 @@ use native.Mathlib.Omega.{arith}
 use lib.ListN.{length}
 use Rattle.text.specs.Lines.{part, LineFrom, NoLineFrom}
 use Rattle.line.specs.Reading.{lineOf}
-use Rattle.marks.specs.Marks.{markOf}
-use Rattle.marks.specs.declared.Mark.{Mark}
-use Rattle.marks.specs.declared.Mark.the-variants.{Begins, Ends, Property, Wrong}
+use Rattle.delimiters.specs.Delimiters.{delimiterOf}
+use Rattle.delimiters.specs.declared.Delimiter.{Delimiter}
+use Rattle.delimiters.specs.declared.Delimiter.the-variants.{Begins, Ends, Property, Wrong}
 use Rattle.nesting.specs.Components.{Items, none, property, component, itemsOf}
 use Rattle.nesting.specs.Passing.{linesFrom, PropertyAt, InnerAt, NoItemAt, depthAfter, SkipsTo}
 use Rattle.nesting.specs.declared.items.Place.{Place}
-use Rattle.nesting.proofs.Stepping.{item-inner, item-done, item-property, item-wrong, property-at, inner-at, no-item-at, Skipping, skipping-start, skipping-next, skipping-end, skipping-done}
+use Rattle.nesting.proofs.Components.{item-inner, item-done, item-property, item-wrong, property-at, inner-at, no-item-at, Skipping, skipping-start, skipping-next, skipping-end, skipping-done}
 
 -- a property, a component and the end are told apart
 shape : Items → ℕ
@@ -26,7 +26,7 @@ module _ {s : List ℕ} {at e next : ℕ} (h : PropertyAt s at e next) where
   property-shape = ap shape (h .items 0)
 
   -- as many components are open after its line as before
-  property-depth : (n : ℕ) (m : Mark) → m ≡ markOf (lineOf (part s at e)) → n ≡ depthAfter m n
+  property-depth : (n : ℕ) (m : Delimiter) → m ≡ delimiterOf (lineOf (part s at e)) → n ≡ depthAfter m n
   unfolding depthAfter shape
   property-depth n Begins q =
       let z : shape (itemsOf 0 (linesFrom s at 0)) ≡ 2 = ap shape (inner-at e next (item-inner (h .line) q refl) refl .items 0) in
@@ -39,7 +39,7 @@ module _ {s : List ℕ} {at e next : ℕ} (h : PropertyAt s at e next) where
 
 module _ {s : List ℕ} {at₀ number₀ at number depth : ℕ} (r : Skipping s at₀ number₀ at number depth) where
   pub leaving-property : {e next : ℕ} → 0 < depth → PropertyAt s at e next → Skipping s at₀ number₀ next (number + 1) depth
-  leaving-property {e} {next} p h = skipping-next r p (h .line) refl (property-depth h depth (markOf (lineOf (part s at e))) refl)
+  leaving-property {e} {next} p h = skipping-next r p (h .line) refl (property-depth h depth (delimiterOf (lineOf (part s at e))) refl)
 
   leaving-begin : {e next : ℕ} → 0 < depth → InnerAt s at e next → Skipping s at₀ number₀ next (number + 1) (depth + 1)
   unfolding depthAfter
@@ -70,14 +70,14 @@ leaving-last r y = skipping-done (leaving-end r refl y) refl
 -- ---- where no item is left
 
 -- a line there is the END line
-last-line : {s : List ℕ} {at e next : ℕ} → NoItemAt s at → LineFrom s at e next → (m : Mark) → m ≡ markOf (lineOf (part s at e)) → m ≡ Ends
+last-line : {s : List ℕ} {at e next : ℕ} → NoItemAt s at → LineFrom s at e next → (m : Delimiter) → m ≡ delimiterOf (lineOf (part s at e)) → m ≡ Ends
 unfolding shape
 last-line {s} {at} {e} {next} r h m q = go m q
   where
     none-left : shape (itemsOf 0 (linesFrom s at 0)) ≡ 0
     none-left = ap shape (r .items 0)
 
-    go : (m : Mark) → m ≡ markOf (lineOf (part s at e)) → m ≡ Ends
+    go : (m : Delimiter) → m ≡ delimiterOf (lineOf (part s at e)) → m ≡ Ends
     go Begins w =
         let z : shape (itemsOf 0 (linesFrom s at 0)) ≡ 2 = ap shape (inner-at e next (item-inner h w refl) refl .items 0) in
         absurd (omega (arith, none-left, z))

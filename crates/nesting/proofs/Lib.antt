@@ -1,8 +1,8 @@
-pub mod Walks
-pub mod Trees
+pub mod Walking
+pub mod WellNested
 pub mod Faults
-pub mod Meeting
+pub mod Innermost
 pub mod Passing
-pub mod Stepping
+pub mod Components
 pub mod Leaving
 pub mod Examples

@@ -5,20 +5,20 @@ use mathlib.Core.Bool.{Bool, true, false, cond}
 use mathlib.Core.List.{List, [], _∷_, map}
 use native.Mathlib.Omega.{arith}
 use lib.ListN.{length}
-use Rattle.text.specs.Lines.{contentLines, part, LineAt, NoPiece, LineFrom, NoLineFrom}
+use Rattle.text.specs.Lines.{contentLines, part, LineAt, NothingAt, LineFrom, NoLineFrom}
 use Rattle.text.proofs.Lines.{steps-at, steps-none, line-from, no-line-from}
 use Rattle.line.specs.Grammar.{ContentLine}
 use Rattle.line.specs.Reading.{lineOf, valueOf}
 use Rattle.line.specs.WellFormed.{lineCheck, GoodLineAt, BadLineAt, Checked}
 use Rattle.line.specs.declared.check.LineCheck.{LineCheck}
 use Rattle.line.proofs.WellFormed.{checked-next, checked-bad}
-use Rattle.marks.specs.Marks.{markOf}
-use Rattle.marks.specs.Innermost.{metBy, beginsBy, beginsCalendar}
-use Rattle.marks.specs.declared.Mark.{Mark}
-use Rattle.marks.specs.declared.Mark.the-variants.{Begins, Ends, Property, Wrong}
-use Rattle.marks.specs.declared.Met.{Met}
-use Rattle.marks.specs.declared.Met.the-variants.{Opens, Stays, Closes, Breaks}
-use Rattle.nesting.specs.Nesting.{Walk, start, inside, closed, broken, afterBegin, afterEnd, afterProperty, afterWrong, afterMark, walk, outcome, nestingOf}
+use Rattle.delimiters.specs.Delimiters.{delimiterOf}
+use Rattle.delimiters.specs.Innermost.{nestingStepBy, beginsBy, beginsCalendar}
+use Rattle.delimiters.specs.declared.Delimiter.{Delimiter}
+use Rattle.delimiters.specs.declared.Delimiter.the-variants.{Begins, Ends, Property, Wrong}
+use Rattle.delimiters.specs.declared.NestingStep.{NestingStep}
+use Rattle.delimiters.specs.declared.NestingStep.the-variants.{Opens, Stays, Closes, Breaks}
+use Rattle.nesting.specs.Nesting.{Walk, start, inside, closed, broken, afterBegin, afterEnd, afterProperty, afterWrong, afterDelimiter, walk, outcome, nestingOf}
 use Rattle.nesting.specs.WellNested.{numberedFrom}
 use Rattle.nesting.specs.Passing.{linesAt, nestingIn, nestingFrom, structureBy, ClosesAt, BreaksBefore, ReadsTo}
 use Rattle.nesting.specs.declared.Nesting.{Nesting}
@@ -26,8 +26,8 @@ use Rattle.nesting.specs.declared.Nesting.the-variants.{Good, BadLine}
 use Rattle.nesting.specs.declared.Structure.{Structure}
 use Rattle.nesting.specs.declared.Closed.{Closed}
 use Rattle.nesting.specs.declared.Closed.the-variants.{At, Broken, Bad}
-use Rattle.nesting.proofs.Walks.{walk-numbered, stays-broken, after-closed}
-use Rattle.nesting.proofs.Meeting.{afterMet, after-met, Room, opens-room}
+use Rattle.nesting.proofs.Walking.{walk-numbered, stays-broken, after-closed}
+use Rattle.nesting.proofs.Innermost.{afterNestingStep, after-step, Room, opens-room}
 
 -- ---- lines from a place on
 
@@ -43,19 +43,19 @@ lines-none h = ap (map lineOf) (h .lines)
 pub ended-line : {s : List ℕ} {at e : ℕ} → LineAt s at e → LineFrom s at e (e + 2)
 ended-line {s} {at} {e} h = line-from e (e + 2) (steps-at h) refl
 
-pub ended-none : {s : List ℕ} {at : ℕ} → NoPiece s at → NoLineFrom s at
+pub ended-none : {s : List ℕ} {at : ℕ} → NothingAt s at → NoLineFrom s at
 ended-none h = no-line-from (steps-none h) refl
 
 -- ---- the outcome from a line on
 
 from-next : (i : ℕ) (w : Walk) (x : ContentLine) (xs : List ContentLine)
-    → nestingFrom i w (x ∷ xs) ≡ nestingFrom (i + 1) (afterMark (markOf x) i x w) xs
+    → nestingFrom i w (x ∷ xs) ≡ nestingFrom (i + 1) (afterDelimiter (delimiterOf x) i x w) xs
 unfolding nestingFrom walk
 from-next i w x xs =
     let n : i + suc (length xs) ≡ i + 1 + length xs = omega arith in
     let m : suc i ≡ i + 1 = omega arith in
-    ap (λ (j : ℕ). outcome j (walk (suc i) (afterMark (markOf x) i x w) xs)) n
-    ∙ ap (λ (j : ℕ). outcome (i + 1 + length xs) (walk j (afterMark (markOf x) i x w) xs)) m
+    ap (λ (j : ℕ). outcome j (walk (suc i) (afterDelimiter (delimiterOf x) i x w) xs)) n
+    ∙ ap (λ (j : ℕ). outcome (i + 1 + length xs) (walk j (afterDelimiter (delimiterOf x) i x w) xs)) m
 
 from-none : (i : ℕ) (w : Walk) → nestingFrom i w [] ≡ outcome i w
 unfolding nestingFrom walk
@@ -97,7 +97,7 @@ reading-start s name at number count left h k = record { onward = omega arith; c
 
 module _ {s name : List ℕ} {at₀ number₀ count₀ left at number count : ℕ} (r : Reading s name at₀ number₀ count₀ left at number count) where
   -- the file just stops
-  pub reading-end : NoPiece s at → ReadsTo s name at₀ number₀ count₀ left (Broken number at)
+  pub reading-end : NothingAt s at → ReadsTo s name at₀ number₀ count₀ left (Broken number at)
   unfolding ReadsTo outcome
   reading-end h = record {
     checked = r .checked;
@@ -112,32 +112,32 @@ module _ {s name : List ℕ} {at₀ number₀ count₀ left at number count : �
   unfolding ReadsTo
   reading-bad h = checked-bad (r .checked) h
 
-  module _ {e : ℕ} (h : GoodLineAt s at e) (m : Met) (q : m ≡ metBy (markOf (lineOf (part s at e))) (valueOf (part s at e)) name (10 - left) (count + 1)) where
-    met-next : (o : List (List ℕ)) → length o + left ≡ 8 → nestingFrom number₀ (inside (name ∷ o) count₀) (linesAt s at₀)
-        ≡ nestingFrom (number + 1) (afterMet m number (valueOf (part s at e)) name o count) (linesAt s (e + 2))
+  module _ {e : ℕ} (h : GoodLineAt s at e) (m : NestingStep) (q : m ≡ nestingStepBy (delimiterOf (lineOf (part s at e))) (valueOf (part s at e)) name (10 - left) (count + 1)) where
+    step-next : (o : List (List ℕ)) → length o + left ≡ 8 → nestingFrom number₀ (inside (name ∷ o) count₀) (linesAt s at₀)
+        ≡ nestingFrom (number + 1) (afterNestingStep m number (valueOf (part s at e)) name o count) (linesAt s (e + 2))
     unfolding lineOf
-    met-next o w =
+    step-next o w =
         let x = lineOf (part s at e) in
         let d : length (name ∷ o) + 1 ≡ 10 - left = omega arith in
         r .decided o w
         ∙ ap (nestingFrom number (inside (name ∷ o) count)) (lines-next (ended-line (h .line)))
         ∙ from-next number (inside (name ∷ o) count) x (linesAt s (e + 2))
         ∙ ap (λ (v : Walk). nestingFrom (number + 1) v (linesAt s (e + 2)))
-        (after-met (markOf x) x number name o count
-        ∙ ap (λ (j : ℕ). afterMet (metBy (markOf x) (x .value) name j (count + 1)) number (x .value) name o count) d
-        ∙ ap (λ (j : Met). afterMet j number (x .value) name o count) (sym q))
+        (after-step (delimiterOf x) x number name o count
+        ∙ ap (λ (j : ℕ). afterNestingStep (nestingStepBy (delimiterOf x) (x .value) name j (count + 1)) number (x .value) name o count) d
+        ∙ ap (λ (j : NestingStep). afterNestingStep j number (x .value) name o count) (sym q))
 
-    met-case : (j : Met) → m ≡ j → (o : List (List ℕ)) → length o + left ≡ 8 → nestingFrom number₀ (inside (name ∷ o) count₀) (linesAt s at₀)
-        ≡ nestingFrom (number + 1) (afterMet j number (valueOf (part s at e)) name o count) (linesAt s (e + 2))
-    met-case j p o w =
-        met-next o w ∙ ap (λ (i : Met). nestingFrom (number + 1) (afterMet i number (valueOf (part s at e)) name o count) (linesAt s (e + 2))) p
+    step-case : (j : NestingStep) → m ≡ j → (o : List (List ℕ)) → length o + left ≡ 8 → nestingFrom number₀ (inside (name ∷ o) count₀) (linesAt s at₀)
+        ≡ nestingFrom (number + 1) (afterNestingStep j number (valueOf (part s at e)) name o count) (linesAt s (e + 2))
+    step-case j p o w =
+        step-next o w ∙ ap (λ (i : NestingStep). nestingFrom (number + 1) (afterNestingStep i number (valueOf (part s at e)) name o count) (linesAt s (e + 2))) p
 
     pub reading-stays : m ≡ Stays → Reading s name at₀ number₀ count₀ left (e + 2) (number + 1) count
     reading-stays p = record {
       onward = omega (arith, r .onward, h .line .starts);
       checked = checked-next (r .checked) h;
       counted = r .counted;
-      decided = met-case Stays p;
+      decided = step-case Stays p;
     }
 
     pub reading-closes : m ≡ Closes → ReadsTo s name at₀ number₀ count₀ left (At (e + 2) (number + 1) count)
@@ -146,23 +146,23 @@ module _ {s name : List ℕ} {at₀ number₀ count₀ left at number count : �
       onward = omega (arith, r .onward, h .line .starts);
       checked = checked-next (r .checked) h;
       counted = r .counted;
-      decided = met-case Closes p;
+      decided = step-case Closes p;
     }
 
     pub reading-breaks : m ≡ Breaks → ReadsTo s name at₀ number₀ count₀ left (Broken number at)
     unfolding ReadsTo
-    reading-breaks p = record { checked = r .checked; decided = λ o w. met-case Breaks p o w ∙ from-broken (number + 1) number (linesAt s (e + 2)) }
+    reading-breaks p = record { checked = r .checked; decided = λ o w. step-case Breaks p o w ∙ from-broken (number + 1) number (linesAt s (e + 2)) }
 
     pub reading-room : m ≡ Opens → Room left (count + 1)
     unfolding lineOf
-    reading-room p = opens-room (markOf (lineOf (part s at e))) (lineOf (part s at e)) name left (count + 1) (sym q ∙ p)
+    reading-room p = opens-room (delimiterOf (lineOf (part s at e))) (lineOf (part s at e)) name left (count + 1) (sym q ∙ p)
 
     module _ (p : m ≡ Opens) (v : List ℕ) (g : v ≡ valueOf (part s at e)) (u : Closed) (k : ReadsTo s v (e + 2) (number + 1) (count + 1) (left - 1) u) where
       -- the lines of the inner component, whatever is open around it
       inner-next : (o : List (List ℕ)) → length o + left ≡ 8 → nestingFrom number₀ (inside (name ∷ o) count₀) (linesAt s at₀)
           ≡ nestingFrom (number + 1) (inside (v ∷ name ∷ o) (count + 1)) (linesAt s (e + 2))
       inner-next o w =
-          met-case Opens p o w ∙ ap (λ (n : List ℕ). nestingFrom (number + 1) (inside (n ∷ name ∷ o) (count + 1)) (linesAt s (e + 2))) (sym g)
+          step-case Opens p o w ∙ ap (λ (n : List ℕ). nestingFrom (number + 1) (inside (n ∷ name ∷ o) (count + 1)) (linesAt s (e + 2))) (sym g)
 
       inner-room : (o : List (List ℕ)) → length o + left ≡ 8 → length (name ∷ o) + (left - 1) ≡ 8
       inner-room o w = omega (arith, reading-room p .some)
@@ -196,7 +196,7 @@ from-start s =
     let n : length xs + 1 ≡ 1 + length xs = omega arith in
     ap (λ (j : ℕ). outcome j (walk 1 start xs)) n
 
-after-start : (m : Mark) (i : ℕ) (x : ContentLine) → afterMark m i x start ≡ cond (beginsBy m (x .value)) (inside (x .value ∷ []) 1) (broken i)
+after-start : (m : Delimiter) (i : ℕ) (x : ContentLine) → afterDelimiter m i x start ≡ cond (beginsBy m (x .value)) (inside (x .value ∷ []) 1) (broken i)
 unfolding afterBegin afterEnd afterProperty afterWrong
 after-start Begins i x = refl
 after-start Ends i x = refl
@@ -213,7 +213,7 @@ calendar-follows s at i {e} {next} h =
     sym
     (ap (nestingFrom i closed) (lines-next h)
     ∙ from-next i closed x (linesAt s next)
-    ∙ ap (λ (v : Walk). nestingFrom (i + 1) v (linesAt s next)) (after-closed (markOf x) i x)
+    ∙ ap (λ (v : Walk). nestingFrom (i + 1) v (linesAt s next)) (after-closed (delimiterOf x) i x)
     ∙ from-broken (i + 1) i (linesAt s next))
 
 pub check-empty : (s : List ℕ) → NoLineFrom s 0 → BadLine 1 ≡ nestingIn s
@@ -229,7 +229,7 @@ module _ (s : List ℕ) {e next : ℕ} (h : LineFrom s 0 e next) {t : Bool} (b :
       ∙ ap (nestingFrom 1 start) (lines-next h)
       ∙ from-next 1 start x (linesAt s next)
       ∙ ap (λ (v : Walk). nestingFrom 2 v (linesAt s next))
-      (after-start (markOf x) 1 x ∙ ap (λ (j : Bool). cond j (inside (x .value ∷ []) 1) (broken 1)) (sym b ∙ f))
+      (after-start (delimiterOf x) 1 x ∙ ap (λ (j : Bool). cond j (inside (x .value ∷ []) 1) (broken 1)) (sym b ∙ f))
 
   pub check-other : t ≡ false → BadLine 1 ≡ nestingIn s
   check-other f = sym (first-line false f ∙ from-broken 2 1 (linesAt s next))

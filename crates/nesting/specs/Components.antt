@@ -3,9 +3,9 @@
 use Prim.Native.Nat.{ℕ, zero, suc}
 use mathlib.Core.List.{List, [], _∷_, _++_}
 use Rattle.line.specs.Grammar.{ContentLine, contentLine}
-use Rattle.marks.specs.Marks.{markOf}
-use Rattle.marks.specs.declared.Mark.{Mark}
-use Rattle.marks.specs.declared.Mark.the-variants.{Begins, Ends, Property, Wrong}
+use Rattle.delimiters.specs.Delimiters.{delimiterOf}
+use Rattle.delimiters.specs.declared.Delimiter.{Delimiter}
+use Rattle.delimiters.specs.declared.Delimiter.the-variants.{Begins, Ends, Property, Wrong}
 
 -- a content line and its number in the file, counted from 1
 pub record Numbered : Type 0 where
@@ -13,20 +13,20 @@ pub record Numbered : Type 0 where
   pub line : ContentLine
 
 -- a line as the tree takes it
-pub data Marked : Type 0 where
-  begins : Numbered → Marked
-  ends : Numbered → Marked
-  other : Numbered → Marked
+pub data Delimited : Type 0 where
+  begins : Numbered → Delimited
+  ends : Numbered → Delimited
+  other : Numbered → Delimited
 
-abbrev pub markedAs : Mark → Numbered → Marked
-markedAs Begins x = begins x
-markedAs Ends x = ends x
-markedAs Property x = other x
-markedAs Wrong x = other x
+abbrev pub delimitedAs : Delimiter → Numbered → Delimited
+delimitedAs Begins x = begins x
+delimitedAs Ends x = ends x
+delimitedAs Property x = other x
+delimitedAs Wrong x = other x
 
-unfoldable pub markedFrom : ℕ → List ContentLine → List Marked
-markedFrom i [] = []
-markedFrom i (x ∷ xs) = markedAs (markOf x) (record { number = i; line = x }) ∷ markedFrom (suc i) xs
+unfoldable pub delimitedFrom : ℕ → List ContentLine → List Delimited
+delimitedFrom i [] = []
+delimitedFrom i (x ∷ xs) = delimitedAs (delimiterOf x) (record { number = i; line = x }) ∷ delimitedFrom (suc i) xs
 
 -- items that stand side by side: properties, and components with their BEGIN line, the items in them and their END line
 pub data Items : Type 0 where
@@ -35,7 +35,7 @@ pub data Items : Type 0 where
   component : Numbered → Items → Numbered → Items → Items
 
 -- the END line of the component that is open d levels out; where there is none, an empty line numbered 0
-unfoldable pub endOf : ℕ → List Marked → Numbered
+unfoldable pub endOf : ℕ → List Delimited → Numbered
 endOf d [] = record { number = 0; line = contentLine [] [] [] }
 endOf d (begins x ∷ s) = endOf (suc d) s
 endOf zero (ends x ∷ s) = x
@@ -43,7 +43,7 @@ endOf (suc d) (ends x ∷ s) = endOf d s
 endOf d (other x ∷ s) = endOf d s
 
 -- the items that are left of the component that is open d levels out
-unfoldable pub itemsOf : ℕ → List Marked → Items
+unfoldable pub itemsOf : ℕ → List Delimited → Items
 itemsOf d [] = none
 itemsOf zero (begins x ∷ s) = component x (itemsOf 0 s) (endOf 0 s) (itemsOf 1 s)
 itemsOf (suc d) (begins x ∷ s) = itemsOf (suc (suc d)) s
@@ -54,7 +54,7 @@ itemsOf (suc d) (other x ∷ s) = itemsOf (suc d) s
 
 -- the tree of a file: what stands outside every component
 unfoldable pub treeOf : List ContentLine → Items
-treeOf xs = itemsOf 0 (markedFrom 1 xs)
+treeOf xs = itemsOf 0 (delimitedFrom 1 xs)
 
 -- one component, taken out of its items
 pub record Component : Type 0 where

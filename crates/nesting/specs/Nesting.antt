@@ -6,10 +6,10 @@ use mathlib.Core.List.{List, [], _∷_}
 use lib.ListN.{length}
 use Rattle.ascii.specs.Names.{sameName}
 use Rattle.line.specs.Grammar.{ContentLine}
-use Rattle.marks.specs.Marks.{markOf}
-use Rattle.marks.specs.Innermost.{isCalendar, mayBegin}
-use Rattle.marks.specs.declared.Mark.{Mark}
-use Rattle.marks.specs.declared.Mark.the-variants.{Begins, Ends, Property, Wrong}
+use Rattle.delimiters.specs.Delimiters.{delimiterOf}
+use Rattle.delimiters.specs.Innermost.{isCalendar, mayBegin}
+use Rattle.delimiters.specs.declared.Delimiter.{Delimiter}
+use Rattle.delimiters.specs.declared.Delimiter.the-variants.{Begins, Ends, Property, Wrong}
 use Rattle.nesting.specs.declared.Nesting.{Nesting}
 use Rattle.nesting.specs.declared.Nesting.the-variants.{Good, BadLine}
 
@@ -58,16 +58,16 @@ afterWrong i (inside o k) = broken i
 afterWrong i closed = broken i
 afterWrong i (broken j) = broken j
 
-abbrev pub afterMark : Mark → ℕ → ContentLine → Walk → Walk
-afterMark Begins i x w = afterBegin i (x .value) w
-afterMark Ends i x w = afterEnd i (x .value) w
-afterMark Property i x w = afterProperty i w
-afterMark Wrong i x w = afterWrong i w
+abbrev pub afterDelimiter : Delimiter → ℕ → ContentLine → Walk → Walk
+afterDelimiter Begins i x w = afterBegin i (x .value) w
+afterDelimiter Ends i x w = afterEnd i (x .value) w
+afterDelimiter Property i x w = afterProperty i w
+afterDelimiter Wrong i x w = afterWrong i w
 
 -- the lines from number i on
 unfoldable pub walk : ℕ → Walk → List ContentLine → Walk
 walk i w [] = w
-walk i w (x ∷ xs) = walk (suc i) (afterMark (markOf x) i x w) xs
+walk i w (x ∷ xs) = walk (suc i) (afterDelimiter (delimiterOf x) i x w) xs
 
 -- a file that just stops breaks at the line after its last
 unfoldable pub outcome : ℕ → Walk → Nesting

@@ -8,11 +8,11 @@ use Rattle.line.specs.Grammar.{ContentLine}
 use Rattle.line.specs.Reading.{lineOf}
 use Rattle.line.specs.WellFormed.{lineCheck, Checked}
 use Rattle.line.specs.declared.check.LineCheck.{LineCheck}
-use Rattle.marks.specs.Marks.{markOf}
-use Rattle.marks.specs.declared.Mark.{Mark}
-use Rattle.marks.specs.declared.Mark.the-variants.{Begins, Ends, Property, Wrong}
+use Rattle.delimiters.specs.Delimiters.{delimiterOf}
+use Rattle.delimiters.specs.declared.Delimiter.{Delimiter}
+use Rattle.delimiters.specs.declared.Delimiter.the-variants.{Begins, Ends, Property, Wrong}
 use Rattle.nesting.specs.Nesting.{Walk, inside, outside, walk, outcome, nestingOf}
-use Rattle.nesting.specs.Components.{Numbered, Marked, markedFrom, Items, none, property, component, endOf, itemsOf, treeOf}
+use Rattle.nesting.specs.Components.{Numbered, Delimited, delimitedFrom, Items, none, property, component, endOf, itemsOf, treeOf}
 use Rattle.nesting.specs.declared.Nesting.{Nesting}
 use Rattle.nesting.specs.declared.Nesting.the-variants.{BadLine}
 use Rattle.nesting.specs.declared.items.Item.{Item}
@@ -64,8 +64,8 @@ ReadsTo s name at number count left (Broken j a) = BreaksBefore s name at number
 ReadsTo s name at number count left (Bad j) = LineCheck.BadLine j ≡ lineCheck s
 
 -- the lines from a place on, as the tree takes them, the first of them number i
-unfoldable pub linesFrom : List ℕ → ℕ → ℕ → List Marked
-linesFrom s at i = markedFrom i (linesAt s at)
+unfoldable pub linesFrom : List ℕ → ℕ → ℕ → List Delimited
+linesFrom s at i = delimitedFrom i (linesAt s at)
 
 abbrev pub numbered : ℕ → ContentLine → Numbered
 numbered i x = record { number = i; line = x }
@@ -78,7 +78,7 @@ pub record PropertyAt (s : List ℕ) (at e next : ℕ) : Type 0 where
 -- the item at a place is a component, its BEGIN line ends at e, and the items in it begin at `next`
 pub record InnerAt (s : List ℕ) (at e next : ℕ) : Type 0 where
   pub line : LineFrom s at e next
-  pub begins : markOf (lineOf (part s at e)) ≡ Begins
+  pub begins : delimiterOf (lineOf (part s at e)) ≡ Begins
   pub items : (i : ℕ) → itemsOf 0 (linesFrom s at i)
       ≡ component (numbered i (lineOf (part s at e))) (itemsOf 0 (linesFrom s next (i + 1))) (endOf 0 (linesFrom s next (i + 1))) (itemsOf 1 (linesFrom s next (i + 1)))
 
@@ -93,7 +93,7 @@ ItemAt s at (Item.Inner e next) = InnerAt s at e next
 ItemAt s at Item.Done = NoItemAt s at
 
 -- how many components are open after a line of this mark
-unfoldable pub depthAfter : Mark → ℕ → ℕ
+unfoldable pub depthAfter : Delimiter → ℕ → ℕ
 depthAfter Begins n = n + 1
 depthAfter Ends n = n - 1
 depthAfter Property n = n

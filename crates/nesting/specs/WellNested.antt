@@ -6,9 +6,9 @@ use mathlib.Core.Bool.{true, false}
 use mathlib.Core.List.{List, [], _∷_}
 use Rattle.ascii.specs.Names.{sameName}
 use Rattle.line.specs.Grammar.{ContentLine}
-use Rattle.marks.specs.Marks.{markOf}
-use Rattle.marks.specs.Innermost.{isCalendar, isEvent, isFreeBusy}
-use Rattle.marks.specs.declared.Mark.the-variants.{Begins, Ends, Property}
+use Rattle.delimiters.specs.Delimiters.{delimiterOf}
+use Rattle.delimiters.specs.Innermost.{isCalendar, isEvent, isFreeBusy}
+use Rattle.delimiters.specs.declared.Delimiter.the-variants.{Begins, Ends, Property}
 use Rattle.nesting.specs.Components.{Numbered, Items, none, property, component}
 
 -- content lines with their numbers, the first of them number i
@@ -24,12 +24,12 @@ componentCount (component b k e i) = suc (componentCount k + componentCount i)
 
 -- b is a BEGIN line, e an END line, and the two name the same component
 pub record Encloses (b e : Numbered) : Type 0 where
-  pub begins : markOf (b .line) ≡ Begins
-  pub ends : markOf (e .line) ≡ Ends
+  pub begins : delimiterOf (b .line) ≡ Begins
+  pub ends : delimiterOf (e .line) ≡ Ends
   pub names : sameName (e .line .value) (b .line .value) ≡ true
 
 -- a component inside VCALENDAR may stand at depth d
-pub record StandsAt (d : ℕ) (b : Numbered) : Type 0 where
+pub record AllowedAt (d : ℕ) (b : Numbered) : Type 0 where
   pub no-calendar : isCalendar (b .line .value) ≡ false
   pub at-most-8 : d ≤ 8
   pub event-at-2 : isEvent (b .line .value) ≡ true → d ≡ 2
@@ -38,8 +38,8 @@ pub record StandsAt (d : ℕ) (b : Numbered) : Type 0 where
 -- items side by side, whose components are at depth d
 pub data NestedAt : ℕ → Items → Type 0 where
   nothing : {d : ℕ} → NestedAt d none
-  with-property : {d : ℕ} {x : Numbered} {i : Items} → markOf (x .line) ≡ Property → NestedAt d i → NestedAt d (property x i)
-  with-component : {d : ℕ} {b e : Numbered} {k i : Items} → Encloses b e → StandsAt d b → NestedAt (suc d) k → NestedAt d i
+  with-property : {d : ℕ} {x : Numbered} {i : Items} → delimiterOf (x .line) ≡ Property → NestedAt d i → NestedAt d (property x i)
+  with-component : {d : ℕ} {b e : Numbered} {k i : Items} → Encloses b e → AllowedAt d b → NestedAt (suc d) k → NestedAt d i
       → NestedAt d (component b k e i)
 
 -- one VCALENDAR with nothing beside it, at most 256 components in all

@@ -1,6 +1,6 @@
 // From item to item of a component, and past an inner component.
 // The items are those of the tree in specs/Components.
-use marks::Mark;
+use delimiters::Delimiter;
 use text::Span;
 ghost use mathlib.Core.Path.{_≡_};
 ghost use Prim.Native.Nat.{_+_, _≤_, _<_};
@@ -28,11 +28,11 @@ pub fn next_item(s: &[u8], at: usize) -> Item
 {
     match text::next_line(s, at) {
         Span::End => Item::Done,
-        Span::Line(e, next) => match marks::mark_of(&s[at..e]) {
-            Mark::Begins => Item::Inner(e, next),
-            Mark::Ends => Item::Done,
-            Mark::Property => Item::Property(e, next),
-            Mark::Wrong => Item::Property(e, next),
+        Span::Line(e, next) => match delimiters::delimiter_of(&s[at..e]) {
+            Delimiter::Begins => Item::Inner(e, next),
+            Delimiter::Ends => Item::Done,
+            Delimiter::Property => Item::Property(e, next),
+            Delimiter::Wrong => Item::Property(e, next),
         },
     }
 }
@@ -49,7 +49,7 @@ pub fn skip_component(s: &[u8], from: usize, first: usize) -> Place
         match text::next_line(s, at) {
             Span::End => return Place { at, number },
             Span::Line(e, next) => {
-                depth = depth_after(marks::mark_of(&s[at..e]), depth);
+                depth = depth_after(delimiters::delimiter_of(&s[at..e]), depth);
                 at = next;
                 number += 1;
             }
@@ -73,14 +73,14 @@ pub fn pass_end(s: &[u8], at: usize, number: usize) -> Place
 }
 
 // How many components are open after a line of this mark.
-fn depth_after(mark: Mark, depth: usize) -> usize
+fn depth_after(delimiter: Delimiter, depth: usize) -> usize
     requires { ⌜ (0 < depth) × (depth < 18446744073709551615) ⌝ }
-    ensures { λ r. ⌜ r ≡ depthAfter mark depth ⌝ }
+    ensures { λ r. ⌜ r ≡ depthAfter delimiter depth ⌝ }
 {
-    match mark {
-        Mark::Begins => depth + 1,
-        Mark::Ends => depth - 1,
-        Mark::Property => depth,
-        Mark::Wrong => depth,
+    match delimiter {
+        Delimiter::Begins => depth + 1,
+        Delimiter::Ends => depth - 1,
+        Delimiter::Property => depth,
+        Delimiter::Wrong => depth,
     }
 }

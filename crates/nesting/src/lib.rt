@@ -2,9 +2,9 @@
 // Each function equals one definition of specs/.
 pub mod items;
 
+use delimiters::NestingStep;
 use line::check::LineCheck;
 use line::check::Next;
-use marks::Met;
 ghost use mathlib.Core.Path.{_≡_};
 ghost use Prim.Native.Nat.{_≤_};
 ghost use Rattle.line.specs.WellFormed.{lineCheck, Checked};
@@ -55,8 +55,8 @@ fn component(s: &[u8], name: &[u8], from: usize, first: usize, begun: usize, lef
                 let next = e + 2;
                 let after = number + 1;
                 let more = count + 1;
-                match marks::meets(line, name, 10 - left, more) {
-                    Met::Opens => {
+                match delimiters::nesting_step(line, name, 10 - left, more) {
+                    NestingStep::Opens => {
                         match component(s, line::read::value(line), next, after, more, left - 1) {
                             Closed::At(a, i, c) => {
                                 at = a;
@@ -67,12 +67,12 @@ fn component(s: &[u8], name: &[u8], from: usize, first: usize, begun: usize, lef
                             Closed::Bad(j) => return Closed::Bad(j),
                         }
                     }
-                    Met::Stays => {
+                    NestingStep::Stays => {
                         at = next;
                         number = after;
                     }
-                    Met::Closes => return Closed::At(next, after, count),
-                    Met::Breaks => return Closed::Broken(number, at),
+                    NestingStep::Closes => return Closed::At(next, after, count),
+                    NestingStep::Breaks => return Closed::Broken(number, at),
                 }
             }
         }
@@ -112,7 +112,7 @@ pub fn check_structure(s: &[u8]) -> Structure
         Next::Bad => Structure::BadLine(1),
         Next::Line(e) => {
             let line = &s[from..e];
-            if !marks::begins_calendar(line) {
+            if !delimiters::begins_calendar(line) {
                 return broken_at(s, from, 1);
             }
             match component(s, line::read::value(line), e + 2, 2, 1, 8) {

@@ -1,4 +1,4 @@
-pub mod Adding
-pub mod Clipping
-pub mod Covering
-pub mod Events
+pub mod Columns
+pub mod Pieces
+pub mod Covered
+pub mod BusyPeriods

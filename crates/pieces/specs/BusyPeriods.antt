@@ -2,14 +2,14 @@
 use Prim.Native.Nat.{ℕ, zero, suc}
 use mathlib.Core.Bool.{true, false}
 use mathlib.Core.List.{List, [], _∷_, _++_}
-use Rattle.said.specs.declared.Busy.{Busy}
-use Rattle.table.specs.Runs.{period}
-use Rattle.rules.specs.Events.{Entry, event, block}
-use Rattle.rules.specs.BusyTypes.{BusyPeriod}
-use Rattle.rules.specs.declared.Event.{Event}
-use Rattle.busy.specs.Instances.{startOf, endOf, stands, instancesAtMost}
+use Rattle.periods.specs.declared.BusyType.{BusyType}
+use Rattle.periods.specs.Periods.{period}
+use Rattle.events.specs.Events.{Entry, event, block}
+use Rattle.periods.specs.BusyTypes.{BusyPeriod}
+use Rattle.events.specs.declared.Event.{Event}
+use Rattle.recurrence.specs.Instances.{startOf, endOf, occurs, instancesAtMost}
 
-abbrev pub busyPeriod : Busy → ℕ → ℕ → BusyPeriod
+abbrev pub busyPeriod : BusyType → ℕ → ℕ → BusyPeriod
 busyPeriod b s t = record { busy = b; period = period s t }
 
 -- the lists of 0, 1, .., n - 1 after each other
@@ -19,7 +19,7 @@ listBelow (suc n) f = listBelow n f ++ f n
 
 -- instance k, where it stands
 unfoldable pub instancePeriod : Event → ℕ → List BusyPeriod
-instancePeriod e k = elim (stands e k) [ true ↦ busyPeriod (e .busy) (startOf e k) (endOf e k) ∷ [] | false ↦ [] ]
+instancePeriod e k = elim (occurs e k) [ true ↦ busyPeriod (e .busy) (startOf e k) (endOf e k) ∷ [] | false ↦ [] ]
 
 unfoldable pub eventPeriods : Event → List BusyPeriod
 eventPeriods e = listBelow instancesAtMost (instancePeriod e)

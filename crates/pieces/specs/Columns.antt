@@ -4,7 +4,7 @@ use mathlib.Core.Path.{_≡_}
 use mathlib.Core.List.{List, [], _∷_}
 use lib.ListN.{length, take}
 use lib.Seq.{sets}
-use Rattle.rules.specs.BusyTypes.{reportPlace, BusyPeriod}
+use Rattle.periods.specs.BusyTypes.{reportPlace, BusyPeriod}
 
 -- start, end and the type's place in a report
 unfoldable pub flat : List BusyPeriod → List ℕ
@@ -12,10 +12,10 @@ flat [] = []
 flat (p ∷ ps) = p .period .start ∷ p .period .end ∷ reportPlace (p .busy) ∷ flat ps
 
 -- after n pieces, those that are still noted
-unfoldable pub noted : ℕ → List BusyPeriod → List BusyPeriod
-noted n ps = take (513 - n) ps
+unfoldable pub stored : ℕ → List BusyPeriod → List BusyPeriod
+stored n ps = take (513 - n) ps
 
 -- the pieces ps were noted behind n others in o, which left o′, and r is their number together
-pub record Noted (o : List ℕ) (n : ℕ) (ps : List BusyPeriod) (o′ : List ℕ) (r : ℕ) : Type 0 where
-  pub numbers : o′ ≡ sets o (3 * n) (flat (noted n ps))
-  pub count : r ≡ n + length (noted n ps)
+pub record Stored (o : List ℕ) (n : ℕ) (ps : List BusyPeriod) (o′ : List ℕ) (r : ℕ) : Type 0 where
+  pub numbers : o′ ≡ sets o (3 * n) (flat (stored n ps))
+  pub count : r ≡ n + length (stored n ps)

@@ -3,31 +3,31 @@ use Prim.Native.Nat.{ℕ, _≤_, _<_}
 use mathlib.Core.Path.{_≡_}
 use mathlib.Core.Bool.{Bool, true, false}
 use mathlib.Core.List.{List, [], _∷_, List·Memᴰ}
-use Rattle.values.specs.declared.period.Period.{Period}
-use Rattle.said.specs.declared.Busy.{Busy}
-use Rattle.table.specs.Runs.{covers}
-use Rattle.rules.specs.BusyTypes.{sameBusy, BusyPeriod}
-use Rattle.rules.specs.Events.{Entry, event, block}
-use Rattle.rules.specs.declared.Event.{Event}
-use Rattle.rules.specs.declared.Block.{Block}
-use Rattle.busy.specs.Instances.{startOf, endOf, stands}
+use Rattle.periods.specs.declared.Period.{Period}
+use Rattle.periods.specs.declared.BusyType.{BusyType}
+use Rattle.periods.specs.Periods.{covers}
+use Rattle.periods.specs.BusyTypes.{sameBusy, BusyPeriod}
+use Rattle.events.specs.Events.{Entry, event, block}
+use Rattle.events.specs.declared.Event.{Event}
+use Rattle.events.specs.declared.Block.{Block}
+use Rattle.recurrence.specs.Instances.{startOf, endOf, occurs}
 use Rattle.pieces.specs.BusyPeriods.{busyPeriods}
 
 -- the periods of one type
-unfoldable pub ofType : Busy → List BusyPeriod → List Period
+unfoldable pub ofType : BusyType → List BusyPeriod → List Period
 ofType b [] = []
 ofType b (p ∷ ps) = elim (sameBusy b (p .busy)) [ true ↦ p .period ∷ ofType b ps | false ↦ ofType b ps ]
 
 -- does a period of the type cover the second?
-unfoldable pub coveredBy : Busy → List BusyPeriod → ℕ → Bool
+unfoldable pub coveredBy : BusyType → List BusyPeriod → ℕ → Bool
 coveredBy b ps x = covers (ofType b ps) x
 
 -- is the second covered under the type?
-unfoldable pub covered : Busy → List Entry → ℕ → Bool
+unfoldable pub covered : BusyType → List Entry → ℕ → Bool
 covered b es x = coveredBy b (busyPeriods es) x
 
 -- the same for the reader: some instance that stands, or some FREEBUSY period, of that type covers the second
-pub data Covers (es : List Entry) (b : Busy) (x : ℕ) : Type 0 where
-  by-instance : (e : Event) → List·Memᴰ (event e) es → e .busy ≡ b → (k : ℕ) → stands e k ≡ true → startOf e k ≤ x → x < endOf e k → Covers es b x
+pub data Covers (es : List Entry) (b : BusyType) (x : ℕ) : Type 0 where
+  by-instance : (e : Event) → List·Memᴰ (event e) es → e .busy ≡ b → (k : ℕ) → occurs e k ≡ true → startOf e k ≤ x → x < endOf e k → Covers es b x
   by-period : (k : Block) (ps : List BusyPeriod) → List·Memᴰ (block k ps) es → (p : BusyPeriod) → List·Memᴰ p ps → p .busy ≡ b → p .period .start ≤ x
       → x < p .period .end → Covers es b x

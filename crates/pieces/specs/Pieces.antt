@@ -1,18 +1,17 @@
 -- Busy pieces (document 01, Busy type): the non-free ones that cover a second of the range, each clipped to it.
-use Prim.Native.Nat.{ℕ}
+use Prim.Native.Nat.{ℕ, min, max}
 use mathlib.Core.Bool.{Bool, true, false, _&&_}
 use mathlib.Core.List.{List, [], _∷_, _++_}
 use lib.Dec.{ltb}
-use Rattle.values.specs.declared.period.Period.{Period}
-use Rattle.rules.specs.BusyTypes.{isBusy, BusyPeriod}
-use Rattle.rules.specs.Events.{Entry}
-use Rattle.table.specs.Runs.{period}
-use Rattle.table.specs.Inserting.{lesser, greater}
+use Rattle.periods.specs.declared.Period.{Period}
+use Rattle.periods.specs.BusyTypes.{isBusy, BusyPeriod}
+use Rattle.events.specs.Events.{Entry}
+use Rattle.periods.specs.Periods.{period}
 use Rattle.pieces.specs.BusyPeriods.{busyPeriods}
 
 -- the part of a period in the range from a up to, but not including, b
 unfoldable pub clipped : ℕ → ℕ → Period → Period
-clipped a b p = period (greater a (p .start)) (lesser b (p .end))
+clipped a b p = period (max a (p .start)) (min b (p .end))
 
 -- it is busy time, and a second of it is in the range
 unfoldable pub isPiece : ℕ → ℕ → BusyPeriod → Bool

@@ -1,4 +1,4 @@
 pub mod Counting
-pub mod Places
-pub mod Reading
-pub mod Laying
+pub mod SectionsLaws
+pub mod Records
+pub mod LayoutLaws

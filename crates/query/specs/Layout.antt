@@ -22,10 +22,10 @@ pub record CountedAt (s : List ℕ) (place : ℕ) (least most : ℕ) (c : Sectio
 
 -- five sections in this order, each after a one-byte count, and all inside the bytes
 pub record Layout (s : List ℕ) (q : Sections) : Type 0 where
-  pub ranges-stand : CountedAt s 0 0 8 (q .ranges)
-  pub texts-stand : CountedAt s (q .ranges .at + q .ranges .count * 16) 0 32 (q .texts)
-  pub components-stand : CountedAt s (textPlace s (q .texts .count) (q .texts .at)) 1 16 (q .components)
-  pub properties-stand : CountedAt s (q .components .at + q .components .count * 4) 0 32 (q .properties)
-  pub parameters-stand : CountedAt s (q .properties .at + q .properties .count * 6) 0 32 (q .parameters)
+  pub ranges-laid : CountedAt s 0 0 8 (q .ranges)
+  pub texts-laid : CountedAt s (q .ranges .at + q .ranges .count * 16) 0 32 (q .texts)
+  pub components-laid : CountedAt s (textPlace s (q .texts .count) (q .texts .at)) 1 16 (q .components)
+  pub properties-laid : CountedAt s (q .components .at + q .components .count * 4) 0 32 (q .properties)
+  pub parameters-laid : CountedAt s (q .properties .at + q .properties .count * 6) 0 32 (q .parameters)
   pub ends : q .end ≡ q .parameters .at + q .parameters .count * 5
   pub inside : q .end ≤ length s

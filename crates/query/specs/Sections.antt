@@ -17,16 +17,16 @@ unfoldable pub countFits : List ℕ → ℕ → ℕ → ℕ → Bool
 countFits s at least most = ltb at (length s) && leb least (byteAt s at) && leb (byteAt s at) most
 
 -- the place, where the bytes reach so far
-unfoldable pub within : List ℕ → ℕ → PlaceRead
-within s p = cond (leb p (length s)) (PlaceRead.At p) PlaceRead.Bad
+unfoldable pub placeWithin : List ℕ → ℕ → PlaceRead
+placeWithin s p = cond (leb p (length s)) (PlaceRead.At p) PlaceRead.Bad
 
 -- a section of records of one width: the place behind it
 unfoldable pub behindRecords : List ℕ → ℕ → ℕ → ℕ → ℕ → PlaceRead
-behindRecords s at least most width = cond (countFits s at least most) (within s (at + 1 + byteAt s at * width)) PlaceRead.Bad
+behindRecords s at least most width = cond (countFits s at least most) (placeWithin s (at + 1 + byteAt s at * width)) PlaceRead.Bad
 
 -- one text: a length byte, then as many bytes
 unfoldable pub behindText : List ℕ → ℕ → PlaceRead
-behindText s at = cond (ltb at (length s)) (within s (at + 1 + byteAt s at)) PlaceRead.Bad
+behindText s at = cond (ltb at (length s)) (placeWithin s (at + 1 + byteAt s at)) PlaceRead.Bad
 
 abbrev pub andThen : PlaceRead → (ℕ → PlaceRead) → PlaceRead
 andThen (PlaceRead.At p) f = f p

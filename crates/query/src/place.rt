@@ -8,7 +8,7 @@ ghost use mathlib.Core.Path.{_≡_};
 ghost use Prim.Native.Nat.{_+_, _≤_, _<_};
 ghost use lib.ListN.{length};
 ghost use Rattle.query.specs.Fits.{ByteOf};
-ghost use Rattle.query.specs.Sections.{countFits, within, behindRecords, behindText, behindTexts, behindTextSection};
+ghost use Rattle.query.specs.Sections.{countFits, placeWithin, behindRecords, behindText, behindTexts, behindTextSection};
 ghost use Rattle.query.specs.Sections.{sectionAt, sectionsOf};
 
 // The byte at a place; 0 past the end.
@@ -27,9 +27,9 @@ fn count_fits(s: &[u8], at: usize, least: usize, most: usize) -> bool
 }
 
 // The place n bytes on, where the bytes reach so far.
-fn within(s: &[u8], at: usize, n: usize) -> PlaceRead
+fn place_within(s: &[u8], at: usize, n: usize) -> PlaceRead
     requires { ⌜ at ≤ length (now s) ⌝ }
-    ensures { λ r. ⌜ r ≡ within (now (s .entry)) (at + n) ⌝ }
+    ensures { λ r. ⌜ r ≡ placeWithin (now (s .entry)) (at + n) ⌝ }
 {
     if n <= s.len() - at {
         PlaceRead::At(at + n)
@@ -44,7 +44,7 @@ fn behind_records(s: &[u8], at: usize, least: usize, most: usize, width: usize) 
     ensures { λ r. ⌜ r ≡ behindRecords (now (s .entry)) at least most width ⌝ }
 {
     if count_fits(s, at, least, most) {
-        within(s, at + 1, byte_at(s, at) * width)
+        place_within(s, at + 1, byte_at(s, at) * width)
     } else {
         PlaceRead::Bad
     }
@@ -55,7 +55,7 @@ fn behind_text(s: &[u8], at: usize) -> PlaceRead
     ensures { λ r. ⌜ r ≡ behindText (now (s .entry)) at ⌝ }
 {
     if at < s.len() {
-        within(s, at + 1, byte_at(s, at))
+        place_within(s, at + 1, byte_at(s, at))
     } else {
         PlaceRead::Bad
     }

@@ -1,6 +1,6 @@
 pub mod Lines
 pub mod Nested
 pub mod Values
-pub mod Meaning
+pub mod Reading
 pub mod Sizes
-pub mod Types
+pub mod BusyTypes

@@ -15,7 +15,7 @@ use Rattle.ascii.proofs.Lists.{every-append}
 use Rattle.text.specs.Unfolding.{unfolded}
 use Rattle.text.specs.Lines.{joined}
 use Rattle.time.specs.Writing.{utcText, isUtcByte}
-use Rattle.time.proofs.Written.{utcText-length, utcText-bytes}
+use Rattle.time.proofs.WritingLaws.{utcText-length, utcText-bytes}
 use Rattle.line.specs.Grammar.{ContentLine, parameter, contentLine, isQuotable, isUnquoted, isValueByte}
 use Rattle.line.specs.WellFormed.{lineCheck}
 use Rattle.line.specs.Rendering.{renderedValue, renderedValues, renderedParameters, rendered, canRender, canRenderAll, Renderable, AllRenderable, no-line, one-more}
@@ -23,21 +23,21 @@ use Rattle.line.specs.File.{ReadBack}
 use Rattle.line.specs.declared.check.LineCheck.{LineCheck}
 use Rattle.line.proofs.Rendering.{renderable-append}
 use Rattle.line.proofs.File.{rendered-back}
-use Rattle.values.specs.declared.period.Period.{Period}
-use Rattle.said.specs.declared.Busy.{Busy}
+use Rattle.periods.specs.declared.Period.{Period}
+use Rattle.periods.specs.declared.BusyType.{BusyType}
 use Rattle.report.specs.Bytes.{Report, periodHead, periodText, periodLines, busyLines, reportLines, reportBytes}
-use Rattle.rules.specs.BusyTypes.{BusyPeriod, typed}
+use Rattle.periods.specs.BusyTypes.{BusyPeriod, typed}
 use Rattle.calendar.specs.Meaning.{fileLines}
 use Rattle.readback.specs.Reading.{reportPeriods}
 
 -- ---- the report as content lines
 
 -- the word of FBTYPE for a type
-unfoldable pub typeWord : Busy → List ℕ
-typeWord Busy.Busy = ascii "BUSY"
-typeWord Busy.Tentative = ascii "BUSY-TENTATIVE"
-typeWord Busy.Unavailable = ascii "BUSY-UNAVAILABLE"
-typeWord Busy.Free = ascii "FREE"
+unfoldable pub typeWord : BusyType → List ℕ
+typeWord BusyType.Busy = ascii "BUSY"
+typeWord BusyType.Tentative = ascii "BUSY-TENTATIVE"
+typeWord BusyType.Unavailable = ascii "BUSY-UNAVAILABLE"
+typeWord BusyType.Free = ascii "FREE"
 
 -- a line without parameters
 abbrev pub plainLine : List ℕ → List ℕ → ContentLine
@@ -78,18 +78,18 @@ reportContent r = calendarBegin ∷ versionLine ∷ productLine ∷ blockBegin �
 
 -- ---- the lines are these, rendered
 
-period-rendered : (b : Busy) (p : Period) → periodHead b ++ periodText p ≡ rendered (periodLine (record { busy = b; period = p }))
+period-rendered : (b : BusyType) (p : Period) → periodHead b ++ periodText p ≡ rendered (periodLine (record { busy = b; period = p }))
 unfolding periodHead periodLine typeWord rendered renderedParameters renderedValues renderedValue isUnquoted isControl
-period-rendered Busy.Busy p = refl
-period-rendered Busy.Tentative p = refl
-period-rendered Busy.Unavailable p = refl
-period-rendered Busy.Free p = refl
+period-rendered BusyType.Busy p = refl
+period-rendered BusyType.Tentative p = refl
+period-rendered BusyType.Unavailable p = refl
+period-rendered BusyType.Free p = refl
 
 map-append : {A B : Type 0} (f : A → B) (xs ys : List A) → map f (xs ++ ys) ≡ map f xs ++ map f ys
 map-append f [] ys = refl
 map-append {A} {B} f (x ∷ xs) ys = ap (λ (l : List B). f x ∷ l) (map-append f xs ys)
 
-type-rendered : (b : Busy) (ps : List Period) → periodLines (periodHead b) ps ≡ map rendered (map periodLine (typed b ps))
+type-rendered : (b : BusyType) (ps : List Period) → periodLines (periodHead b) ps ≡ map rendered (map periodLine (typed b ps))
 unfolding periodLines
 type-rendered b [] = refl
 type-rendered b (p ∷ ps) =
@@ -103,10 +103,10 @@ twice-append xs ys = ap (map rendered) (map-append periodLine xs ys) ∙ map-app
 busy-rendered : (r : Report) → busyLines (r .periods) ≡ map rendered (map periodLine (reportPeriods r))
 unfolding busyLines reportPeriods
 busy-rendered r =
-    let f : Busy → List BusyPeriod = λ b. typed b (r .periods b) in
-    rw (type-rendered Busy.Busy (r .periods Busy.Busy), type-rendered Busy.Tentative (r .periods Busy.Tentative), type-rendered Busy.Unavailable (r .periods Busy.Unavailable))
-    (sym (twice-append (f Busy.Busy) (f Busy.Tentative ++ f Busy.Unavailable)
-    ∙ ap (λ (ls : List (List ℕ)). map rendered (map periodLine (f Busy.Busy)) ++ ls) (twice-append (f Busy.Tentative) (f Busy.Unavailable))))
+    let f : BusyType → List BusyPeriod = λ b. typed b (r .periods b) in
+    rw (type-rendered BusyType.Busy (r .periods BusyType.Busy), type-rendered BusyType.Tentative (r .periods BusyType.Tentative), type-rendered BusyType.Unavailable (r .periods BusyType.Unavailable))
+    (sym (twice-append (f BusyType.Busy) (f BusyType.Tentative ++ f BusyType.Unavailable)
+    ∙ ap (λ (ls : List (List ℕ)). map rendered (map periodLine (f BusyType.Busy)) ++ ls) (twice-append (f BusyType.Tentative) (f BusyType.Unavailable))))
 
 pub lines-rendered : (r : Report) → reportLines r ≡ map rendered (reportContent r)
 unfolding reportLines reportContent blockContent rendered renderedParameters
@@ -146,19 +146,19 @@ period-length : (p : Period) → length (periodText p) ≡ 33
 unfolding periodText
 period-length p = rw length-append (omega (arith, utcText-length (p .start), utcText-length (p .end)))
 
-type-named : (b : Busy) → canRenderAll (parameter (ascii "FBTYPE") (typeWord b ∷ []) ∷ []) ≡ true
+type-named : (b : BusyType) → canRenderAll (parameter (ascii "FBTYPE") (typeWord b ∷ []) ∷ []) ≡ true
 unfolding canRenderAll canRender isName isNameByte isLetter isDigit isQuotable isControl typeWord
-type-named Busy.Busy = refl
-type-named Busy.Tentative = refl
-type-named Busy.Unavailable = refl
-type-named Busy.Free = refl
+type-named BusyType.Busy = refl
+type-named BusyType.Tentative = refl
+type-named BusyType.Unavailable = refl
+type-named BusyType.Free = refl
 
-head-short : (b : Busy) → length (periodHead b) ≤ 33
+head-short : (b : BusyType) → length (periodHead b) ≤ 33
 unfolding periodHead
-head-short Busy.Busy = omega arith
-head-short Busy.Tentative = omega arith
-head-short Busy.Unavailable = omega arith
-head-short Busy.Free = omega arith
+head-short BusyType.Busy = omega arith
+head-short BusyType.Tentative = omega arith
+head-short BusyType.Unavailable = omega arith
+head-short BusyType.Free = omega arith
 
 period-fits : (t : BusyPeriod) → length (rendered (periodLine t)) ≤ 1024
 period-fits t =

@@ -7,16 +7,16 @@ use lib.ListN.{length}
 use Rattle.ascii.specs.Bytes.{upper, isLetter, isDigit, isNameByte}
 use Rattle.ascii.specs.Names.{sameName, isName}
 use Rattle.line.specs.Grammar.{ContentLine}
-use Rattle.marks.specs.Marks.{markOf}
-use Rattle.marks.specs.Innermost.{isCalendar}
-use Rattle.marks.specs.declared.Mark.the-variants.{Property}
+use Rattle.delimiters.specs.Delimiters.{delimiterOf}
+use Rattle.delimiters.specs.Innermost.{isCalendar}
+use Rattle.delimiters.specs.declared.Delimiter.the-variants.{Property}
 use Rattle.nesting.specs.Nesting.{nestingOf}
 use Rattle.nesting.specs.Components.{Numbered, Items, none, property, component, Component, treeOf, componentsIn, propertiesIn, itemsBelow, renderedItems}
 use Rattle.nesting.specs.Passing.{numbered}
-use Rattle.nesting.specs.WellNested.{numberedFrom, componentCount, StandsAt, NestedAt, nothing, with-property, with-component, WellNested, calendar}
+use Rattle.nesting.specs.WellNested.{numberedFrom, componentCount, AllowedAt, NestedAt, nothing, with-property, with-component, WellNested, calendar}
 use Rattle.nesting.specs.declared.Nesting.{Nesting}
-use Rattle.nesting.proofs.Trees.{tree-good, tree-same}
-use Rattle.rules.specs.BusyTypes.{BusyPeriod}
+use Rattle.nesting.proofs.WellNested.{tree-good, tree-same}
+use Rattle.periods.specs.BusyTypes.{BusyPeriod}
 use Rattle.calendar.specs.Meaning.{fileLines, componentsOf}
 use Rattle.report.specs.Bytes.{Report, reportBytes}
 use Rattle.readback.specs.Reading.{reportPeriods}
@@ -31,7 +31,7 @@ flat i (x ∷ xs) = property (numbered i x) (flat (suc i) xs)
 
 data AllProperties : List ContentLine → Type 0 where
   no-more : AllProperties []
-  and-then : {x : ContentLine} {xs : List ContentLine} → markOf x ≡ Property → AllProperties xs → AllProperties (x ∷ xs)
+  and-then : {x : ContentLine} {xs : List ContentLine} → delimiterOf x ≡ Property → AllProperties xs → AllProperties (x ∷ xs)
 
 flat-rendered : (i : ℕ) (xs : List ContentLine) → renderedItems (flat i xs) ≡ numberedFrom i xs
 unfolding flat renderedItems numberedFrom
@@ -102,31 +102,31 @@ tree-lines r =
 -- ---- it is well nested
 
 periods-properties : (ts : List BusyPeriod) → AllProperties (map periodLine ts)
-unfolding periodLine markOf sameName upper
+unfolding periodLine delimiterOf sameName upper
 periods-properties [] = no-more
 periods-properties (t ∷ ts) = and-then refl (periods-properties ts)
 
 block-properties : (r : Report) → AllProperties (blockContent r)
-unfolding blockContent markOf sameName upper
+unfolding blockContent delimiterOf sameName upper
 block-properties r = and-then refl (and-then refl (and-then refl (periods-properties (reportPeriods r))))
 
-block-stands : (r : Report) → StandsAt 2 (blockComponent r .begin)
+block-allowed : (r : Report) → AllowedAt 2 (blockComponent r .begin)
 unfolding blockComponent isCalendar sameName upper
-block-stands r = record { no-calendar = refl; at-most-8 = omega arith; event-at-2 = λ e. refl; free-busy-at-2 = λ e. refl }
+block-allowed r = record { no-calendar = refl; at-most-8 = omega arith; event-at-2 = λ e. refl; free-busy-at-2 = λ e. refl }
 
 items-nested : (r : Report) → NestedAt 2 (reportItems r)
-unfolding reportItems blockComponent markOf isName isNameByte isLetter isDigit sameName upper
+unfolding reportItems blockComponent delimiterOf isName isNameByte isLetter isDigit sameName upper
 items-nested r =
     with-property refl
     (with-property refl
-    (with-component (record { begins = refl; ends = refl; names = refl }) (block-stands r) (flat-nested 3 5 (block-properties r)) nothing))
+    (with-component (record { begins = refl; ends = refl; names = refl }) (block-allowed r) (flat-nested 3 5 (block-properties r)) nothing))
 
 items-few : (r : Report) → 1 + componentCount (reportItems r) ≤ 256
 unfolding reportItems blockComponent componentCount
 items-few r = omega (arith, flat-count 5 (blockContent r))
 
 tree-nested : (r : Report) → WellNested (reportTree r)
-unfolding reportTree isCalendar markOf isName isNameByte isLetter isDigit sameName upper
+unfolding reportTree isCalendar delimiterOf isName isNameByte isLetter isDigit sameName upper
 tree-nested r = calendar (record { begins = refl; ends = refl; names = refl }) refl (items-nested r) (items-few r)
 
 -- ---- so the nesting is good, and right below VCALENDAR stands the block alone

@@ -3,7 +3,7 @@ use Prim.Native.Nat.{_≤_}
 use native.Mathlib.Omega.{arith}
 use lib.ListN.{length}
 use Rattle.report.specs.Bytes.{Report, reportBytes, periodCount, reportLength}
-use Rattle.report.proofs.Lengths.{report-length}
+use Rattle.report.proofs.Bytes.{report-length}
 
 pub report-short : (r : Report) → periodCount r ≤ 512 → length (reportBytes r) ≤ 35006
 unfolding periodCount reportLength

@@ -1,3 +1,3 @@
 pub mod Offsets
-pub mod Tables
-pub mod Passing
+pub mod Refusals
+pub mod Stages

@@ -7,11 +7,11 @@ use Rattle.ascii.specs.Words.{ascii}
 use Rattle.text.specs.Lines.{joined}
 use Rattle.time.specs.Days.{isLeap, monthLengths, lengthIn, beforeIn, daysBeforeMonth, yearDays, daysBeforeYear}
 use Rattle.time.specs.Writing.{yearOf, dayOfYear, begun, monthIn, dayOf, digit, dateText, timeText, utcText}
-use Rattle.values.specs.declared.period.Period.{Period}
-use Rattle.said.specs.declared.Busy.{Busy}
-use Rattle.table.specs.Runs.{period}
+use Rattle.periods.specs.declared.Period.{Period}
+use Rattle.periods.specs.declared.BusyType.{BusyType}
+use Rattle.periods.specs.Periods.{period}
 use Rattle.report.specs.Bytes.{Report, periodHead, periodText, periodLines, busyLines, reportLines, reportBytes, reportLength}
-use Rattle.report.proofs.Lengths.{report-length}
+use Rattle.report.proofs.Bytes.{report-length}
 
 -- no busy time: 190 bytes
 pub empty-length : (a b s : ℕ) → length (reportBytes (record { start = a; end = b; stamp = s; periods = λ t. [] })) ≡ 190
@@ -19,11 +19,11 @@ unfolding reportLength
 empty-length a b s = report-length (record { start = a; end = b; stamp = s; periods = λ t. [] })
 
 -- 11 March 2024, 08:00 to 18:00: busy up to 09:15, and tentatively from 09:00 to 10:30
-unfoldable pub examplePeriods : Busy → List Period
-examplePeriods Busy.Busy = period 1710144000 1710148500 ∷ []
-examplePeriods Busy.Tentative = period 1710147600 1710153000 ∷ []
-examplePeriods Busy.Unavailable = []
-examplePeriods Busy.Free = []
+unfoldable pub examplePeriods : BusyType → List Period
+examplePeriods BusyType.Busy = period 1710144000 1710148500 ∷ []
+examplePeriods BusyType.Tentative = period 1710147600 1710153000 ∷ []
+examplePeriods BusyType.Unavailable = []
+examplePeriods BusyType.Free = []
 
 unfoldable pub exampleReport : Report
 exampleReport = record { start = 1710144000; end = 1710180000; stamp = 1710050400; periods = examplePeriods }

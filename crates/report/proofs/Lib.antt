@@ -1,4 +1,4 @@
-pub mod Standing
-pub mod Composing
-pub mod Lengths
+pub mod HeadsLaws
+pub mod Writing
+pub mod Bytes
 pub mod Examples

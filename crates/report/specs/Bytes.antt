@@ -5,22 +5,22 @@ use lib.ListN.{length}
 use Rattle.ascii.specs.Words.{ascii}
 use Rattle.text.specs.Lines.{joined}
 use Rattle.time.specs.Writing.{utcText}
-use Rattle.values.specs.declared.period.Period.{Period}
-use Rattle.said.specs.declared.Busy.{Busy}
+use Rattle.periods.specs.declared.Period.{Period}
+use Rattle.periods.specs.declared.BusyType.{BusyType}
 
 -- what a report says: its range, its stamp, and the periods of each busy type
 pub record Report : Type 0 where
   pub start : ℕ
   pub end : ℕ
   pub stamp : ℕ
-  pub periods : Busy → List Period
+  pub periods : BusyType → List Period
 
 -- how the line of a period begins: the type is always written; free time has no line in a report
-unfoldable pub periodHead : Busy → List ℕ
-periodHead Busy.Busy = ascii "FREEBUSY;FBTYPE=BUSY:"
-periodHead Busy.Tentative = ascii "FREEBUSY;FBTYPE=BUSY-TENTATIVE:"
-periodHead Busy.Unavailable = ascii "FREEBUSY;FBTYPE=BUSY-UNAVAILABLE:"
-periodHead Busy.Free = ascii "FREEBUSY;FBTYPE=FREE:"
+unfoldable pub periodHead : BusyType → List ℕ
+periodHead BusyType.Busy = ascii "FREEBUSY;FBTYPE=BUSY:"
+periodHead BusyType.Tentative = ascii "FREEBUSY;FBTYPE=BUSY-TENTATIVE:"
+periodHead BusyType.Unavailable = ascii "FREEBUSY;FBTYPE=BUSY-UNAVAILABLE:"
+periodHead BusyType.Free = ascii "FREEBUSY;FBTYPE=FREE:"
 
 -- always start/end
 unfoldable pub periodText : Period → List ℕ
@@ -32,10 +32,10 @@ periodLines h [] = []
 periodLines h (p ∷ ps) = (h ++ periodText p) ∷ periodLines h ps
 
 -- the types in their order
-unfoldable pub busyLines : (Busy → List Period) → List (List ℕ)
+unfoldable pub busyLines : (BusyType → List Period) → List (List ℕ)
 busyLines f =
-    periodLines (periodHead Busy.Busy) (f Busy.Busy)
-    ++ (periodLines (periodHead Busy.Tentative) (f Busy.Tentative) ++ periodLines (periodHead Busy.Unavailable) (f Busy.Unavailable))
+    periodLines (periodHead BusyType.Busy) (f BusyType.Busy)
+    ++ (periodLines (periodHead BusyType.Tentative) (f BusyType.Tentative) ++ periodLines (periodHead BusyType.Unavailable) (f BusyType.Unavailable))
 
 unfoldable pub reportLines : Report → List (List ℕ)
 reportLines r =
@@ -62,11 +62,11 @@ pub record Writable (r : Report) : Type 0 where
   pub start-first : r .start < r .end
   pub end-limit : r .end ≤ 4102444799
   pub stamp-limit : r .stamp ≤ 4102444799
-  pub periods-good : (b : Busy) → GoodPeriods (r .periods b)
+  pub periods-good : (b : BusyType) → GoodPeriods (r .periods b)
 
 -- how many periods it has
 unfoldable pub periodCount : Report → ℕ
-periodCount r = length (r .periods Busy.Busy) + length (r .periods Busy.Tentative) + length (r .periods Busy.Unavailable)
+periodCount r = length (r .periods BusyType.Busy) + length (r .periods BusyType.Tentative) + length (r .periods BusyType.Unavailable)
 
 -- the length of its bytes, by the number of periods of each type
 unfoldable pub reportLength : ℕ → ℕ → ℕ → ℕ

@@ -15,8 +15,8 @@ begins [] (b ∷ h) = false
 begins (a ∷ s) (b ∷ h) = eqb a b && begins s h
 
 -- the fixed string stands at a place of the bytes
-unfoldable pub standsAt : List ℕ → List ℕ → ℕ → Bool
-standsAt s h at = begins (drop at s) h
+unfoldable pub hasBytesAt : List ℕ → List ℕ → ℕ → Bool
+hasBytesAt s h at = begins (drop at s) h
 
 -- what stands before the stamp, before the start of the range and before its end
 unfoldable pub stampHead : List ℕ
@@ -44,8 +44,8 @@ opening a b stamp = timed stampHead stamp ++ (timed startHead a ++ (timed endHea
 
 -- the heads stand where a report has them, sixteen bytes of time between two
 unfoldable pub opensReport : List ℕ → Bool
-opensReport s = standsAt s stampHead 0 && standsAt s startHead 108 && standsAt s endHead 134
+opensReport s = hasBytesAt s stampHead 0 && hasBytesAt s startHead 108 && hasBytesAt s endHead 134
 
 -- the last thirty bytes are the last two lines
 unfoldable pub closesReport : List ℕ → Bool
-closesReport s = standsAt s closing (length s - 30)
+closesReport s = hasBytesAt s closing (length s - 30)

@@ -4,18 +4,18 @@ use mathlib.Core.Path.{_≡_}
 use mathlib.Core.List.{List, []}
 use lib.ListN.{length}
 use lib.Seq.{sets}
-use Rattle.values.specs.declared.period.Period.{Period}
-use Rattle.said.specs.declared.Busy.{Busy}
+use Rattle.periods.specs.declared.Period.{Period}
+use Rattle.periods.specs.declared.BusyType.{BusyType}
 use Rattle.table.specs.Tables.{listed}
 use Rattle.table.specs.declared.Table.{Table}
 use Rattle.report.specs.Bytes.{Report}
 
 -- the periods of a busy type, from its table
-unfoldable pub byType : Table → Table → Table → Busy → List Period
-byType x y z Busy.Busy = listed x
-byType x y z Busy.Tentative = listed y
-byType x y z Busy.Unavailable = listed z
-byType x y z Busy.Free = []
+unfoldable pub byType : Table → Table → Table → BusyType → List Period
+byType x y z BusyType.Busy = listed x
+byType x y z BusyType.Tentative = listed y
+byType x y z BusyType.Unavailable = listed z
+byType x y z BusyType.Free = []
 
 unfoldable pub reportOf : ℕ → ℕ → ℕ → Table → Table → Table → Report
 reportOf a b stamp x y z = record { start = a; end = b; stamp = stamp; periods = byType x y z }

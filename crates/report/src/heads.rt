@@ -1,9 +1,9 @@
 // The fixed byte strings of a report: written by lines, compared here with the bytes at a place.
 // Each string stands once, for the writer and for the reader.
-use said::Busy;
+use periods::BusyType;
 ghost use mathlib.Core.Path.{_≡_};
 ghost use Rattle.report.specs.Bytes.{periodHead};
-ghost use Rattle.report.specs.Heads.{begins, standsAt, opensReport, closesReport};
+ghost use Rattle.report.specs.Heads.{begins, hasBytesAt, opensReport, closesReport};
 
 // What stands before the stamp, before the start of the range and before its end.
 pub const STAMP_HEAD: [u8; 92] =
@@ -44,8 +44,8 @@ fn begins_with(s: &[u8], head: &[u8]) -> bool
 }
 
 // Does the fixed string stand at this place? No where it does not fit.
-pub fn stands_at(s: &[u8], at: usize, head: &[u8]) -> bool
-    ensures { λ r. ⌜ r ≡ standsAt (now (s .entry)) (now (head .entry)) at ⌝ }
+pub fn has_bytes_at(s: &[u8], at: usize, head: &[u8]) -> bool
+    ensures { λ r. ⌜ r ≡ hasBytesAt (now (s .entry)) (now (head .entry)) at ⌝ }
 {
     if s.len() < at {
         return head.len() == 0;
@@ -54,14 +54,14 @@ pub fn stands_at(s: &[u8], at: usize, head: &[u8]) -> bool
 }
 
 // Does the line of a period of this type begin at this place?
-pub fn period_at(s: &[u8], at: usize, kind: Busy) -> bool
-    ensures { λ r. ⌜ r ≡ standsAt (now (s .entry)) (periodHead kind) at ⌝ }
+pub fn period_at(s: &[u8], at: usize, kind: BusyType) -> bool
+    ensures { λ r. ⌜ r ≡ hasBytesAt (now (s .entry)) (periodHead kind) at ⌝ }
 {
     match kind {
-        Busy::Busy => stands_at(s, at, &BUSY_HEAD),
-        Busy::Tentative => stands_at(s, at, &TENTATIVE_HEAD),
-        Busy::Unavailable => stands_at(s, at, &UNAVAILABLE_HEAD),
-        Busy::Free => stands_at(s, at, &FREE_HEAD),
+        BusyType::Busy => has_bytes_at(s, at, &BUSY_HEAD),
+        BusyType::Tentative => has_bytes_at(s, at, &TENTATIVE_HEAD),
+        BusyType::Unavailable => has_bytes_at(s, at, &UNAVAILABLE_HEAD),
+        BusyType::Free => has_bytes_at(s, at, &FREE_HEAD),
     }
 }
 
@@ -69,7 +69,9 @@ pub fn period_at(s: &[u8], at: usize, kind: Busy) -> bool
 pub fn opens_report(s: &[u8]) -> bool
     ensures { λ r. ⌜ r ≡ opensReport (now (s .entry)) ⌝ }
 {
-    stands_at(s, 0, &STAMP_HEAD) & stands_at(s, 108, &START_HEAD) & stands_at(s, 134, &END_HEAD)
+    has_bytes_at(s, 0, &STAMP_HEAD)
+        & has_bytes_at(s, 108, &START_HEAD)
+        & has_bytes_at(s, 134, &END_HEAD)
 }
 
 // Are the last bytes those that end a report?
@@ -79,5 +81,5 @@ pub fn closes_report(s: &[u8]) -> bool
     if s.len() < 30 {
         return false;
     }
-    stands_at(s, s.len() - 30, &CLOSING)
+    has_bytes_at(s, s.len() - 30, &CLOSING)
 }

@@ -9,7 +9,7 @@ ghost use Prim.Native.Nat.{_+_, _≤_};
 ghost use lib.ListN.{length, take};
 ghost use Rattle.text.specs.Lines.{joined};
 ghost use Rattle.time.specs.Limits.{lastSecond};
-ghost use Rattle.table.specs.Runs.{period};
+ghost use Rattle.periods.specs.Periods.{period};
 ghost use Rattle.table.specs.Tables.{rows, listed};
 ghost use Rattle.report.specs.Bytes.{periodLines, busyLines, reportBytes, reportLength, GoodPeriods, Writable};
 ghost use Rattle.report.specs.Heads.{timed, opening};

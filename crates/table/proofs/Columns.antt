@@ -1,5 +1,5 @@
 -- Two columns as a list of periods: rows under take, drop and append, and what the search and the taking in of rows come to.
-use Prim.Native.Nat.{ℕ, zero, suc, _+_, _-_, _≤_, _<_}
+use Prim.Native.Nat.{ℕ, zero, suc, _+_, _-_, _≤_, _<_, min, max}
 use mathlib.Core.Path.{_≡_, refl, sym, ap, _∙_}
 use mathlib.Core.Bool.{Bool, true, false}
 use mathlib.Core.List.{List, [], _∷_, _++_}
@@ -10,9 +10,9 @@ use lib.Dec.{ltb}
 use lib.ListN.{length, take, drop, getD, length-take, drop-of-length-le}
 use lib.Seq.{drop-cons, getD-take, take-take, length-take-le}
 use borrow.Author.Tests.{lt-ltb, le-ltb, le-leb, lt-leb}
-use Rattle.values.specs.declared.period.Period.{Period}
-use Rattle.table.specs.Runs.{period}
-use Rattle.table.specs.Inserting.{lesser, greater, absorbed, inserted}
+use Rattle.periods.specs.declared.Period.{Period}
+use Rattle.periods.specs.Periods.{period}
+use Rattle.table.specs.Inserting.{absorbed, inserted}
 use Rattle.table.specs.declared.Widened.{Widened}
 use Rattle.table.specs.Tables.{rows}
 use Rattle.table.specs.Columns.{endsBefore, TookIn, Spliced}
@@ -80,8 +80,8 @@ ends-fit a (e ∷ es) = go (ltb e a) (ends-fit a es)
     go true h = omega arith
     go false h = omega arith
 
-pub ends-within : (a n : ℕ) (es : List ℕ) → endsBefore a (take n es) ≤ n
-ends-within a n es = omega (arith, ends-fit a (take n es), length-take n es)
+pub ends-secondIn : (a n : ℕ) (es : List ℕ) → endsBefore a (take n es) ≤ n
+ends-secondIn a n es = omega (arith, ends-fit a (take n es), length-take n es)
 
 ends-before : (a e : ℕ) (es : List ℕ) → e < a → endsBefore a (e ∷ es) ≡ suc (endsBefore a es)
 unfolding endsBefore
@@ -142,7 +142,7 @@ taking-start {i = i} h = record { from = le-refl i; upto = h; list = refl }
 
 module _ {ss es : List ℕ} {n i a b next start end : ℕ} where
   pub taking-more : Taking ss es n i a b next start end → next < n → n ≤ length ss → n ≤ length es → getD ss next 0 ≤ end
-      → {sooner later : ℕ} → sooner ≡ lesser start (getD ss next 0) → later ≡ greater end (getD es next 0)
+      → {sooner later : ℕ} → sooner ≡ min start (getD ss next 0) → later ≡ max end (getD es next 0)
       → Taking ss es n i a b (next + 1) sooner later
   unfolding absorbed
   taking-more t h k l m p q =
@@ -182,7 +182,7 @@ added-rows {ss} {es} {us} {vs} {n} {i} {a} {b} {w} h k e t p q =
     (rw (rows-take n ss es, e) (sym (passes a b (take n ss) (take n es) (length-take-le n ss h ∙ sym (length-take-le n es k))))))
   where
     few : i ≤ n
-    few = rw e (ends-within a n es)
+    few = rw e (ends-secondIn a n es)
 
     lengths : length (take i ss) ≡ length (take i es)
     lengths = omega (arith, length-take i ss, length-take i es, few)

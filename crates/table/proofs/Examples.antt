@@ -1,7 +1,7 @@
 -- Stretches that touch become one period in either order, stretches a second apart stay two.
 use mathlib.Core.Path.{_≡_, refl}
 use mathlib.Core.List.{[], _∷_}
-use Rattle.table.specs.Runs.{period}
+use Rattle.periods.specs.Periods.{period}
 use Rattle.table.specs.Inserting.{absorbed, inserted}
 
 -- the second added to the first, and the first to the second

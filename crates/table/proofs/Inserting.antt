@@ -1,5 +1,5 @@
 -- Adding a stretch: the list stays rising, covers the stretch besides, and grows by one period at most.
-use Prim.Native.Nat.{ℕ, suc, _+_, _≤_, _<_}
+use Prim.Native.Nat.{ℕ, suc, _+_, _≤_, _<_, min, max}
 use mathlib.Core.Path.{_≡_, refl, sym, ap, _∙_}
 use mathlib.Core.Bool.{Bool, true, false, _||_, or-assoc, or-false}
 use mathlib.Core.List.{List, [], _∷_, List·Memᴰ, List·Memᴰ·head, List·Memᴰ·tail}
@@ -8,16 +8,17 @@ use native.Mathlib.Omega.{arith}
 use lib.Dec.{leb, ltb}
 use lib.ListN.{length}
 use borrow.Author.Tests.{ltb-true, ltb-false, leb-true, leb-false}
-use Rattle.values.specs.declared.period.Period.{Period}
-use Rattle.table.specs.Runs.{period, within, covers, runs, Rising, Lies}
+use Rattle.periods.specs.declared.Period.{Period}
+use Rattle.periods.specs.Periods.{period, secondIn, covers}
+use Rattle.table.specs.Runs.{runs, Rising, Lies}
 use Rattle.table.specs.Runs.Rising.{none, then}
-use Rattle.table.specs.Inserting.{lesser, greater, absorbed, inserted, gathered}
-use Rattle.table.proofs.Stretches.{joined, lesser-left, lesser-least, greater-left, greater-most}
+use Rattle.table.specs.Inserting.{absorbed, inserted, insertedAll}
+use Rattle.periods.proofs.Periods.{joined}
 use Rattle.table.proofs.Runs.{runs-rising, runs-here, runs-only, runs-same, runs-none}
 
 -- one step of taking in: the first period becomes one with the stretch, or stays behind it
 abbrev Stepped : Bool → ℕ → ℕ → Period → List Period → List Period
-Stepped t a b p ps = elim t [ true ↦ absorbed (lesser a (p .start)) (greater b (p .end)) ps | false ↦ period a b ∷ p ∷ ps ]
+Stepped t a b p ps = elim t [ true ↦ absorbed (min a (p .start)) (max b (p .end)) ps | false ↦ period a b ∷ p ∷ ps ]
 
 absorbed-rising : (a b : ℕ) {lo lo′ hi : ℕ} {ps : List Period} → lo ≤ lo′ → lo ≤ a → a < b → b ≤ hi → Rising lo′ ps hi → Rising lo (absorbed a b ps) hi
 unfolding absorbed
@@ -27,15 +28,15 @@ absorbed-rising a b {lo} {hi = hi} g h k l (then {p = p} {ps = ps} x y z r) =
     (leb (p .start) b)
     refl
     (absorbed-rising
-    (lesser a (p .start))
-    (greater b (p .end))
+    (min a (p .start))
+    (max b (p .end))
     (omega arith)
-    (lesser-least a (p .start) h (le-trans g x))
-    (omega (arith, lesser-left a (p .start), greater-left b (p .end)))
-    (greater-most b (p .end) l z)
+    (omega (arith, le-trans g x))
+    (omega (arith))
+    (omega arith)
     r)
   where
-    go : (t : Bool) → leb (p .start) b ≡ t → Rising lo (absorbed (lesser a (p .start)) (greater b (p .end)) ps) hi → Rising lo (Stepped t a b p ps) hi
+    go : (t : Bool) → leb (p .start) b ≡ t → Rising lo (absorbed (min a (p .start)) (max b (p .end)) ps) hi → Rising lo (Stepped t a b p ps) hi
     go true e rest = rest
     go false e rest =
         let apart : b + 1 ≤ p .start = omega (arith, leb-false (p .start) b e) in
@@ -67,19 +68,19 @@ meets h none = tt
 meets h (then {p = p} x y z r) = omega arith
 
 absorbed-covers : (a b x : ℕ) {lo hi : ℕ} {ps : List Period} → Rising lo ps hi → FirstMeets a ps
-    → covers (absorbed a b ps) x ≡ (within a b x || covers ps x)
+    → covers (absorbed a b ps) x ≡ (secondIn a b x || covers ps x)
 unfolding absorbed covers
 absorbed-covers a b x none m = refl
 absorbed-covers a b x (then {p = p} {ps = ps} i j k r) m =
-    go (leb (p .start) b) refl (absorbed-covers (lesser a (p .start)) (greater b (p .end)) x r (meets (omega (arith, lesser-left a (p .start))) r))
+    go (leb (p .start) b) refl (absorbed-covers (min a (p .start)) (max b (p .end)) x r (meets (omega (arith)) r))
   where
     go : (t : Bool) → leb (p .start) b ≡ t
-        → covers (absorbed (lesser a (p .start)) (greater b (p .end)) ps) x ≡ (within (lesser a (p .start)) (greater b (p .end)) x || covers ps x)
-        → covers (Stepped t a b p ps) x ≡ (within a b x || (within (p .start) (p .end) x || covers ps x))
+        → covers (absorbed (min a (p .start)) (max b (p .end)) ps) x ≡ (secondIn (min a (p .start)) (max b (p .end)) x || covers ps x)
+        → covers (Stepped t a b p ps) x ≡ (secondIn a b x || (secondIn (p .start) (p .end) x || covers ps x))
     go true e rest =
         rest
         ∙ ap (λ (t : Bool). t || covers ps x) (joined a b (p .start) (p .end) x (leb-true (p .start) b e) m)
-        ∙ or-assoc (within a b x) (within (p .start) (p .end) x) (covers ps x)
+        ∙ or-assoc (secondIn a b x) (secondIn (p .start) (p .end) x) (covers ps x)
     go false e rest = refl
 
 -- of three, the first two in the other order
@@ -90,33 +91,33 @@ swapped false true r = refl
 swapped false false r = refl
 
 -- it covers the stretch besides
-pub inserted-covers : (a b x : ℕ) {lo hi : ℕ} {ps : List Period} → Rising lo ps hi → covers (inserted a b ps) x ≡ (within a b x || covers ps x)
+pub inserted-covers : (a b x : ℕ) {lo hi : ℕ} {ps : List Period} → Rising lo ps hi → covers (inserted a b ps) x ≡ (secondIn a b x || covers ps x)
 unfolding inserted covers
 inserted-covers a b x none = refl
 inserted-covers a b x (then {p = p} {ps = ps} i j k r) = go (ltb (p .end) a) refl (inserted-covers a b x r)
   where
-    go : (t : Bool) → ltb (p .end) a ≡ t → covers (inserted a b ps) x ≡ (within a b x || covers ps x)
-        → covers (Placed t a b p ps) x ≡ (within a b x || (within (p .start) (p .end) x || covers ps x))
-    go true e rest = rw rest (swapped (within (p .start) (p .end) x) (within a b x) (covers ps x))
+    go : (t : Bool) → ltb (p .end) a ≡ t → covers (inserted a b ps) x ≡ (secondIn a b x || covers ps x)
+        → covers (Placed t a b p ps) x ≡ (secondIn a b x || (secondIn (p .start) (p .end) x || covers ps x))
+    go true e rest = rw rest (swapped (secondIn (p .start) (p .end) x) (secondIn a b x) (covers ps x))
     go false e rest = absorbed-covers a b x (then {p = p} i j k r) (ltb-false (p .end) a e)
 
 -- adding a stretch to runs gives the runs of one set more
 pub inserted-runs : (f : ℕ → Bool) (s n a b : ℕ) → s ≤ a → a < b → b ≤ s + n
-    → inserted a b (runs f s n) ≡ runs (λ x. within a b x || f x) s n
+    → inserted a b (runs f s n) ≡ runs (λ x. secondIn a b x || f x) s n
 inserted-runs f s n a b h k l =
     runs-only
-    (λ x. within a b x || f x)
+    (λ x. secondIn a b x || f x)
     s
     n
     (inserted-rising a b h k l (runs-rising f s n))
-    (λ x i j. inserted-covers a b x (runs-rising f s n) ∙ ap (λ (t : Bool). within a b x || t) (runs-here f s n x i j))
+    (λ x i j. inserted-covers a b x (runs-rising f s n) ∙ ap (λ (t : Bool). secondIn a b x || t) (runs-here f s n x i j))
 
 absorbed-length : (a b : ℕ) (ps : List Period) → length (absorbed a b ps) ≤ suc (length ps)
 unfolding absorbed
 absorbed-length a b [] = omega arith
-absorbed-length a b (p ∷ ps) = go (leb (p .start) b) (absorbed-length (lesser a (p .start)) (greater b (p .end)) ps)
+absorbed-length a b (p ∷ ps) = go (leb (p .start) b) (absorbed-length (min a (p .start)) (max b (p .end)) ps)
   where
-    go : (t : Bool) → length (absorbed (lesser a (p .start)) (greater b (p .end)) ps) ≤ suc (length ps) → length (Stepped t a b p ps) ≤ suc (suc (length ps))
+    go : (t : Bool) → length (absorbed (min a (p .start)) (max b (p .end)) ps) ≤ suc (length ps) → length (Stepped t a b p ps) ≤ suc (suc (length ps))
     go true rest = omega arith
     go false rest = omega arith
 
@@ -132,33 +133,33 @@ inserted-length a b (p ∷ ps) = go (ltb (p .end) a) (inserted-length a b ps)
     go false rest = absorbed-length a b (p ∷ ps)
 
 -- periods clipped to a range, added one after another, in any order
-pub gathered-runs : (f : ℕ → Bool) (s n : ℕ) (ps : List Period) → ((p : Period) → List·Memᴰ p ps → Lies s (s + n) p)
-    → gathered (runs f s n) ps ≡ runs (λ x. covers ps x || f x) s n
-unfolding gathered covers
-gathered-runs f s n [] lies = refl
-gathered-runs f s n (p ∷ ps) lies =
+pub insertedAll-runs : (f : ℕ → Bool) (s n : ℕ) (ps : List Period) → ((p : Period) → List·Memᴰ p ps → Lies s (s + n) p)
+    → insertedAll (runs f s n) ps ≡ runs (λ x. covers ps x || f x) s n
+unfolding insertedAll covers
+insertedAll-runs f s n [] lies = refl
+insertedAll-runs f s n (p ∷ ps) lies =
     let here : Lies s (s + n) p = lies p (List·Memᴰ·head refl) in
-    ap (λ (qs : List Period). gathered qs ps) (inserted-runs f s n (p .start) (p .end) (here .from) (here .some) (here .to))
-    ∙ gathered-runs (λ x. within (p .start) (p .end) x || f x) s n ps (λ q m. lies q (List·Memᴰ·tail m))
+    ap (λ (qs : List Period). insertedAll qs ps) (inserted-runs f s n (p .start) (p .end) (here .from) (here .some) (here .to))
+    ∙ insertedAll-runs (λ x. secondIn (p .start) (p .end) x || f x) s n ps (λ q m. lies q (List·Memᴰ·tail m))
     ∙ runs-same
-    (λ x. covers ps x || (within (p .start) (p .end) x || f x))
-    (λ x. (within (p .start) (p .end) x || covers ps x) || f x)
+    (λ x. covers ps x || (secondIn (p .start) (p .end) x || f x))
+    (λ x. (secondIn (p .start) (p .end) x || covers ps x) || f x)
     s
     n
-    (λ x i j. swapped (covers ps x) (within (p .start) (p .end) x) (f x) ∙ sym (or-assoc (within (p .start) (p .end) x) (covers ps x) (f x)))
+    (λ x i j. swapped (covers ps x) (secondIn (p .start) (p .end) x) (f x) ∙ sym (or-assoc (secondIn (p .start) (p .end) x) (covers ps x) (f x)))
 
 -- the runs of what they cover are those periods added one after another to none
-pub gathered-all : (s n : ℕ) (ps : List Period) → ((p : Period) → List·Memᴰ p ps → Lies s (s + n) p) → gathered [] ps ≡ runs (covers ps) s n
-gathered-all s n ps lies =
-    ap (λ (qs : List Period). gathered qs ps) (sym (runs-none s n))
-    ∙ gathered-runs (λ x. false) s n ps lies
+pub insertedAll-all : (s n : ℕ) (ps : List Period) → ((p : Period) → List·Memᴰ p ps → Lies s (s + n) p) → insertedAll [] ps ≡ runs (covers ps) s n
+insertedAll-all s n ps lies =
+    ap (λ (qs : List Period). insertedAll qs ps) (sym (runs-none s n))
+    ∙ insertedAll-runs (λ x. false) s n ps lies
     ∙ runs-same (λ x. covers ps x || false) (covers ps) s n (λ x i j. or-false (covers ps x))
 
-pub gathered-length : (qs ps : List Period) → length (gathered qs ps) ≤ length qs + length ps
-unfolding gathered
-gathered-length qs [] = omega arith
-gathered-length qs (p ∷ ps) = omega (arith, gathered-length (inserted (p .start) (p .end) qs) ps, inserted-length (p .start) (p .end) qs)
+pub insertedAll-length : (qs ps : List Period) → length (insertedAll qs ps) ≤ length qs + length ps
+unfolding insertedAll
+insertedAll-length qs [] = omega arith
+insertedAll-length qs (p ∷ ps) = omega (arith, insertedAll-length (inserted (p .start) (p .end) qs) ps, inserted-length (p .start) (p .end) qs)
 
 -- the runs are no more than the periods that they were made of
 pub fewest : (s n : ℕ) (ps : List Period) → ((p : Period) → List·Memᴰ p ps → Lies s (s + n) p) → length (runs (covers ps) s n) ≤ length ps
-fewest s n ps lies = rw (← gathered-all s n ps lies) (omega (arith, gathered-length [] ps))
+fewest s n ps lies = rw (← insertedAll-all s n ps lies) (omega (arith, insertedAll-length [] ps))

@@ -1,7 +1,6 @@
-pub mod Stretches
 pub mod Runs
 pub mod Inserting
 pub mod Columns
-pub mod Moving
+pub mod Moves
 pub mod Tables
 pub mod Examples

@@ -8,11 +8,12 @@ use native.Mathlib.Nat.{le-trans, le-refl}
 use native.Mathlib.Omega.{arith}
 use lib.Dec.{eqb}
 use borrow.Author.Tests.{eqb-true, eqb-false}
-use Rattle.values.specs.declared.period.Period.{Period}
+use Rattle.periods.specs.declared.Period.{Period}
 use Rattle.ascii.proofs.Bools.{clash}
-use Rattle.table.specs.Runs.{period, within, covers, lead, leadIf, runs, Rising, Lies}
+use Rattle.periods.specs.Periods.{period, secondIn, covers}
+use Rattle.table.specs.Runs.{lead, leadIf, runs, Rising, Lies}
 use Rattle.table.specs.Runs.Rising.{none, then}
-use Rattle.table.proofs.Stretches.{below-or-not, within-true, within-below, within-above, within-none, under, touching, only}
+use Rattle.periods.proofs.Periods.{below-or-not, secondIn-true, secondIn-below, secondIn-above, secondIn-none, under, touching, only}
 
 -- a rising list starts no earlier than any lower bound
 pub rising-lower : {lo lo′ hi : ℕ} {ps : List Period} → lo′ ≤ lo → Rising lo ps hi → Rising lo′ ps hi
@@ -27,12 +28,12 @@ rising-lies (then a b c r) (List·Memᴰ·tail m) = rising-lies (rising-lower (o
 pub covers-below : {lo hi : ℕ} {ps : List Period} → Rising lo ps hi → (x : ℕ) → x < lo → covers ps x ≡ false
 unfolding covers
 covers-below none x h = refl
-covers-below (then {p = p} a b c r) x h = rw (within-below (p .start) (p .end) x (omega arith)) (covers-below r x (omega arith))
+covers-below (then {p = p} a b c r) x h = rw (secondIn-below (p .start) (p .end) x (omega arith)) (covers-below r x (omega arith))
 
 pub covers-above : {lo hi : ℕ} {ps : List Period} → Rising lo ps hi → (x : ℕ) → hi ≤ x → covers ps x ≡ false
 unfolding covers
 covers-above none x h = refl
-covers-above (then {p = p} a b c r) x h = rw (within-above (p .start) (p .end) x (omega arith)) (covers-above r x h)
+covers-above (then {p = p} a b c r) x h = rw (secondIn-above (p .start) (p .end) x (omega arith)) (covers-above r x h)
 
 -- a second that a rising list covers lies between its bounds
 pub covers-inside : {lo hi x : ℕ} {ps : List Period} → Rising lo ps hi → covers ps x ≡ true → (lo ≤ x) × (x < hi)
@@ -47,20 +48,20 @@ period-same p q a b = ap (λ (n : ℕ). period n (p .end)) a ∙ ap (λ (n : ℕ
 -- the first period covers its start, and its end lies in a gap
 covers-start : {lo hi : ℕ} {p : Period} {ps : List Period} → Rising lo (p ∷ ps) hi → covers (p ∷ ps) (p .start) ≡ true
 unfolding covers
-covers-start (then {p = p} a b c r) = rw (within-true (p .start) (p .end) (p .start) (omega arith) b)
+covers-start (then {p = p} a b c r) = rw (secondIn-true (p .start) (p .end) (p .start) (omega arith) b)
 
 covers-end : {lo hi : ℕ} {p : Period} {ps : List Period} → Rising lo (p ∷ ps) hi → covers (p ∷ ps) (p .end) ≡ false
 unfolding covers
-covers-end (then {p = p} a b c r) = rw (within-above (p .start) (p .end) (p .end) (omega arith)) (covers-below r (p .end) (omega arith))
+covers-end (then {p = p} a b c r) = rw (secondIn-above (p .start) (p .end) (p .end) (omega arith)) (covers-below r (p .end) (omega arith))
 
 -- past the first period only the rest covers
 covers-rest : (p : Period) (ps : List Period) (x : ℕ) → p .end ≤ x → covers (p ∷ ps) x ≡ covers ps x
 unfolding covers
-covers-rest p ps x h = rw (within-above (p .start) (p .end) x h)
+covers-rest p ps x h = rw (secondIn-above (p .start) (p .end) x h)
 
 covers-first : (p : Period) (ps : List Period) (x : ℕ) → p .start ≤ x → x < p .end → covers (p ∷ ps) x ≡ true
 unfolding covers
-covers-first p ps x h k = rw (within-true (p .start) (p .end) x h k)
+covers-first p ps x h k = rw (secondIn-true (p .start) (p .end) x h k)
 
 from-start : {hi : ℕ} (p : Period) {ps : List Period} → p .start < p .end → p .end ≤ hi → Rising (p .end + 1) ps hi → Rising (p .start) (p ∷ ps) hi
 from-start p b c r = then (le-refl (p .start)) b c r
@@ -130,16 +131,16 @@ lead-rising s {hi} h (then {p = p} {ps = ps} a b c r) = go (eqb (p .start) (s + 
         let apart : s + 1 + 1 ≤ p .start = omega (arith, eqb-false (p .start) (s + 1) e) in
         from-start (period s (s + 1)) (omega arith) (omega arith) (then apart b c r)
 
-pub lead-covers : (s x : ℕ) {hi : ℕ} {ps : List Period} → Rising (s + 1) ps hi → covers (lead s ps) x ≡ (within s (s + 1) x || covers ps x)
+pub lead-covers : (s x : ℕ) {hi : ℕ} {ps : List Period} → Rising (s + 1) ps hi → covers (lead s ps) x ≡ (secondIn s (s + 1) x || covers ps x)
 unfolding lead covers
 lead-covers s x none = refl
 lead-covers s x (then {p = p} {ps = ps} a b c r) = go (eqb (p .start) (s + 1)) refl
   where
     go : (t : Bool) → eqb (p .start) (s + 1) ≡ t
-        → covers (elim t [ true ↦ period s (p .end) ∷ ps | false ↦ period s (s + 1) ∷ p ∷ ps ]) x ≡ (within s (s + 1) x || (within (p .start) (p .end) x || covers ps x))
+        → covers (elim t [ true ↦ period s (p .end) ∷ ps | false ↦ period s (s + 1) ∷ p ∷ ps ]) x ≡ (secondIn s (s + 1) x || (secondIn (p .start) (p .end) x || covers ps x))
     go true e =
         rw (eqb-true (p .start) (s + 1) e, touching s (s + 1) (p .end) x (omega arith) (omega arith))
-        (or-assoc (within s (s + 1) x) (within (s + 1) (p .end) x) (covers ps x))
+        (or-assoc (secondIn s (s + 1) x) (secondIn (s + 1) (p .end) x) (covers ps x))
     go false e = refl
 
 leadIf-rising : (t : Bool) (s : ℕ) {hi : ℕ} {ps : List Period} → s < hi → Rising (s + 1) ps hi → Rising s (leadIf t s ps) hi
@@ -148,10 +149,10 @@ leadIf-rising true s h r = lead-rising s h r
 leadIf-rising false s h r = rising-lower (omega arith) r
 
 leadIf-covers : (t : Bool) (s x : ℕ) {hi : ℕ} {ps : List Period} → Rising (s + 1) ps hi
-    → covers (leadIf t s ps) x ≡ ((within s (s + 1) x && t) || covers ps x)
+    → covers (leadIf t s ps) x ≡ ((secondIn s (s + 1) x && t) || covers ps x)
 unfolding leadIf
-leadIf-covers true s x {ps = ps} r = lead-covers s x r ∙ ap (λ (t : Bool). t || covers ps x) (sym (and-true (within s (s + 1) x)))
-leadIf-covers false s x {ps = ps} r = ap (λ (t : Bool). t || covers ps x) (sym (and-false (within s (s + 1) x)))
+leadIf-covers true s x {ps = ps} r = lead-covers s x r ∙ ap (λ (t : Bool). t || covers ps x) (sym (and-true (secondIn s (s + 1) x)))
+leadIf-covers false s x {ps = ps} r = ap (λ (t : Bool). t || covers ps x) (sym (and-false (secondIn s (s + 1) x)))
 
 next-bound : (s n : ℕ) → s + 1 + n ≡ s + suc n
 next-bound s n = omega arith
@@ -163,18 +164,18 @@ runs-rising f s zero = none
 runs-rising f s (suc n) = rw (← next-bound s n) (leadIf-rising (f s) s (omega arith) (runs-rising f (s + 1) n))
 
 -- the runs cover what they were made of, and nothing outside
-pub runs-cover : (f : ℕ → Bool) (s n x : ℕ) → covers (runs f s n) x ≡ (within s (s + n) x && f x)
+pub runs-cover : (f : ℕ → Bool) (s n x : ℕ) → covers (runs f s n) x ≡ (secondIn s (s + n) x && f x)
 unfolding runs covers
-runs-cover f s zero x = sym (ap (λ (t : Bool). t && f x) (within-none s (s + 0) x (omega arith)))
+runs-cover f s zero x = sym (ap (λ (t : Bool). t && f x) (secondIn-none s (s + 0) x (omega arith)))
 runs-cover f s (suc n) x =
     leadIf-covers (f s) s x (runs-rising f (s + 1) n)
     ∙ rw (runs-cover f (s + 1) n x, only f s x, next-bound s n)
-    (sym (and-or-distrib-right (within s (s + 1) x) (within (s + 1) (s + suc n) x) (f x))
+    (sym (and-or-distrib-right (secondIn s (s + 1) x) (secondIn (s + 1) (s + suc n) x) (f x))
     ∙ ap (λ (t : Bool). t && f x) (sym (touching s (s + 1) (s + suc n) x (omega arith) (omega arith))))
 
 -- inside the range the runs cover a second where it is in the set
 pub runs-here : (f : ℕ → Bool) (s n x : ℕ) → s ≤ x → x < s + n → covers (runs f s n) x ≡ f x
-runs-here f s n x h k = runs-cover f s n x ∙ ap (λ (t : Bool). t && f x) (within-true s (s + n) x h k)
+runs-here f s n x h k = runs-cover f s n x ∙ ap (λ (t : Bool). t && f x) (secondIn-true s (s + n) x h k)
 
 -- a rising list is the runs of what it covers
 pub runs-only : (f : ℕ → Bool) (s n : ℕ) {ps : List Period}

@@ -6,10 +6,11 @@ use mathlib.Core.List.{List, []}
 use native.Mathlib.Omega.{arith}
 use lib.ListN.{length, take, drop, getD}
 use lib.Seq.{length-take-le}
-use Rattle.values.specs.declared.period.Period.{Period}
+use Rattle.periods.specs.declared.Period.{Period}
 use Rattle.table.specs.declared.Table.{Table}
 use Rattle.table.specs.declared.Widened.{Widened}
-use Rattle.table.specs.Runs.{period, within, runs}
+use Rattle.periods.specs.Periods.{period, secondIn}
+use Rattle.table.specs.Runs.{runs}
 use Rattle.table.specs.Inserting.{inserted}
 use Rattle.table.specs.Tables.{rows, listed, Sound, Added, RowAt}
 use Rattle.table.specs.Columns.{endsBefore, TookIn, Spliced}
@@ -35,7 +36,7 @@ added-to {a = a} {b = b} d e = d .list ∙ ap (λ (l : List Period). inserted a 
 
 -- a table of runs, with a stretch added, is of the runs with it
 pub added-runs : (f : ℕ → Bool) (s n : ℕ) {t r : Table} {a b : ℕ} → Added t a b r → listed t ≡ runs f s n → s ≤ a → a < b → b ≤ s + n
-    → listed r ≡ runs (λ x. within a b x || f x) s n
+    → listed r ≡ runs (λ x. secondIn a b x || f x) s n
 added-runs f s n {a = a} {b = b} d e h k l = added-to d e ∙ inserted-runs f s n a b h k l
 
 -- what row i is, by its two columns

@@ -5,7 +5,7 @@ use mathlib.Core.Bool.{true, false}
 use mathlib.Core.List.{List, [], _∷_, _++_}
 use lib.Dec.{ltb}
 use lib.ListN.{length, take, drop}
-use Rattle.table.specs.Runs.{period}
+use Rattle.periods.specs.Periods.{period}
 use Rattle.table.specs.Inserting.{absorbed}
 use Rattle.table.specs.Tables.{rows}
 use Rattle.table.specs.declared.Widened.{Widened}

@@ -1,22 +1,11 @@
 -- Covered seconds as the fewest periods (document 01, The report's bytes): clipped, rising, never touching.
 -- A set of seconds is a Bool function of a second; its runs are what the report lists.
 use Prim.Native.Nat.{ℕ, zero, suc, _+_, _≤_, _<_}
-use mathlib.Core.Bool.{Bool, true, false, _&&_, _||_}
+use mathlib.Core.Bool.{Bool, true, false}
 use mathlib.Core.List.{List, [], _∷_}
-use lib.Dec.{eqb, leb, ltb}
-use Rattle.values.specs.declared.period.Period.{Period}
-
-abbrev pub period : ℕ → ℕ → Period
-period a b = record { start = a; end = b }
-
--- a second from a up to, but not including, b
-unfoldable pub within : ℕ → ℕ → ℕ → Bool
-within a b x = leb a x && ltb x b
-
--- some period of the list covers the second
-unfoldable pub covers : List Period → ℕ → Bool
-covers [] x = false
-covers (p ∷ ps) x = within (p .start) (p .end) x || covers ps x
+use lib.Dec.{eqb}
+use Rattle.periods.specs.declared.Period.{Period}
+use Rattle.periods.specs.Periods.{period}
 
 -- second s put before periods that begin later: it lengthens the first where the two touch
 unfoldable pub lead : ℕ → List Period → List Period

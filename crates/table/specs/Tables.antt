@@ -3,8 +3,8 @@ use Prim.Native.Nat.{ℕ, _+_, _≤_}
 use mathlib.Core.Path.{_≡_}
 use mathlib.Core.List.{List, [], _∷_}
 use lib.ListN.{length, take, drop}
-use Rattle.values.specs.declared.period.Period.{Period}
-use Rattle.table.specs.Runs.{period}
+use Rattle.periods.specs.declared.Period.{Period}
+use Rattle.periods.specs.Periods.{period}
 use Rattle.table.specs.Inserting.{inserted}
 use Rattle.table.specs.declared.Table.{Table}
 

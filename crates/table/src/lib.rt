@@ -1,10 +1,9 @@
 // The period table of one busy type: at most 512 periods, rising, never touching.
 // Adding a piece takes the table and hands it back.
-use values::period::Period;
+use periods::Period;
 ghost use mathlib.Core.Path.{_≡_};
-ghost use Prim.Native.Nat.{_+_, _≤_, _<_};
+ghost use Prim.Native.Nat.{_+_, _≤_, _<_, min, max};
 ghost use lib.ListN.{length, take};
-ghost use Rattle.table.specs.Inserting.{lesser, greater};
 ghost use Rattle.table.specs.Tables.{Empty, Added, RowAt};
 ghost use Rattle.table.specs.Columns.{endsBefore, TookIn, Moved, Spliced};
 
@@ -39,13 +38,13 @@ fn wide(x: u32) -> u64
 }
 
 fn lesser_of(a: u32, b: u32) -> u32
-    ensures { λ r. ⌜ r ≡ lesser a b ⌝ }
+    ensures { λ r. ⌜ r ≡ min a b ⌝ }
 {
     if b < a { b } else { a }
 }
 
 fn greater_of(a: u32, b: u32) -> u32
-    ensures { λ r. ⌜ r ≡ greater a b ⌝ }
+    ensures { λ r. ⌜ r ≡ max a b ⌝ }
 {
     if a < b { b } else { a }
 }

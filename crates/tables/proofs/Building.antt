@@ -7,9 +7,9 @@ use native.Mathlib.Omega.{arith}
 use lib.ListN.{length, drop, getD}
 use borrow.Author.Tests.{eq-eqb, ne-eqb}
 use Rattle.ascii.proofs.Lists.{drop-next}
-use Rattle.values.specs.declared.period.Period.{Period}
-use Rattle.table.specs.Runs.{period}
-use Rattle.table.specs.Inserting.{gathered}
+use Rattle.periods.specs.declared.Period.{Period}
+use Rattle.periods.specs.Periods.{period}
+use Rattle.table.specs.Inserting.{insertedAll}
 use Rattle.table.specs.Tables.{listed, Sound, Empty, Added}
 use Rattle.table.specs.declared.Table.{Table}
 use Rattle.tables.specs.Building.{periodsAt, Built}
@@ -42,7 +42,7 @@ module _ (c : List ℕ) (k n i at : ℕ) (h : i < n) (l : at + 3 ≤ length c) w
 pub record Building (c : List ℕ) (n k : ℕ) (t : Table) (i at : ℕ) : Type 0 where
   pub upto : i ≤ n
   pub place : at ≡ 3 * i
-  pub list : gathered (listed t) (periodsAt k (n - i) (drop at c)) ≡ gathered [] (periodsAt k n c)
+  pub list : insertedAll (listed t) (periodsAt k (n - i) (drop at c)) ≡ insertedAll [] (periodsAt k n c)
   pub count : t .count ≤ i
   pub sound : Sound t
 
@@ -63,13 +63,13 @@ module _ {c : List ℕ} {n k : ℕ} {t : Table} {i at : ℕ} (b : Building c n k
 
   pub building-added : i < n → 3 * n ≤ length c → getD c (at + 2) 0 ≡ k → {r : Table} → Added t (getD c at 0) (getD c (at + 1) 0) r
       → Building c n k r (i + 1) (at + 3)
-  unfolding gathered
+  unfolding insertedAll
   building-added h l e d =
       record {
         upto = omega arith;
         place = omega (arith, b .place);
-        list = ap (λ (qs : List Period). gathered qs (periodsAt k (n - (i + 1)) (drop (at + 3) c))) (d .list)
-            ∙ sym (ap (λ (ps : List Period). gathered (listed t) ps) (periods-here c k n i at h (building-room h l) e))
+        list = ap (λ (qs : List Period). insertedAll qs (periodsAt k (n - (i + 1)) (drop (at + 3) c))) (d .list)
+            ∙ sym (ap (λ (ps : List Period). insertedAll (listed t) ps) (periods-here c k n i at h (building-room h l) e))
             ∙ b .list;
         count = omega (arith, b .count, d .count);
         sound = d .sound;
@@ -80,16 +80,16 @@ module _ {c : List ℕ} {n k : ℕ} {t : Table} {i at : ℕ} (b : Building c n k
       record {
         upto = omega arith;
         place = omega (arith, b .place);
-        list = sym (ap (λ (ps : List Period). gathered (listed t) ps) (periods-other c k n i at h (building-room h l) e)) ∙ b .list;
+        list = sym (ap (λ (ps : List Period). insertedAll (listed t) ps) (periods-other c k n i at h (building-room h l) e)) ∙ b .list;
         count = omega (arith, b .count);
         sound = b .sound;
       }
 
   pub building-end : n ≤ i → Built c n k t
-  unfolding periodsAt gathered
+  unfolding periodsAt insertedAll
   building-end h =
       record {
-        list = rw (← b .list, (let z : n - i ≡ 0 = omega arith in z), periodsAt, gathered);
+        list = rw (← b .list, (let z : n - i ≡ 0 = omega arith in z), periodsAt, insertedAll);
         count = omega (arith, b .count, b .upto);
         sound = b .sound;
       }

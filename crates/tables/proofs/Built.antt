@@ -8,15 +8,15 @@ use lib.Dec.{eqb}
 use lib.ListN.{length, drop}
 use lib.Seq.{sets, sets-eq}
 use borrow.Author.Tests.{eqb-true, eqb-false, eq-eqb, ne-eqb}
-use Rattle.values.specs.declared.period.Period.{Period}
-use Rattle.said.specs.declared.Busy.{Busy}
+use Rattle.periods.specs.declared.Period.{Period}
+use Rattle.periods.specs.declared.BusyType.{BusyType}
 use Rattle.table.specs.Runs.{runs, Lies}
-use Rattle.table.specs.Inserting.{gathered}
+use Rattle.table.specs.Inserting.{insertedAll}
 use Rattle.table.specs.Tables.{listed}
 use Rattle.table.specs.declared.Table.{Table}
-use Rattle.table.proofs.Inserting.{gathered-all}
+use Rattle.table.proofs.Inserting.{insertedAll-all}
 use Rattle.table.proofs.Tables.{listed-length}
-use Rattle.rules.specs.BusyTypes.{reportPlace, sameBusy, BusyPeriod}
+use Rattle.periods.specs.BusyTypes.{reportPlace, sameBusy, BusyPeriod}
 use Rattle.pieces.specs.Columns.{flat}
 use Rattle.pieces.specs.Covered.{ofType, coveredBy}
 use Rattle.tables.specs.Building.{periodsAt, Built}
@@ -30,15 +30,15 @@ eqb-turned a b = go (eqb b a) refl
     go false e = ne-eqb a b (λ h. eqb-false b a e (sym h))
 
 -- of pieces in a column, those of the type's place are those of the type
-pub periods-noted : (b : Busy) (ps : List BusyPeriod) (rest : List ℕ) → periodsAt (reportPlace b) (length ps) (flat ps ++ rest) ≡ ofType b ps
+pub periods-stored : (b : BusyType) (ps : List BusyPeriod) (rest : List ℕ) → periodsAt (reportPlace b) (length ps) (flat ps ++ rest) ≡ ofType b ps
 unfolding periodsAt flat ofType sameBusy
-periods-noted b [] rest = refl
-periods-noted b (p ∷ ps) rest =
+periods-stored b [] rest = refl
+periods-stored b (p ∷ ps) rest =
     rw (periodsAt, eqb-turned (reportPlace (p .busy)) (reportPlace b))
-    (ap (λ (qs : List Period). elim (eqb (reportPlace b) (reportPlace (p .busy))) [ true ↦ p .period ∷ qs | false ↦ qs ]) (periods-noted b ps rest))
+    (ap (λ (qs : List Period). elim (eqb (reportPlace b) (reportPlace (p .busy))) [ true ↦ p .period ∷ qs | false ↦ qs ]) (periods-stored b ps rest))
 
 -- where every piece lies in a range, so do the periods of one type
-of-type-lies : (b : Busy) (lo hi : ℕ) (ps : List BusyPeriod) → ((p : BusyPeriod) → List·Memᴰ p ps → Lies lo hi (p .period))
+of-type-lies : (b : BusyType) (lo hi : ℕ) (ps : List BusyPeriod) → ((p : BusyPeriod) → List·Memᴰ p ps → Lies lo hi (p .period))
     → (q : Period) → List·Memᴰ q (ofType b ps) → Lies lo hi q
 unfolding ofType
 of-type-lies b lo hi [] lies q = elim [ ]
@@ -62,16 +62,16 @@ flat-stored o ps h =
     ∙ ap (λ (k : ℕ). flat ps ++ drop k o) (let z : 0 + length (flat ps) ≡ 3 * length ps = omega (arith, flat-length ps) in z)
 
 -- pieces that lie in a range stand first in a column: the table of a type lists the runs of what its pieces cover
-pub built-runs : (b : Busy) (s m : ℕ) (ps : List BusyPeriod) (rest : List ℕ) {c : List ℕ} {n : ℕ} {r : Table} → c ≡ flat ps ++ rest → n ≡ length ps
+pub built-runs : (b : BusyType) (s m : ℕ) (ps : List BusyPeriod) (rest : List ℕ) {c : List ℕ} {n : ℕ} {r : Table} → c ≡ flat ps ++ rest → n ≡ length ps
     → ((p : BusyPeriod) → List·Memᴰ p ps → Lies s (s + m) (p .period)) → Built c n (reportPlace b) r → listed r ≡ runs (coveredBy b ps) s m
 unfolding coveredBy
 built-runs b s m ps rest e f lies d =
     d .list
-    ∙ rw (e, f) (ap (λ (qs : List Period). gathered [] qs) (periods-noted b ps rest))
-    ∙ gathered-all s m (ofType b ps) (of-type-lies b s (s + m) ps lies)
+    ∙ rw (e, f) (ap (λ (qs : List Period). insertedAll [] qs) (periods-stored b ps rest))
+    ∙ insertedAll-all s m (ofType b ps) (of-type-lies b s (s + m) ps lies)
 
 -- the same where they were stored from the start of the column on
-pub built-stored : (b : Busy) (s m : ℕ) (ps : List BusyPeriod) (o : List ℕ) {c : List ℕ} {n : ℕ} {r : Table} → c ≡ sets o 0 (flat ps)
+pub built-stored : (b : BusyType) (s m : ℕ) (ps : List BusyPeriod) (o : List ℕ) {c : List ℕ} {n : ℕ} {r : Table} → c ≡ sets o 0 (flat ps)
     → 3 * length ps ≤ length o → n ≡ length ps → ((p : BusyPeriod) → List·Memᴰ p ps → Lies s (s + m) (p .period)) → Built c n (reportPlace b) r → listed r ≡ runs (coveredBy b ps) s m
 built-stored b s m ps o e h = built-runs b s m ps (drop (3 * length ps) o) (e ∙ flat-stored o ps h)
 

@@ -4,9 +4,9 @@ use mathlib.Core.Path.{_≡_}
 use mathlib.Core.Bool.{true, false}
 use mathlib.Core.List.{List, [], _∷_}
 use lib.Dec.{eqb}
-use Rattle.values.specs.declared.period.Period.{Period}
-use Rattle.table.specs.Runs.{period}
-use Rattle.table.specs.Inserting.{gathered}
+use Rattle.periods.specs.declared.Period.{Period}
+use Rattle.periods.specs.Periods.{period}
+use Rattle.table.specs.Inserting.{insertedAll}
 use Rattle.table.specs.Tables.{listed, Sound}
 use Rattle.table.specs.declared.Table.{Table}
 
@@ -20,6 +20,6 @@ periodsAt k (suc n) (a ∷ b ∷ j ∷ c) = elim (eqb j k) [ true ↦ period a b
 
 -- the table of that type: each period added in turn
 pub record Built (c : List ℕ) (n k : ℕ) (r : Table) : Type 0 where
-  pub list : listed r ≡ gathered [] (periodsAt k n c)
+  pub list : listed r ≡ insertedAll [] (periodsAt k n c)
   pub count : r .count ≤ n
   pub sound : Sound r

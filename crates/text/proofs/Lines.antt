@@ -11,7 +11,7 @@ use borrow.Author.Tests.{eqb-true, not-true, ne-eqb, ltb-true, ltb-false}
 use Rattle.ascii.proofs.Bools.{and-left, and-right, and-both, not-so}
 use Rattle.ascii.proofs.Lists.{drop-next, drop-end}
 use Rattle.text.specs.Unfolding.{isBreak, isBlank, isFold, unfolded, Nowhere, noFold}
-use Rattle.text.specs.Lines.{Pieces, end, unended, line, grow, cut, breakAt, part, LineAt, LastPiece, NoPiece, EndsAt, lineCount, bytesOf, joined, linesOf, allLines, contentLines, LineFrom, NoLineFrom, StepsTo, everyLine, holdsNoCR, beginsPlain, standsPlain}
+use Rattle.text.specs.Lines.{Pieces, end, unended, line, grow, cut, breakAt, part, LineAt, UnendedAt, NothingAt, EndsAt, lineCount, bytesOf, joined, linesOf, allLines, contentLines, LineFrom, NoLineFrom, StepsTo, everyLine, holdsNoCR, noLeadingBlank, isWholeLine}
 use Rattle.text.specs.declared.LineEnd.{LineEnd}
 use Rattle.text.specs.declared.LineEnd.the-variants.{At, Unended, None}
 use Rattle.text.specs.declared.Span.{Span}
@@ -150,13 +150,13 @@ pub line-at : {s : List ℕ} {from : ℕ} {r : LineEnd} (e : ℕ) → EndsAt s f
 unfolding EndsAt
 line-at {s} {from} e h q = subst (EndsAt s from) q h
 
-pub last-piece : {s : List ℕ} {from : ℕ} {r : LineEnd} → EndsAt s from r → r ≡ Unended → LastPiece s from
+pub unended-at : {s : List ℕ} {from : ℕ} {r : LineEnd} → EndsAt s from r → r ≡ Unended → UnendedAt s from
 unfolding EndsAt
-last-piece {s} {from} h q = subst (EndsAt s from) q h
+unended-at {s} {from} h q = subst (EndsAt s from) q h
 
-pub no-piece : {s : List ℕ} {from : ℕ} {r : LineEnd} → EndsAt s from r → r ≡ None → NoPiece s from
+pub nothing-at : {s : List ℕ} {from : ℕ} {r : LineEnd} → EndsAt s from r → r ≡ None → NothingAt s from
 unfolding EndsAt
-no-piece {s} {from} h q = subst (EndsAt s from) q h
+nothing-at {s} {from} h q = subst (EndsAt s from) q h
 
 -- the place where a line ends is the first CR LF: it stands there, and nowhere before
 pub record FirstBreak (s : List ℕ) (from e : ℕ) : Type 0 where
@@ -298,39 +298,39 @@ noFold-plain b [] e h = refl
 noFold-plain b (c ∷ []) e h = refl
 noFold-plain b (c ∷ d ∷ s) e h = rw (no-break b c e) h
 
-noFold-break : (s : List ℕ) → beginsPlain s ≡ true → noFold s ≡ true → noFold (13 ∷ 10 ∷ s) ≡ true
+noFold-break : (s : List ℕ) → noLeadingBlank s ≡ true → noFold s ≡ true → noFold (13 ∷ 10 ∷ s) ≡ true
 unfolding noFold isFold isBreak
 noFold-break [] e h = refl
 noFold-break (b ∷ s) e h = rw (not-true (isBlank b) e) (noFold-plain 10 (b ∷ s) refl h)
 
-noFold-line : (l s : List ℕ) → holdsNoCR l ≡ true → beginsPlain s ≡ true → noFold s ≡ true → noFold (l ++ (13 ∷ 10 ∷ s)) ≡ true
+noFold-line : (l s : List ℕ) → holdsNoCR l ≡ true → noLeadingBlank s ≡ true → noFold s ≡ true → noFold (l ++ (13 ∷ 10 ∷ s)) ≡ true
 noFold-line [] s p q h = noFold-break s q h
 noFold-line (b ∷ l) s p q h =
     noFold-plain b (l ++ (13 ∷ 10 ∷ s)) (and-left (not (eqb b 13)) _ p) (noFold-line l s (and-right (not (eqb b 13)) _ p) q h)
 
-beginsPlain-joined : (ls : List (List ℕ)) → everyLine standsPlain ls ≡ true → beginsPlain (joined ls) ≡ true
+noLeadingBlank-joined : (ls : List (List ℕ)) → everyLine isWholeLine ls ≡ true → noLeadingBlank (joined ls) ≡ true
 unfolding isBlank
-beginsPlain-joined [] e = refl
-beginsPlain-joined ([] ∷ ls) e = refl
-beginsPlain-joined ((b ∷ l) ∷ ls) e = and-right (holdsNoCR (b ∷ l)) _ (and-left (standsPlain (b ∷ l)) _ e)
+noLeadingBlank-joined [] e = refl
+noLeadingBlank-joined ([] ∷ ls) e = refl
+noLeadingBlank-joined ((b ∷ l) ∷ ls) e = and-right (holdsNoCR (b ∷ l)) _ (and-left (isWholeLine (b ∷ l)) _ e)
 
-pub noFold-joined : (ls : List (List ℕ)) → everyLine standsPlain ls ≡ true → noFold (joined ls) ≡ true
+pub noFold-joined : (ls : List (List ℕ)) → everyLine isWholeLine ls ≡ true → noFold (joined ls) ≡ true
 unfolding noFold
 noFold-joined [] e = refl
 noFold-joined (l ∷ ls) e =
-    let rest : everyLine standsPlain ls ≡ true = and-right (standsPlain l) _ e in
-    noFold-line l (joined ls) (and-left (holdsNoCR l) _ (and-left (standsPlain l) _ e)) (beginsPlain-joined ls rest) (noFold-joined ls rest)
+    let rest : everyLine isWholeLine ls ≡ true = and-right (isWholeLine l) _ e in
+    noFold-line l (joined ls) (and-left (holdsNoCR l) _ (and-left (isWholeLine l) _ e)) (noLeadingBlank-joined ls rest) (noFold-joined ls rest)
 
-pub unfolded-joined : (ls : List (List ℕ)) → everyLine standsPlain ls ≡ true → unfolded (joined ls) ≡ joined ls
+pub unfolded-joined : (ls : List (List ℕ)) → everyLine isWholeLine ls ≡ true → unfolded (joined ls) ≡ joined ls
 unfolded-joined ls e = unfolded-same (joined ls) (noFold-joined ls e)
 
 -- what is written so is read back line by line
-holdsNoCR-plain : (ls : List (List ℕ)) → everyLine standsPlain ls ≡ true → everyLine holdsNoCR ls ≡ true
+holdsNoCR-plain : (ls : List (List ℕ)) → everyLine isWholeLine ls ≡ true → everyLine holdsNoCR ls ≡ true
 holdsNoCR-plain [] e = refl
 holdsNoCR-plain (l ∷ ls) e =
-    and-both (and-left (holdsNoCR l) _ (and-left (standsPlain l) _ e)) (holdsNoCR-plain ls (and-right (standsPlain l) _ e))
+    and-both (and-left (holdsNoCR l) _ (and-left (isWholeLine l) _ e)) (holdsNoCR-plain ls (and-right (isWholeLine l) _ e))
 
-pub cut-unfolded-joined : (ls : List (List ℕ)) → everyLine standsPlain ls ≡ true → cut (unfolded (joined ls)) ≡ linesOf ls
+pub cut-unfolded-joined : (ls : List (List ℕ)) → everyLine isWholeLine ls ≡ true → cut (unfolded (joined ls)) ≡ linesOf ls
 cut-unfolded-joined ls e = ap cut (unfolded-joined ls e) ∙ cut-joined ls (holdsNoCR-plain ls e)
 
 -- zero bytes have no piece; a CR LF at the end has no piece after it, and a second one ends an empty line
@@ -363,7 +363,7 @@ steps-at {s} {from} {e} h =
       lines = ap allLines (h .pieces);
     }
 
-pub steps-last : {s : List ℕ} {from : ℕ} → LastPiece s from → StepsTo s from (Line (length s) (length s))
+pub steps-last : {s : List ℕ} {from : ℕ} → UnendedAt s from → StepsTo s from (Line (length s) (length s))
 unfolding StepsTo contentLines
 steps-last {s} {from} h =
     let whole : part s from (length s) ≡ drop from s = take-all (length s - from) (drop from s) (simp length-drop (omega arith)) in
@@ -379,7 +379,7 @@ steps-last {s} {from} h =
           (sym (ap (λ (l : List ℕ). allLines (cut l)) (drop-end s (length s) (omega arith)) ∙ ap allLines cut-none));
     }
 
-pub steps-none : {s : List ℕ} {from : ℕ} → NoPiece s from → StepsTo s from End
+pub steps-none : {s : List ℕ} {from : ℕ} → NothingAt s from → StepsTo s from End
 unfolding StepsTo contentLines
 steps-none h = record { past = h .past; lines = ap allLines (h .pieces) }
 

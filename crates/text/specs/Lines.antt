@@ -45,20 +45,20 @@ pub record LineAt (s : List ℕ) (from e : ℕ) : Type 0 where
   pub pieces : cut (drop from s) ≡ line (part s from e) (cut (drop (e + 2) s))
 
 -- what stands from `from` on is one piece without CR LF
-pub record LastPiece (s : List ℕ) (from : ℕ) : Type 0 where
+pub record UnendedAt (s : List ℕ) (from : ℕ) : Type 0 where
   pub starts : from < length s
   pub pieces : cut (drop from s) ≡ unended (drop from s)
 
 -- nothing stands at `from` or after it
-pub record NoPiece (s : List ℕ) (from : ℕ) : Type 0 where
+pub record NothingAt (s : List ℕ) (from : ℕ) : Type 0 where
   pub past : length s ≤ from
   pub pieces : cut (drop from s) ≡ end
 
 -- what a search for the end of the line at `from` answers
 unfoldable pub EndsAt : List ℕ → ℕ → LineEnd → Type 0
 EndsAt s from (At e) = LineAt s from e
-EndsAt s from Unended = LastPiece s from
-EndsAt s from None = NoPiece s from
+EndsAt s from Unended = UnendedAt s from
+EndsAt s from None = NothingAt s from
 
 -- every line of a file in order, a last piece that CR LF does not end among them
 abbrev pub allLines : Pieces → List (List ℕ)
@@ -119,10 +119,10 @@ abbrev pub holdsNoCR : List ℕ → Bool
 holdsNoCR l = every (λ b. not (eqb b 13)) l
 
 -- the first byte, if there is one, is no blank
-abbrev pub beginsPlain : List ℕ → Bool
-beginsPlain [] = true
-beginsPlain (b ∷ l) = not (isBlank b)
+abbrev pub noLeadingBlank : List ℕ → Bool
+noLeadingBlank [] = true
+noLeadingBlank (b ∷ l) = not (isBlank b)
 
 -- a line that stands in a file as it is: unfolding leaves it, and cutting finds it whole
-abbrev pub standsPlain : List ℕ → Bool
-standsPlain l = holdsNoCR l && beginsPlain l
+abbrev pub isWholeLine : List ℕ → Bool
+isWholeLine l = holdsNoCR l && noLeadingBlank l

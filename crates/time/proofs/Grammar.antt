@@ -20,8 +20,8 @@ use Rattle.time.specs.declared.duration.Duration.{Duration}
 use Rattle.time.specs.declared.duration.DurationRead.{DurationRead}
 use Rattle.time.specs.Duration.{on, timeStart, nextStage, weightOf, blank, withDigit, fitting, unitTo, withUnit, step, runs, finish, durationText, durationSeconds, readDuration}
 use Rattle.time.specs.Grammar.{decimal, Counted, lasting, DurSecond, Followed, DurMinute, DurHour, DurTime, DurBody, DurationGrammar}
-use Rattle.time.proofs.Readers.{digit-range}
-use Rattle.time.proofs.Durations.{withDigit-of, withDigit-full, step-digit, readDuration-in, readDuration-of}
+use Rattle.time.proofs.DateTime.{digit-range}
+use Rattle.time.proofs.DurationLaws.{withDigit-of, withDigit-full, step-digit, readDuration-in, readDuration-of}
 
 -- a text read so far
 abbrev reading : Stage → ℕ → ℕ → ℕ → ℕ → Bool → Reading

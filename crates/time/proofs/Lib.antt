@@ -1,10 +1,10 @@
-pub mod Tables
+pub mod Below
 pub mod Years
 pub mod Months
-pub mod Readers
-pub mod Seconds
-pub mod Durations
-pub mod Calendar
-pub mod Putting
-pub mod Written
+pub mod DateTime
+pub mod LimitsLaws
+pub mod DurationLaws
+pub mod DaysLaws
+pub mod Stores
+pub mod WritingLaws
 pub mod Grammar

@@ -9,7 +9,7 @@ use lib.Dec.{eqb, ltb, leb}
 use lib.ListN.{getD, List·getD-eq-default}
 use borrow.Author.Tests.{eqb-true, ne-eqb, leb-true}
 use Rattle.time.specs.Days.{isLeap, monthDays, daysBeforeMonth, monthLengths, lengthIn, beforeIn}
-use Rattle.time.proofs.Tables.{below}
+use Rattle.time.proofs.Below.{below}
 
 -- the days of a year without a leap day before each month
 abbrev pub beforeMonth : List ℕ

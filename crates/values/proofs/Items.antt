@@ -7,8 +7,8 @@ use native.Mathlib.Omega.{arith}
 use lib.Dec.{ltb}
 use lib.ListN.{length, take, drop}
 use lib.Seq.{length-take-le}
-use Rattle.line.specs.Pieces.{firstOutside, nextPlace, before, piecesAfter, plainPieces}
-use Rattle.line.proofs.Pieces.{firstOutside-le, nextPlace-ge, nextPlace-le, pieces-from, piecesAfter-in, piecesAfter-out, before-is}
+use Rattle.line.specs.Splitting.{firstOutside, nextPlace, before, splitAfter, plainSplit}
+use Rattle.line.proofs.Splitting.{firstOutside-le, nextPlace-ge, nextPlace-le, pieces-from, splitAfter-in, splitAfter-out, before-is}
 
 -- the item from a place up to the next separator
 abbrev pub itemAt : List ℕ → ℕ → ℕ → List ℕ
@@ -23,23 +23,23 @@ item-inside sep v from e h q = omega (arith, nextPlace-le false sep v from h)
 
 -- from a place on: one item, and those behind the next separator
 pub item-first : (sep : ℕ) (v : List ℕ) (from e : ℕ) → from ≤ length v → e ≡ nextPlace false sep v from
-    → plainPieces sep (drop from v) ≡ itemAt v from e ∷ piecesAfter false sep v e
-unfolding plainPieces
+    → plainSplit sep (drop from v) ≡ itemAt v from e ∷ splitAfter false sep v e
+unfolding plainSplit
 item-first sep v from e h q =
-    pieces-from false sep v from h ∙ ap (λ (i : ℕ). itemAt v from i ∷ piecesAfter false sep v i) (sym q)
+    pieces-from false sep v from h ∙ ap (λ (i : ℕ). itemAt v from i ∷ splitAfter false sep v i) (sym q)
 
 -- where there is a separator, the rest of the list stands behind it
 pub item-more : (sep : ℕ) (v : List ℕ) (from e : ℕ) → from ≤ length v → e ≡ nextPlace false sep v from → e < length v
-    → plainPieces sep (drop from v) ≡ itemAt v from e ∷ plainPieces sep (drop (e + 1) v)
-unfolding plainPieces
+    → plainSplit sep (drop from v) ≡ itemAt v from e ∷ plainSplit sep (drop (e + 1) v)
+unfolding plainSplit
 item-more sep v from e h q k =
-    item-first sep v from e h q ∙ ap (λ (r : List (List ℕ)). itemAt v from e ∷ r) (piecesAfter-in false sep v e k)
+    item-first sep v from e h q ∙ ap (λ (r : List (List ℕ)). itemAt v from e ∷ r) (splitAfter-in false sep v e k)
 
 -- where there is none, nothing is left
 pub item-last : (sep : ℕ) (v : List ℕ) (from e : ℕ) → from ≤ length v → e ≡ nextPlace false sep v from → length v ≤ e
-    → plainPieces sep (drop from v) ≡ itemAt v from e ∷ []
+    → plainSplit sep (drop from v) ≡ itemAt v from e ∷ []
 item-last sep v from e h q k =
-    item-first sep v from e h q ∙ ap (λ (r : List (List ℕ)). itemAt v from e ∷ r) (piecesAfter-out false sep v e k)
+    item-first sep v from e h q ∙ ap (λ (r : List (List ℕ)). itemAt v from e ∷ r) (splitAfter-out false sep v e k)
 
 -- there is a separator exactly where the bytes before it are fewer than all
 pub cut-test : (sep : ℕ) (s a : List ℕ) → a ≡ before false sep s → ltb (length a) (length s) ≡ ltb (firstOutside false sep false s) (length s)

@@ -1,5 +1,5 @@
-pub mod Usages
+pub mod Usage
 pub mod Items
-pub mod Moments
-pub mod Rules
-pub mod Periods
+pub mod TimesLaws
+pub mod RuleLaws
+pub mod PeriodLaws

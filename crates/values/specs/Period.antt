@@ -4,7 +4,7 @@ use mathlib.Core.Bool.{Bool, true, false, cond, _&&_}
 use mathlib.Core.List.{List, [], _∷_, map}
 use lib.Dec.{ltb}
 use lib.ListN.{length}
-use Rattle.line.specs.Pieces.{firstOutside, before, after, plainPieces}
+use Rattle.line.specs.Splitting.{firstOutside, before, after, plainSplit}
 use Rattle.time.specs.DateTime.{readDateTime}
 use Rattle.time.specs.Limits.{lastSecond, utcSecond}
 use Rattle.time.specs.Duration.{readDuration, durationSeconds}
@@ -14,7 +14,7 @@ use Rattle.time.specs.declared.date_time.Number.{Number}
 use Rattle.time.specs.declared.limits.Second.{Second}
 use Rattle.time.specs.declared.duration.Duration.{Duration}
 use Rattle.time.specs.declared.duration.DurationRead.{DurationRead}
-use Rattle.values.specs.declared.period.Period.{Period}
+use Rattle.periods.specs.declared.Period.{Period}
 use Rattle.values.specs.declared.period.PeriodRead.{PeriodRead}
 
 -- a UTC DATE-TIME within the limits
@@ -47,8 +47,8 @@ unfoldable pub periodOf : List ℕ → PeriodRead
 periodOf t = cond (ltb (firstOutside false 47 false t) (length t)) (periodFrom (utcAt (before false 47 t)) (after false 47 t)) PeriodRead.Bad
 
 -- the periods stand between commas
-unfoldable pub periodsIn : List ℕ → List PeriodRead
-periodsIn v = map periodOf (plainPieces 44 v)
+unfoldable pub periodItems : List ℕ → List PeriodRead
+periodItems v = map periodOf (plainSplit 44 v)
 
 abbrev pub isPeriod : PeriodRead → Bool
 isPeriod (PeriodRead.Of p) = true

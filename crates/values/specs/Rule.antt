@@ -8,7 +8,7 @@ use Rattle.ascii.specs.Bytes.{between, isDigit}
 use Rattle.ascii.specs.Names.{sameName, isName, every}
 use Rattle.ascii.specs.Words.{ascii}
 use Rattle.time.specs.Grammar.{decimal}
-use Rattle.line.specs.Pieces.{firstOutside, before, after, plainPieces}
+use Rattle.line.specs.Splitting.{firstOutside, before, after, plainSplit}
 use Rattle.time.specs.Limits.{lastSecond}
 use Rattle.values.specs.Times.{readTime}
 use Rattle.values.specs.declared.times.Context.{Context}
@@ -93,7 +93,7 @@ ruleBy p =
 
 -- the parts stand between semicolons
 unfoldable pub ruleOf : Context → List ℕ → RuleRead
-ruleOf c v = ruleBy (withParts noParts (map (partOf c) (plainPieces 59 v)))
+ruleOf c v = ruleBy (withParts noParts (map (partOf c) (plainSplit 59 v)))
 
 -- how large what a rule says can be
 abbrev pub LimitSmall : Limit → Type 0

@@ -1,6 +1,7 @@
 // The value of FREEBUSY: a comma list of UTC periods.
 // An end is stated or computed; a stated one keeps the limits.
 use line::split;
+use periods::Period;
 use time::date_time;
 use time::date_time::DateTime;
 use time::date_time::Kind;
@@ -13,13 +14,7 @@ ghost use mathlib.Core.Path.{_≡_};
 ghost use Prim.Native.Nat.{_≤_};
 ghost use Rattle.time.specs.Limits.{lastSecond};
 ghost use Rattle.time.specs.Duration.{readDuration};
-ghost use Rattle.values.specs.Period.{utcBy, utcAt, endBy, periodTo, periodFrom, periodOf, periodsIn, isPeriod, allPeriods};
-
-// From its start up to, but not including, its end.
-pub struct Period {
-    pub start: u64,
-    pub end: u64,
-}
+ghost use Rattle.values.specs.Period.{utcBy, utcAt, endBy, periodTo, periodFrom, periodOf, periodItems, isPeriod, allPeriods};
 
 pub enum PeriodRead {
     Of(Period),
@@ -114,7 +109,7 @@ fn is_period(s: &[u8]) -> bool
 
 // Is each item of a comma list a period?
 pub fn all_periods(v: &[u8]) -> bool
-    ensures { λ r. ⌜ r ≡ allPeriods (periodsIn (now (v .entry))) ⌝ }
+    ensures { λ r. ⌜ r ≡ allPeriods (periodItems (now (v .entry))) ⌝ }
 {
     let mut from = 0;
     loop {

@@ -9,76 +9,76 @@ use Rattle.ascii.proofs.Bools.{clash}
 use Rattle.text.specs.Lines.{part}
 use Rattle.line.specs.Grammar.{ContentLine}
 use Rattle.line.specs.Reading.{lineOf, valueOf}
-use Rattle.values.specs.Period.{goodPeriods, periodsIn}
+use Rattle.values.specs.Period.{goodPeriods, periodItems}
 use Rattle.values.specs.declared.times.Context.{Context}
-use Rattle.values.specs.declared.period.Period.{Period}
-use Rattle.said.specs.Said.{sayingOf}
-use Rattle.said.specs.declared.Busy.{Busy}
-use Rattle.said.specs.declared.Saying.{Saying}
-use Rattle.said.specs.declared.Scope.{Scope}
+use Rattle.periods.specs.declared.Period.{Period}
+use Rattle.property.specs.Properties.{propertyValueOf}
+use Rattle.periods.specs.declared.BusyType.{BusyType}
+use Rattle.property.specs.declared.PropertyValue.{PropertyValue}
+use Rattle.property.specs.declared.Scope.{Scope}
 use Rattle.nesting.specs.Components.{Component}
 use Rattle.nesting.specs.Passing.{PropertyAt, InnerAt, NoItemAt, SkipsTo}
 use Rattle.nesting.specs.declared.items.Place.{Place}
-use Rattle.rules.specs.BusyTypes.{BusyPeriod, typed}
-use Rattle.rules.specs.Events.{eventBy, blockBy, Entry, event, block}
-use Rattle.rules.specs.declared.Gathered.{Gathered}
-use Rattle.rules.specs.declared.Event.{Event}
-use Rattle.rules.specs.declared.EventRead.{EventRead}
-use Rattle.rules.specs.declared.Block.{Block}
-use Rattle.rules.specs.declared.BlockRead.{BlockRead}
+use Rattle.periods.specs.BusyTypes.{BusyPeriod, typed}
+use Rattle.events.specs.Events.{eventBy, blockBy, Entry, event, block}
+use Rattle.events.specs.declared.ComponentProperties.{ComponentProperties}
+use Rattle.events.specs.declared.Event.{Event}
+use Rattle.events.specs.declared.EventRead.{EventRead}
+use Rattle.events.specs.declared.Block.{Block}
+use Rattle.events.specs.declared.BlockRead.{BlockRead}
 use Rattle.calendar.specs.Meaning.{periodsBy, eventEntry, blockEntry, entriesOf, scopeOf}
 use Rattle.calendar.specs.Periods.{periodsFrom, NextPeriod, NoPeriod}
-use Rattle.calendar.specs.Places.{blockPeriodsAt, gatheredAt, eventAt, blockAt, entryAt, componentsFrom}
+use Rattle.calendar.specs.Places.{blockPeriodsAt, componentPropertiesAt, eventAt, blockAt, entryAt, componentsFrom}
 use Rattle.calendar.proofs.Listed.{periods-all}
 use Rattle.calendar.proofs.Loops.{entry-here}
 use Rattle.calendar.proofs.Steps.{periods-property, periods-inner, periods-none, components-property, components-first, components-skip, components-none}
 use Rattle.calendar.proofs.Sizes.{eventAt-small}
-use Rattle.busy.specs.Sizes.{Small}
-use Rattle.busy.proofs.EventSizes.{event-sizes}
+use Rattle.recurrence.specs.Sizes.{Small}
+use Rattle.recurrence.proofs.EventSizes.{event-sizes}
 use Rattle.pieces.specs.BusyPeriods.{busyPeriod, eventPeriods, entryPeriods, busyPeriods}
-use Rattle.pieces.specs.Columns.{Noted}
+use Rattle.pieces.specs.Columns.{Stored}
 use Rattle.pieces.specs.Pieces.{pieceOf, piecesOf, busyPieces}
-use Rattle.pieces.proofs.Adding.{noted-none, noted-full, noted-as, noted-then, noted-few, noted-long}
-use Rattle.pieces.proofs.Clipping.{piecesOf-none, piecesOf-append}
-use Rattle.walk.specs.Walks.{valuePeriods, typeSaid}
+use Rattle.pieces.proofs.Columns.{stored-none, stored-full, stored-as, stored-then, stored-few, stored-long}
+use Rattle.pieces.proofs.Pieces.{piecesOf-none, piecesOf-append}
+use Rattle.walk.specs.Walks.{valuePeriods, typeGiven}
 use Rattle.walk.specs.declared.blocks.PeriodType.{PeriodType}
 
 -- n pieces stand in o: noting those of `left` behind them makes those of `whole` behind n₀ in o₀
 pub record Left (o₀ : List ℕ) (n₀ : ℕ) (whole : List BusyPeriod) (o : List ℕ) (n : ℕ) (left : List BusyPeriod) : Type 0 where
   pub few : n ≤ 513
   pub long : length o ≡ 1539
-  pub rest : (o′ : List ℕ) (r : ℕ) → Noted o n left o′ r → Noted o₀ n₀ whole o′ r
+  pub rest : (o′ : List ℕ) (r : ℕ) → Stored o n left o′ r → Stored o₀ n₀ whole o′ r
 
 pub left-start : (o : List ℕ) (n : ℕ) (whole : List BusyPeriod) → n ≤ 513 → length o ≡ 1539 → Left o n whole o n whole
 left-start o n whole h l = record { few = h; long = l; rest = λ o′ r m. m }
 
 module _ {o₀ : List ℕ} {n₀ : ℕ} {whole : List BusyPeriod} {o : List ℕ} {n : ℕ} {left : List BusyPeriod} (l : Left o₀ n₀ whole o n left) where
   -- the first of what is left is noted
-  pub left-then : {o′ : List ℕ} {r : ℕ} {ps qs : List BusyPeriod} → left ≡ ps ++ qs → Noted o n ps o′ r → Left o₀ n₀ whole o′ r qs
+  pub left-then : {o′ : List ℕ} {r : ℕ} {ps qs : List BusyPeriod} → left ≡ ps ++ qs → Stored o n ps o′ r → Left o₀ n₀ whole o′ r qs
   left-then e h =
       record {
-        few = noted-few h (l .few);
-        long = noted-long h ∙ l .long;
-        rest = λ o″ t m. l .rest o″ t (noted-as (noted-then h m) (sym e));
+        few = stored-few h (l .few);
+        long = stored-long h ∙ l .long;
+        rest = λ o″ t m. l .rest o″ t (stored-as (stored-then h m) (sym e));
       }
 
   -- the same is left
   pub left-same : {qs : List BusyPeriod} → left ≡ qs → Left o₀ n₀ whole o n qs
-  left-same e = record { few = l .few; long = l .long; rest = λ o″ t m. l .rest o″ t (noted-as m (sym e)) }
+  left-same e = record { few = l .few; long = l .long; rest = λ o″ t m. l .rest o″ t (stored-as m (sym e)) }
 
-  pub left-none : left ≡ [] → Noted o₀ n₀ whole o n
-  left-none e = l .rest o n (noted-as (noted-none o n) (sym e))
+  pub left-none : left ≡ [] → Stored o₀ n₀ whole o n
+  left-none e = l .rest o n (stored-as (stored-none o n) (sym e))
 
-  pub left-full : 513 ≤ n → Noted o₀ n₀ whole o n
-  left-full h = l .rest o n (noted-full o n left h)
+  pub left-full : 513 ≤ n → Stored o₀ n₀ whole o n
+  left-full h = l .rest o n (stored-full o n left h)
 
 -- ---- the periods of a value
 
 -- the pieces of the periods of one type from a place on
-pub pieces-from : Busy → ℕ → ℕ → List ℕ → ℕ → List BusyPeriod
+pub pieces-from : BusyType → ℕ → ℕ → List ℕ → ℕ → List BusyPeriod
 pieces-from y a b v at = piecesOf a b (typed y (periodsFrom v at))
 
-module _ (y : Busy) (a b : ℕ) (v : List ℕ) where
+module _ (y : BusyType) (a b : ℕ) (v : List ℕ) where
   value-pieces : pieces-from y a b v 0 ≡ piecesOf a b (valuePeriods y v)
   unfolding pieces-from valuePeriods
   value-pieces = refl
@@ -88,18 +88,18 @@ module _ (y : Busy) (a b : ℕ) (v : List ℕ) where
 
   module _ {o₀ : List ℕ} {n₀ : ℕ} {whole : List BusyPeriod} {o : List ℕ} {n : ℕ} (at : ℕ) (l : Left o₀ n₀ whole o n (pieces-from y a b v at)) where
     pub value-next : {p : Period} {next r : ℕ} {o′ : List ℕ} → NextPeriod v at p next
-        → Noted o n (pieceOf a b (busyPeriod y (p .start) (p .end))) o′ r → Left o₀ n₀ whole o′ r (pieces-from y a b v next)
+        → Stored o n (pieceOf a b (busyPeriod y (p .start) (p .end))) o′ r → Left o₀ n₀ whole o′ r (pieces-from y a b v next)
     unfolding pieces-from piecesOf
     value-next h m = left-then l (ap (λ (l : List Period). piecesOf a b (typed y l)) (h .periods)) m
 
-    pub value-end : NoPeriod v at → Noted o₀ n₀ whole o n
+    pub value-end : NoPeriod v at → Stored o₀ n₀ whole o n
     unfolding pieces-from piecesOf
     value-end h = left-none l (ap (λ (l : List Period). piecesOf a b (typed y l)) (h .periods))
 
 -- ---- a line
 
 -- the type of periods that are given
-typeOr : Busy → PeriodType → Busy
+typeOr : BusyType → PeriodType → BusyType
 typeOr y (PeriodType.Of b) = b
 typeOr y PeriodType.None = y
 
@@ -107,64 +107,64 @@ gives : PeriodType → Bool
 gives (PeriodType.Of b) = true
 gives PeriodType.None = false
 
-none-of : {A : Type 0} (y : Busy) → PeriodType.None ≡ PeriodType.Of y → A
+none-of : {A : Type 0} (y : BusyType) → PeriodType.None ≡ PeriodType.Of y → A
 unfolding gives
 none-of y h = clash refl (sym (ap gives h))
 
-said-periods : (o : Saying) (x : ContentLine) (y : Busy) → typeSaid o ≡ PeriodType.Of y → periodsBy o x ≡ typed y (goodPeriods (periodsIn (x .value)))
-unfolding typeSaid periodsBy typeOr
-said-periods Saying.Nothing x y h = none-of y h
-said-periods Saying.Unsupported x y h = none-of y h
-said-periods Saying.Bad x y h = none-of y h
-said-periods (Saying.Start t) x y h = none-of y h
-said-periods (Saying.End t) x y h = none-of y h
-said-periods (Saying.Lasts d) x y h = none-of y h
-said-periods (Saying.Repeats r) x y h = none-of y h
-said-periods (Saying.HasStatus s) x y h = none-of y h
-said-periods (Saying.Transparent t) x y h = none-of y h
-said-periods (Saying.HasPeriods b) x y h = ap (λ (t : PeriodType). typed (typeOr y t) (goodPeriods (periodsIn (x .value)))) h
+gives-periods : (o : PropertyValue) (x : ContentLine) (y : BusyType) → typeGiven o ≡ PeriodType.Of y → periodsBy o x ≡ typed y (goodPeriods (periodItems (x .value)))
+unfolding typeGiven periodsBy typeOr
+gives-periods PropertyValue.Nothing x y h = none-of y h
+gives-periods PropertyValue.Unsupported x y h = none-of y h
+gives-periods PropertyValue.Bad x y h = none-of y h
+gives-periods (PropertyValue.Start t) x y h = none-of y h
+gives-periods (PropertyValue.End t) x y h = none-of y h
+gives-periods (PropertyValue.Lasts d) x y h = none-of y h
+gives-periods (PropertyValue.Repeats r) x y h = none-of y h
+gives-periods (PropertyValue.HasStatus s) x y h = none-of y h
+gives-periods (PropertyValue.Transparent t) x y h = none-of y h
+gives-periods (PropertyValue.HasPeriods b) x y h = ap (λ (t : PeriodType). typed (typeOr y t) (goodPeriods (periodItems (x .value)))) h
 
-said-none : (o : Saying) (x : ContentLine) → typeSaid o ≡ PeriodType.None → periodsBy o x ≡ []
-unfolding typeSaid periodsBy
-said-none Saying.Nothing x h = refl
-said-none Saying.Unsupported x h = refl
-said-none Saying.Bad x h = refl
-said-none (Saying.Start t) x h = refl
-said-none (Saying.End t) x h = refl
-said-none (Saying.Lasts d) x h = refl
-said-none (Saying.Repeats r) x h = refl
-said-none (Saying.HasStatus s) x h = refl
-said-none (Saying.Transparent t) x h = refl
-said-none (Saying.HasPeriods b) x h = none-of b (sym h)
+gives-none : (o : PropertyValue) (x : ContentLine) → typeGiven o ≡ PeriodType.None → periodsBy o x ≡ []
+unfolding typeGiven periodsBy
+gives-none PropertyValue.Nothing x h = refl
+gives-none PropertyValue.Unsupported x h = refl
+gives-none PropertyValue.Bad x h = refl
+gives-none (PropertyValue.Start t) x h = refl
+gives-none (PropertyValue.End t) x h = refl
+gives-none (PropertyValue.Lasts d) x h = refl
+gives-none (PropertyValue.Repeats r) x h = refl
+gives-none (PropertyValue.HasStatus s) x h = refl
+gives-none (PropertyValue.Transparent t) x h = refl
+gives-none (PropertyValue.HasPeriods b) x h = none-of b (sym h)
 
-module _ (c : Context) (a b : ℕ) (x : List ℕ) {o : List ℕ} {n : ℕ} {y : Saying} {t : PeriodType} (e : y ≡ sayingOf c Scope.FreeBusy (lineOf x)) (q : t ≡ typeSaid y) where
-  pub line-noted : (z : Busy) {v o′ : List ℕ} {r : ℕ} → t ≡ PeriodType.Of z → v ≡ valueOf x → Noted o n (piecesOf a b (valuePeriods z v)) o′ r
-      → Noted o n (piecesOf a b (periodsBy (sayingOf c Scope.FreeBusy (lineOf x)) (lineOf x))) o′ r
+module _ (c : Context) (a b : ℕ) (x : List ℕ) {o : List ℕ} {n : ℕ} {y : PropertyValue} {t : PeriodType} (e : y ≡ propertyValueOf c Scope.FreeBusy (lineOf x)) (q : t ≡ typeGiven y) where
+  pub line-stored : (z : BusyType) {v o′ : List ℕ} {r : ℕ} → t ≡ PeriodType.Of z → v ≡ valueOf x → Stored o n (piecesOf a b (valuePeriods z v)) o′ r
+      → Stored o n (piecesOf a b (periodsBy (propertyValueOf c Scope.FreeBusy (lineOf x)) (lineOf x))) o′ r
   unfolding lineOf valuePeriods
-  line-noted z {v} h w m =
-      noted-as m
+  line-stored z {v} h w m =
+      stored-as m
       (ap (λ (l : List ℕ). piecesOf a b (typed z (periodsFrom l 0))) w
       ∙ ap (λ (l : List Period). piecesOf a b (typed z l)) (periods-all (valueOf x))
-      ∙ sym (ap (piecesOf a b) (said-periods (sayingOf c Scope.FreeBusy (lineOf x)) (lineOf x) z (sym (q ∙ ap typeSaid e) ∙ h))))
+      ∙ sym (ap (piecesOf a b) (gives-periods (propertyValueOf c Scope.FreeBusy (lineOf x)) (lineOf x) z (sym (q ∙ ap typeGiven e) ∙ h))))
 
-  pub line-left : t ≡ PeriodType.None → Noted o n (piecesOf a b (periodsBy (sayingOf c Scope.FreeBusy (lineOf x)) (lineOf x))) o n
+  pub line-left : t ≡ PeriodType.None → Stored o n (piecesOf a b (periodsBy (propertyValueOf c Scope.FreeBusy (lineOf x)) (lineOf x))) o n
   line-left h =
-      noted-as (noted-none o n)
-      (sym (ap (piecesOf a b) (said-none (sayingOf c Scope.FreeBusy (lineOf x)) (lineOf x) (sym (q ∙ ap typeSaid e) ∙ h)) ∙ piecesOf-none a b))
+      stored-as (stored-none o n)
+      (sym (ap (piecesOf a b) (gives-none (propertyValueOf c Scope.FreeBusy (lineOf x)) (lineOf x) (sym (q ∙ ap typeGiven e) ∙ h)) ∙ piecesOf-none a b))
 
 -- ---- a block
 
 module _ (c : Context) (a b : ℕ) (s : List ℕ) {o₀ : List ℕ} {n₀ : ℕ} {whole : List BusyPeriod} {o : List ℕ} {n : ℕ} (at : ℕ)
     (l : Left o₀ n₀ whole o n (piecesOf a b (blockPeriodsAt c s at))) where
   pub block-property : {e next r : ℕ} {o′ : List ℕ} → PropertyAt s at e next
-      → Noted o n (piecesOf a b (periodsBy (sayingOf c Scope.FreeBusy (lineOf (part s at e))) (lineOf (part s at e)))) o′ r
+      → Stored o n (piecesOf a b (periodsBy (propertyValueOf c Scope.FreeBusy (lineOf (part s at e))) (lineOf (part s at e)))) o′ r
       → Left o₀ n₀ whole o′ r (piecesOf a b (blockPeriodsAt c s next))
   block-property {e} {next} h m = left-then l (ap (piecesOf a b) (periods-property c h) ∙ piecesOf-append a b _ _) m
 
   pub block-inner : {e next j : ℕ} {p : Place} → InnerAt s at e next → SkipsTo s next j p → Left o₀ n₀ whole o n (piecesOf a b (blockPeriodsAt c s (p .at)))
   block-inner h k = left-same l (ap (piecesOf a b) (periods-inner c h k))
 
-  pub block-end : NoItemAt s at → Noted o₀ n₀ whole o n
+  pub block-end : NoItemAt s at → Stored o₀ n₀ whole o n
   block-end h = left-none l (ap (piecesOf a b) (periods-none c h) ∙ piecesOf-none a b)
 
 -- ---- an entry
@@ -188,14 +188,14 @@ unfolding busyPeriods
 no-entry = refl
 
 -- what its lines say together, by its scope
-module _ (c : Context) (s : List ℕ) (at : ℕ) {y : Scope} {g : Gathered} (w : g ≡ gatheredAt c y s at) where
+module _ (c : Context) (s : List ℕ) (at : ℕ) {y : Scope} {g : ComponentProperties} (w : g ≡ componentPropertiesAt c y s at) where
   event-read : {x : EventRead} → y ≡ Scope.Event → x ≡ eventBy g → x ≡ eventAt c s at
   unfolding eventAt
-  event-read t q = q ∙ ap eventBy (w ∙ ap (λ (z : Scope). gatheredAt c z s at) t)
+  event-read t q = q ∙ ap eventBy (w ∙ ap (λ (z : Scope). componentPropertiesAt c z s at) t)
 
   block-read : {x : BlockRead} → y ≡ Scope.FreeBusy → x ≡ blockBy g → x ≡ blockAt c s at
   unfolding blockAt
-  block-read t q = q ∙ ap blockBy (w ∙ ap (λ (z : Scope). gatheredAt c z s at) t)
+  block-read t q = q ∙ ap blockBy (w ∙ ap (λ (z : Scope). componentPropertiesAt c z s at) t)
 
   pub entry-small : (e : Event) {x : EventRead} → y ≡ Scope.Event → x ≡ eventBy g → x ≡ EventRead.Of e → Small e
   entry-small e t q h = event-sizes (eventAt-small c s at e (sym (event-read t q) ∙ h))
@@ -209,35 +209,35 @@ block-as : (c : Context) (s : List ℕ) (at : ℕ) {x y : BlockRead} → x ≡ b
 unfolding entryAt
 block-as c s at q h = ap (λ (w : BlockRead). blockEntry w (blockPeriodsAt c s at)) (sym h ∙ q)
 
-nothing : (a b : ℕ) {o : List ℕ} {n : ℕ} → Noted o n (piecesOf a b []) o n
-nothing a b {o} {n} = noted-as (noted-none o n) (sym (piecesOf-none a b))
+nothing : (a b : ℕ) {o : List ℕ} {n : ℕ} → Stored o n (piecesOf a b []) o n
+nothing a b {o} {n} = stored-as (stored-none o n) (sym (piecesOf-none a b))
 
 module _ (c : Context) (a b : ℕ) (s : List ℕ) (at : ℕ) {o : List ℕ} {n : ℕ} {y : Scope} where
   -- what is read here is the entry
   read-as : (z : Scope) → y ≡ z → {xs : List Entry} {ps : List BusyPeriod} {o′ : List ℕ} {r : ℕ} → busyPeriods xs ≡ ps → xs ≡ entryAt c z s at
-      → Noted o n (piecesOf a b ps) o′ r → Noted o n (piecesOf a b (busyPeriods (entryAt c y s at))) o′ r
+      → Stored o n (piecesOf a b ps) o′ r → Stored o n (piecesOf a b (busyPeriods (entryAt c y s at))) o′ r
   read-as z t e q m =
-      noted-as m (ap (piecesOf a b) (sym e ∙ ap busyPeriods q) ∙ ap (λ (x : Scope). piecesOf a b (busyPeriods (entryAt c x s at))) (sym t))
+      stored-as m (ap (piecesOf a b) (sym e ∙ ap busyPeriods q) ∙ ap (λ (x : Scope). piecesOf a b (busyPeriods (entryAt c x s at))) (sym t))
 
   -- an event
-  module _ {g : Gathered} {x : EventRead} (w : g ≡ gatheredAt c y s at) (t : y ≡ Scope.Event) (q : x ≡ eventBy g) where
-    pub entry-event : (e : Event) {o′ : List ℕ} {r : ℕ} → x ≡ EventRead.Of e → Noted o n (piecesOf a b (eventPeriods e)) o′ r
-        → Noted o n (piecesOf a b (busyPeriods (entryAt c y s at))) o′ r
+  module _ {g : ComponentProperties} {x : EventRead} (w : g ≡ componentPropertiesAt c y s at) (t : y ≡ Scope.Event) (q : x ≡ eventBy g) where
+    pub entry-event : (e : Event) {o′ : List ℕ} {r : ℕ} → x ≡ EventRead.Of e → Stored o n (piecesOf a b (eventPeriods e)) o′ r
+        → Stored o n (piecesOf a b (busyPeriods (entryAt c y s at))) o′ r
     entry-event e h m = read-as Scope.Event t (one-event e) (event-as c s at (event-read c s at w t q) h) m
 
-    pub entry-no-event : x ≡ EventRead.Broken → Noted o n (piecesOf a b (busyPeriods (entryAt c y s at))) o n
+    pub entry-no-event : x ≡ EventRead.Broken → Stored o n (piecesOf a b (busyPeriods (entryAt c y s at))) o n
     entry-no-event h = read-as Scope.Event t no-entry (event-as c s at (event-read c s at w t q) h) (nothing a b)
 
   -- a block
-  module _ {g : Gathered} {x : BlockRead} (w : g ≡ gatheredAt c y s at) (t : y ≡ Scope.FreeBusy) (q : x ≡ blockBy g) where
-    pub entry-block : (k : Block) {o′ : List ℕ} {r : ℕ} → x ≡ BlockRead.Of k → Noted o n (piecesOf a b (blockPeriodsAt c s at)) o′ r
-        → Noted o n (piecesOf a b (busyPeriods (entryAt c y s at))) o′ r
+  module _ {g : ComponentProperties} {x : BlockRead} (w : g ≡ componentPropertiesAt c y s at) (t : y ≡ Scope.FreeBusy) (q : x ≡ blockBy g) where
+    pub entry-block : (k : Block) {o′ : List ℕ} {r : ℕ} → x ≡ BlockRead.Of k → Stored o n (piecesOf a b (blockPeriodsAt c s at)) o′ r
+        → Stored o n (piecesOf a b (busyPeriods (entryAt c y s at))) o′ r
     entry-block k h m = read-as Scope.FreeBusy t (one-block k (blockPeriodsAt c s at)) (block-as c s at (block-read c s at w t q) h) m
 
-    pub entry-no-block : x ≡ BlockRead.Broken → Noted o n (piecesOf a b (busyPeriods (entryAt c y s at))) o n
+    pub entry-no-block : x ≡ BlockRead.Broken → Stored o n (piecesOf a b (busyPeriods (entryAt c y s at))) o n
     entry-no-block h = read-as Scope.FreeBusy t no-entry (block-as c s at (block-read c s at w t q) h) (nothing a b)
 
-  pub entry-other : y ≡ Scope.Other → Noted o n (piecesOf a b (busyPeriods (entryAt c y s at))) o n
+  pub entry-other : y ≡ Scope.Other → Stored o n (piecesOf a b (busyPeriods (entryAt c y s at))) o n
   unfolding entryAt
   entry-other t = read-as Scope.Other t no-entry refl (nothing a b)
 
@@ -276,7 +276,7 @@ module _ {c : Context} {a b : ℕ} {s o₀ : List ℕ} {whole : List BusyPeriod}
       }
 
   pub going-inner : {e next r : ℕ} {o′ v : List ℕ} {x : Scope} {p : Place} → InnerAt s at e next → v ≡ valueOf (part s at e) → x ≡ scopeOf v
-      → Noted o n (piecesOf a b (busyPeriods (entryAt c x s next))) o′ r → SkipsTo s next (number + 1) p
+      → Stored o n (piecesOf a b (busyPeriods (entryAt c x s next))) o′ r → SkipsTo s next (number + 1) p
       → Going c a b s o₀ whole o′ r (p .at) (p .number)
   going-inner {e} {next} {x = x} {p = p} h q w m k =
       record {
@@ -291,5 +291,5 @@ module _ {c : Context} {a b : ℕ} {s o₀ : List ℕ} {whole : List BusyPeriod}
             m;
       }
 
-  pub going-end : NoItemAt s at → Noted o₀ 0 whole o n
+  pub going-end : NoItemAt s at → Stored o₀ 0 whole o n
   going-end h = left-none (g .still) (ap (piecesIn c a b) (components-none number h) ∙ no-entries c a b)

@@ -9,25 +9,25 @@ use calendar::component;
 use calendar::contents;
 use calendar::places;
 use calendar::places::Below;
+use events::BlockRead;
+use events::ComponentProperties;
+use events::EventRead;
+use events::rules;
 use nesting::items;
 use nesting::items::Item;
-use pieces::noting;
-use rules::BlockRead;
-use rules::EventRead;
-use rules::Gathered;
-use rules::events;
-use said::Scope;
+use pieces::storing;
+use property::Scope;
 use values::times::Context;
 ghost use mathlib.Core.Path.{_≡_};
 ghost use mathlib.Core.List.{[]};
 ghost use Prim.Native.Nat.{_+_, _≤_, _<_};
 ghost use lib.ListN.{length};
 ghost use Rattle.calendar.specs.Meaning.{byRules, byValues, faultOf};
-ghost use Rattle.calendar.specs.Places.{gatheredAt};
-ghost use Rattle.walk.specs.Walks.{NotesRead, NotesFrom, NotesContents};
+ghost use Rattle.calendar.specs.Places.{componentPropertiesAt};
+ghost use Rattle.walk.specs.Walks.{StoresRead, StoresFrom, StoresContents};
 
 // What one walk over the components of a calendar tells.
-pub struct ContentsNoted {
+pub struct ContentsStored {
     // The lowest of refusals 8 to 10.
     pub fault: Fault,
     // How many pieces were noted.
@@ -35,7 +35,7 @@ pub struct ContentsNoted {
 }
 
 // What is known with one component more.
-struct ReadNoted {
+struct ReadStored {
     // The first component that breaks a rule.
     rules: RuleCheck,
     // How many pieces stand.
@@ -44,7 +44,7 @@ struct ReadNoted {
 
 // What the component of this scope and line, whose items begin here, adds: g is what its lines say together.
 // Where 513 pieces stand already it adds no piece.
-fn note_read(
+fn store_read(
     column: &mut [u32],
     n: usize,
     rules: RuleCheck,
@@ -53,55 +53,55 @@ fn note_read(
     at: usize,
     c: Context,
     scope: Scope,
-    g: Gathered,
+    g: ComponentProperties,
     a: u64,
     b: u64,
-) -> ReadNoted
+) -> ReadStored
     requires { ⌜ length (now column) ≡ 1539 ⌝ }
     requires { ⌜ n ≤ 513 ⌝ }
     requires { ⌜ c .shift ≤ 100800 ⌝ }
     requires { ⌜ a < b ⌝ }
     requires { ⌜ b ≤ 4102444799 ⌝ }
-    requires { ⌜ g ≡ gatheredAt c scope (now s) at ⌝ }
-    ensures { λ r. ⌜ NotesRead c scope g (now (s .entry)) at number a b rules n (now (column .entry)) (now (column .exit)) r ⌝ }
+    requires { ⌜ g ≡ componentPropertiesAt c scope (now s) at ⌝ }
+    ensures { λ r. ⌜ StoresRead c scope g (now (s .entry)) at number a b rules n (now (column .entry)) (now (column .exit)) r ⌝ }
 {
     match scope {
-        Scope::Event => match events::event_by(g) {
-            EventRead::Of(e) => ReadNoted {
+        Scope::Event => match rules::event_by(g) {
+            EventRead::Of(e) => ReadStored {
                 rules,
-                count: noting::note_event(column, n, e, a, b),
+                count: storing::store_event(column, n, e, a, b),
             },
-            EventRead::Broken => ReadNoted {
+            EventRead::Broken => ReadStored {
                 rules: contents::broken_else(rules, number),
                 count: n,
             },
         },
-        Scope::FreeBusy => match events::block_by(g) {
-            BlockRead::Of(_) => ReadNoted {
+        Scope::FreeBusy => match rules::block_by(g) {
+            BlockRead::Of(_) => ReadStored {
                 rules,
-                count: blocks::note_block(column, n, s, at, c, a, b),
+                count: blocks::store_block(column, n, s, at, c, a, b),
             },
-            BlockRead::Broken => ReadNoted {
+            BlockRead::Broken => ReadStored {
                 rules: contents::broken_else(rules, number),
                 count: n,
             },
         },
-        Scope::Other => ReadNoted { rules, count: n },
+        Scope::Other => ReadStored { rules, count: n },
     }
 }
 
 // The answer where this was found and so many pieces stand.
-fn answer(values: ValueCheck, rules: RuleCheck, count: usize) -> ContentsNoted
+fn answer(values: ValueCheck, rules: RuleCheck, count: usize) -> ContentsStored
     ensures { λ r. ⌜ (r .fault ≡ faultOf (byValues values (byRules rules []))) × (r .count ≡ count) ⌝ }
 {
-    ContentsNoted {
+    ContentsStored {
         fault: contents::fault_by(values, rules),
         count,
     }
 }
 
 // The components that stand side by side from here on: all of them are read, whatever room is left, up to a value that is at fault.
-fn note_contents_from(
+fn store_contents_from(
     column: &mut [u32],
     s: &[u8],
     from: usize,
@@ -109,14 +109,14 @@ fn note_contents_from(
     c: Context,
     a: u64,
     b: u64,
-) -> ContentsNoted
+) -> ContentsStored
     requires { ⌜ length (now column) ≡ 1539 ⌝ }
     requires { ⌜ from ≤ length (now s) ⌝ }
     requires { ⌜ first ≤ from + 1 ⌝ }
     requires { ⌜ c .shift ≤ 100800 ⌝ }
     requires { ⌜ a < b ⌝ }
     requires { ⌜ b ≤ 4102444799 ⌝ }
-    ensures { λ r. ⌜ NotesFrom c (now (s .entry)) from first a b (now (column .entry)) (now (column .exit)) r ⌝ }
+    ensures { λ r. ⌜ StoresFrom c (now (s .entry)) from first a b (now (column .entry)) (now (column .exit)) r ⌝ }
 {
     let mut rules = RuleCheck::Good;
     let mut n: usize = 0;
@@ -134,9 +134,9 @@ fn note_contents_from(
                 let values = r.fault;
                 match values {
                     ValueCheck::Good => {
-                        let g = r.gathered;
+                        let g = r.properties;
                         let p = r.behind;
-                        let k = note_read(column, n, rules, number, s, next, c, scope, g, a, b);
+                        let k = store_read(column, n, rules, number, s, next, c, scope, g, a, b);
                         rules = k.rules;
                         n = k.count;
                         at = p.at;
@@ -152,16 +152,16 @@ fn note_contents_from(
 }
 
 // Refusals 8 to 10, and the busy pieces of the calendar in the range.
-pub fn note_contents(column: &mut [u32], s: &[u8], c: Context, a: u64, b: u64) -> ContentsNoted
+pub fn store_contents(column: &mut [u32], s: &[u8], c: Context, a: u64, b: u64) -> ContentsStored
     requires { ⌜ length (now column) ≡ 1539 ⌝ }
     requires { ⌜ c .shift ≤ 100800 ⌝ }
     requires { ⌜ a < b ⌝ }
     requires { ⌜ b ≤ 4102444799 ⌝ }
-    ensures { λ r. ⌜ NotesContents c (now (s .entry)) a b (now (column .entry)) (now (column .exit)) r ⌝ }
+    ensures { λ r. ⌜ StoresContents c (now (s .entry)) a b (now (column .entry)) (now (column .exit)) r ⌝ }
 {
     match places::items_below(s) {
-        Below::At(at, number) => note_contents_from(column, s, at, number, c, a, b),
-        Below::None => ContentsNoted {
+        Below::At(at, number) => store_contents_from(column, s, at, number, c, a, b),
+        Below::None => ContentsStored {
             fault: Fault::None,
             count: 0,
         },

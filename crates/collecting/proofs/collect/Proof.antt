@@ -6,9 +6,9 @@ use mir.ValLaws.{toZ-ofZ}
 use Rattle.calendar.specs.declared.Fault.{Fault}
 use Rattle.refusals.specs.Stages.{sizeFault}
 use Rattle.refusals.specs.declared.OffsetRead.{OffsetRead}
-use Rattle.refusals.proofs.Passing.{sizes-room}
+use Rattle.refusals.proofs.Stages.{sizes-room}
 use Rattle.collecting.specs.CollectStages.{callRead}
-use Rattle.collecting.proofs.CollectCalls.{call-given, call-bounds, collect-refused-1, collect-refused-sizes, collect-sizes-passed}
+use Rattle.collecting.proofs.Collecting.{call-given, call-bounds, collect-refused-1, collect-refused-sizes, collect-sizes-passed}
 use borrow.Author.Needs.{needs}
 use Rattle.collecting.proofs.collect.Statement.{statement}
 use Rattle.collecting.proofs.collect.Tie as tie

@@ -2,7 +2,7 @@
 use mir.Syntax.{w64}
 use mir.ValLaws.{toZ-ofZ}
 use Rattle.collecting.specs.ReportCalls.{rangeGood, stampGood}
-use Rattle.collecting.proofs.CollectCalls.{call-good, call-bad}
+use Rattle.collecting.proofs.Collecting.{call-good, call-bad}
 use borrow.Author.Needs.{needs}
 use Rattle.collecting.proofs.read_call.Statement.{statement}
 use Rattle.collecting.proofs.read_call.Tie as tie

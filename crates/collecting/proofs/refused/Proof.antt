@@ -1,5 +1,5 @@
 -- Each of the three tables is empty.
-use Rattle.collecting.proofs.CollectTables.{refuses}
+use Rattle.collecting.proofs.CollectStages.{refuses}
 use borrow.Author.Needs.{needs}
 use Rattle.collecting.proofs.refused.Statement.{statement}
 use Rattle.collecting.proofs.refused.Tie as tie

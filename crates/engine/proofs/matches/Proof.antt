@@ -7,9 +7,9 @@ use Rattle.calendar.specs.declared.Fault.{Fault}
 use Rattle.refusals.specs.Offsets.{offsetRead}
 use Rattle.refusals.specs.Stages.{sizeFault}
 use Rattle.refusals.specs.declared.OffsetRead.{OffsetRead}
-use Rattle.refusals.proofs.Passing.{sizes-room}
+use Rattle.refusals.proofs.Stages.{sizes-room}
 use Rattle.refusals.proofs.Offsets.{shift-bound, offset-given}
-use Rattle.engine.proofs.Outcomes.{match-refused-1, match-refused-sizes, match-sizes-passed}
+use Rattle.engine.proofs.MatchStages.{match-refused-1, match-refused-sizes, match-sizes-passed}
 use borrow.Author.Needs.{needs}
 use Rattle.engine.proofs.matches.Statement.{statement}
 use Rattle.engine.proofs.matches.Tie as tie

@@ -2,7 +2,7 @@
 use mathlib.Core.List.{[]}
 use mir.Syntax.{w64}
 use mir.ValLaws.{toZ-ofZ}
-use Rattle.engine.proofs.ReportStages.{told-writable, report-refused, report-written, reported-at}
+use Rattle.engine.proofs.ReportingLaws.{told-writable, report-refused, report-written, reported-at}
 use borrow.Author.Needs.{needs}
 use Rattle.engine.proofs.report.Statement.{statement}
 use Rattle.engine.proofs.report.Tie as tie

@@ -1,7 +1,7 @@
 -- The call keeps its promise, and its answer is spread as it says.
 use mir.Syntax.{w64}
 use mir.ValLaws.{toZ-ofZ}
-use Rattle.lokuwaine.proofs.Spreads.{match-spread}
+use Rattle.lokuwaine.proofs.Spreading.{match-spread}
 use borrow.Author.Needs.{needs}
 use Rattle.lokuwaine.proofs.lokuwaine_match.Statement.{statement}
 use Rattle.lokuwaine.proofs.lokuwaine_match.Tie as tie

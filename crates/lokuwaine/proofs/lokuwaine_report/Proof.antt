@@ -1,7 +1,7 @@
 -- The call keeps its promise, and its answer is spread as it says.
 use mir.Syntax.{w64}
 use mir.ValLaws.{toZ-ofZ}
-use Rattle.lokuwaine.proofs.Spreads.{report-spread}
+use Rattle.lokuwaine.proofs.Spreading.{report-spread}
 use borrow.Author.Needs.{needs}
 use Rattle.lokuwaine.proofs.lokuwaine_report.Statement.{statement}
 use Rattle.lokuwaine.proofs.lokuwaine_report.Tie as tie

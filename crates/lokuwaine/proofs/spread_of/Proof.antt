@@ -1,5 +1,5 @@
 -- Each arm is one law of the definition.
-use Rattle.lokuwaine.proofs.Spreads.{spread-verdict, spread-length, spread-refused}
+use Rattle.lokuwaine.proofs.Spreading.{spread-verdict, spread-length, spread-refused}
 use borrow.Author.Needs.{needs}
 use Rattle.lokuwaine.proofs.spread_of.Statement.{statement}
 use Rattle.lokuwaine.proofs.spread_of.Tie as tie

@@ -10,7 +10,7 @@ use borrow.Fn.Kinds.{In}
 use borrow.Fn.PlainCycle.{Measures, is, falls, and}
 use Rattle.line.proofs.read.value.Reads as value-reads
 use Rattle.line.proofs.check.next_good.Reads as next-good-reads
-use Rattle.marks.proofs.meets.Reads as meets-reads
+use Rattle.delimiters.proofs.nesting_step.Reads as nesting-step-reads
 use Rattle.nesting.proofs.+component.{statement}
 use Rattle.nesting.proofs.+component.Tie.{close}
 use Rattle.nesting.proofs.component.Reads as component
@@ -29,7 +29,7 @@ component-below t =
 
 abbrev claims : ℕ → component-lts.Claims
 claims t =
-    (next-good-reads.Asked, next-good-reads.Learnt, meets-reads.Asked, meets-reads.Learnt, value-reads.Asked, value-reads.Learnt, component-below t, component.Post)
+    (next-good-reads.Asked, next-good-reads.Learnt, nesting-step-reads.Asked, nesting-step-reads.Learnt, value-reads.Asked, value-reads.Learnt, component-below t, component.Post)
 
 abbrev component-Inv-loop : component-lts.InvT-loop
 component-Inv-loop s name from first begun left at₀ number₀ count₀ at number count = Reading s name from first begun left at number count
@@ -76,11 +76,11 @@ component-add-after t c = let h = good-line _ (c .before .before .before .before
 component-add-more : (t : ℕ) → component-lts.Need-add-more (claims t) (component-at t) component.Post component-Inv-loop component-μ-loop
 component-add-more t c = omega (arith, c .before .before .before .before .before .loop .inv .counted)
 
-component-sub-meets : (t : ℕ) → component-lts.Need-sub-meets (claims t) (component-at t) component.Post component-Inv-loop component-μ-loop
-component-sub-meets t c = omega (arith, c .before .before .before .before .before .before .before .before .pre .1 .2)
+component-sub-nesting-step : (t : ℕ) → component-lts.Need-sub-nesting-step (claims t) (component-at t) component.Post component-Inv-loop component-μ-loop
+component-sub-nesting-step t c = omega (arith, c .before .before .before .before .before .before .before .before .pre .1 .2)
 
-component-meets-requires : (t : ℕ) → component-lts.Need-meets-requires (claims t) (component-at t) component.Post component-Inv-loop component-μ-loop
-component-meets-requires t c κs = search needs
+component-nesting-step-requires : (t : ℕ) → component-lts.Need-nesting-step-requires (claims t) (component-at t) component.Post component-Inv-loop component-μ-loop
+component-nesting-step-requires t c κs = search needs
 
 component-enum-told-3 : (t : ℕ) → component-lts.Need-enum-told-3 (claims t) (component-at t) component.Post component-Inv-loop component-μ-loop
 component-enum-told-3 t c = search needs
@@ -89,10 +89,10 @@ component-value-requires : (t : ℕ) → component-lts.Need-value-requires (clai
 component-value-requires t c κs = search needs
 
 component-sub-component : (t : ℕ) → component-lts.Need-sub-component (claims t) (component-at t) component.Post component-Inv-loop component-μ-loop
-component-sub-component t c = reading-room (c .before .before .before .before .before .before .before .before .before .loop .inv) (good-line _ (c .before .before .before .before .before .before .before .before .next-good .ensures) (c .before .before .before .before .before .before .e .given .1)) _ (c .before .before .before .meets .ensures) (c .before .enum-told3 .given .1) .some
+component-sub-component t c = reading-room (c .before .before .before .before .before .before .before .before .before .loop .inv) (good-line _ (c .before .before .before .before .before .before .before .before .next-good .ensures) (c .before .before .before .before .before .before .e .given .1)) _ (c .before .before .before .nesting-step .ensures) (c .before .enum-told3 .given .1) .some
 
 component-component-requires : (t : ℕ) → component-lts.Need-component-requires (claims t) (component-at t) component.Post component-Inv-loop component-μ-loop
-component-component-requires t c κs = let r = reading-room (c .before .before .before .before .before .before .before .before .before .loop .inv) (good-line _ (c .before .before .before .before .before .before .before .before .next-good .ensures) (c .before .before .before .before .before .before .e .given .1)) _ (c .before .before .before .meets .ensures) (c .before .enum-told3 .given .1) in (omega (arith, r .some, c .before .before .before .before .before .before .before .before .before .before .before .before .pre .0), (checked-next (c .before .before .before .before .before .before .before .before .before .loop .inv .checked) (good-line _ (c .before .before .before .before .before .before .before .before .next-good .ensures) (c .before .before .before .before .before .before .e .given .1)), r .few, omega (arith, c .before .before .before .before .before .before .before .before .before .before .before .before .pre .1 .2)))
+component-component-requires t c κs = let r = reading-room (c .before .before .before .before .before .before .before .before .before .loop .inv) (good-line _ (c .before .before .before .before .before .before .before .before .next-good .ensures) (c .before .before .before .before .before .before .e .given .1)) _ (c .before .before .before .nesting-step .ensures) (c .before .enum-told3 .given .1) in (omega (arith, r .some, c .before .before .before .before .before .before .before .before .before .before .before .before .pre .0), (checked-next (c .before .before .before .before .before .before .before .before .before .loop .inv .checked) (good-line _ (c .before .before .before .before .before .before .before .before .next-good .ensures) (c .before .before .before .before .before .before .e .given .1)), r .few, omega (arith, c .before .before .before .before .before .before .before .before .before .before .before .before .pre .1 .2)))
 
 component-enum-known-a : (t : ℕ) → component-lts.Need-enum-known-a (claims t) (component-at t) component.Post component-Inv-loop component-μ-loop
 component-enum-known-a t c = search needs
@@ -101,19 +101,19 @@ component-loop-less : (t : ℕ) → component-lts.Need-loop-less (claims t) (com
 component-loop-less t c = let h = good-line _ (c .before .before .before .before .before .before .before .before .before .before .before .before .next-good .ensures) (c .before .before .before .before .before .before .before .before .before .before .e .given .1) in let y = closes-at _ _ _ (c .before .before .before .component .ensures) (c .before .a .given .1) in omega (arith, h .line .starts, y .onward, y .checked .inside)
 
 component-loop-again : (t : ℕ) → component-lts.Need-loop-again (claims t) (component-at t) component.Post component-Inv-loop component-μ-loop
-component-loop-again t c = reading-inner (c .before .before .before .before .before .before .before .before .before .before .before .before .before .loop .inv) (good-line _ (c .before .before .before .before .before .before .before .before .before .before .before .before .next-good .ensures) (c .before .before .before .before .before .before .before .before .before .before .e .given .1)) _ (c .before .before .before .before .before .before .before .meets .ensures) (c .before .before .before .before .before .enum-told3 .given .1) _ (c .before .before .before .before .value .ensures) _ (c .before .before .before .component .ensures) _ _ _ (c .before .a .given .1)
+component-loop-again t c = reading-inner (c .before .before .before .before .before .before .before .before .before .before .before .before .before .loop .inv) (good-line _ (c .before .before .before .before .before .before .before .before .before .before .before .before .next-good .ensures) (c .before .before .before .before .before .before .before .before .before .before .e .given .1)) _ (c .before .before .before .before .before .before .before .nesting-step .ensures) (c .before .before .before .before .before .enum-told3 .given .1) _ (c .before .before .before .before .value .ensures) _ (c .before .before .before .component .ensures) _ _ _ (c .before .a .given .1)
 
 component-enum-known-j : (t : ℕ) → component-lts.Need-enum-known-j (claims t) (component-at t) component.Post component-Inv-loop component-μ-loop
 component-enum-known-j t c = search needs
 
 component-returns-3 : (t : ℕ) → component-lts.Need-returns-3 (claims t) (component-at t) component.Post component-Inv-loop component-μ-loop
-component-returns-3 t c = reading-inner-breaks (c .before .before .before .before .before .before .before .before .before .before .before .before .before .loop .inv) (good-line _ (c .before .before .before .before .before .before .before .before .before .before .before .before .next-good .ensures) (c .before .before .before .before .before .before .before .before .before .before .e .given .1)) _ (c .before .before .before .before .before .before .before .meets .ensures) (c .before .before .before .before .before .enum-told3 .given .1) _ (c .before .before .before .before .value .ensures) _ (c .before .before .before .component .ensures) _ _ (c .before .j .given .1)
+component-returns-3 t c = reading-inner-breaks (c .before .before .before .before .before .before .before .before .before .before .before .before .before .loop .inv) (good-line _ (c .before .before .before .before .before .before .before .before .before .before .before .before .next-good .ensures) (c .before .before .before .before .before .before .before .before .before .before .e .given .1)) _ (c .before .before .before .before .before .before .before .nesting-step .ensures) (c .before .before .before .before .before .enum-told3 .given .1) _ (c .before .before .before .before .value .ensures) _ (c .before .before .before .component .ensures) _ _ (c .before .j .given .1)
 
 component-enum-known-j-2 : (t : ℕ) → component-lts.Need-enum-known-j-2 (claims t) (component-at t) component.Post component-Inv-loop component-μ-loop
 component-enum-known-j-2 t c = search needs
 
 component-returns-4 : (t : ℕ) → component-lts.Need-returns-4 (claims t) (component-at t) component.Post component-Inv-loop component-μ-loop
-component-returns-4 t c = reading-inner-bad (c .before .before .before .before .before .before .before .before .before .before .before .before .before .loop .inv) (good-line _ (c .before .before .before .before .before .before .before .before .before .before .before .before .next-good .ensures) (c .before .before .before .before .before .before .before .before .before .before .e .given .1)) _ (c .before .before .before .before .before .before .before .meets .ensures) (c .before .before .before .before .before .enum-told3 .given .1) _ (c .before .before .before .before .value .ensures) _ (c .before .before .before .component .ensures) _ (c .before .j2 .given .1)
+component-returns-4 t c = reading-inner-bad (c .before .before .before .before .before .before .before .before .before .before .before .before .before .loop .inv) (good-line _ (c .before .before .before .before .before .before .before .before .before .before .before .before .next-good .ensures) (c .before .before .before .before .before .before .before .before .before .before .e .given .1)) _ (c .before .before .before .before .before .before .before .nesting-step .ensures) (c .before .before .before .before .before .enum-told3 .given .1) _ (c .before .before .before .before .value .ensures) _ (c .before .before .before .component .ensures) _ (c .before .j2 .given .1)
 
 component-enum-told-4 : (t : ℕ) → component-lts.Need-enum-told-4 (claims t) (component-at t) component.Post component-Inv-loop component-μ-loop
 component-enum-told-4 t c = search needs
@@ -122,19 +122,19 @@ component-loop-less-2 : (t : ℕ) → component-lts.Need-loop-less-2 (claims t) 
 component-loop-less-2 t c = let h = good-line _ (c .before .before .before .before .before .before .before .next-good .ensures) (c .before .before .before .before .before .e .given .1) in omega (arith, h .line .starts, h .line .inside)
 
 component-loop-again-2 : (t : ℕ) → component-lts.Need-loop-again-2 (claims t) (component-at t) component.Post component-Inv-loop component-μ-loop
-component-loop-again-2 t c = reading-stays (c .before .before .before .before .before .before .before .before .loop .inv) (good-line _ (c .before .before .before .before .before .before .before .next-good .ensures) (c .before .before .before .before .before .e .given .1)) _ (c .before .before .meets .ensures) (c .enum-told4 .given .1)
+component-loop-again-2 t c = reading-stays (c .before .before .before .before .before .before .before .before .loop .inv) (good-line _ (c .before .before .before .before .before .before .before .next-good .ensures) (c .before .before .before .before .before .e .given .1)) _ (c .before .before .nesting-step .ensures) (c .enum-told4 .given .1)
 
 component-enum-told-5 : (t : ℕ) → component-lts.Need-enum-told-5 (claims t) (component-at t) component.Post component-Inv-loop component-μ-loop
 component-enum-told-5 t c = search needs
 
 component-returns-5 : (t : ℕ) → component-lts.Need-returns-5 (claims t) (component-at t) component.Post component-Inv-loop component-μ-loop
-component-returns-5 t c = reading-closes (c .before .before .before .before .before .before .before .before .loop .inv) (good-line _ (c .before .before .before .before .before .before .before .next-good .ensures) (c .before .before .before .before .before .e .given .1)) _ (c .before .before .meets .ensures) (c .enum-told5 .given .1)
+component-returns-5 t c = reading-closes (c .before .before .before .before .before .before .before .before .loop .inv) (good-line _ (c .before .before .before .before .before .before .before .next-good .ensures) (c .before .before .before .before .before .e .given .1)) _ (c .before .before .nesting-step .ensures) (c .enum-told5 .given .1)
 
 component-enum-told-6 : (t : ℕ) → component-lts.Need-enum-told-6 (claims t) (component-at t) component.Post component-Inv-loop component-μ-loop
 component-enum-told-6 t c = search needs
 
 component-returns-6 : (t : ℕ) → component-lts.Need-returns-6 (claims t) (component-at t) component.Post component-Inv-loop component-μ-loop
-component-returns-6 t c = reading-breaks (c .before .before .before .before .before .before .before .before .loop .inv) (good-line _ (c .before .before .before .before .before .before .before .next-good .ensures) (c .before .before .before .before .before .e .given .1)) _ (c .before .before .meets .ensures) (c .enum-told6 .given .1)
+component-returns-6 t c = reading-breaks (c .before .before .before .before .before .before .before .before .loop .inv) (good-line _ (c .before .before .before .before .before .before .before .next-good .ensures) (c .before .before .before .before .before .e .given .1)) _ (c .before .before .nesting-step .ensures) (c .enum-told6 .given .1)
 
 pub +component-spec : {M : Type 1} → statement M
 +component-spec = close μ-component λ t. component-lts.spec (claims t)
@@ -155,8 +155,8 @@ pub +component-spec : {M : Type 1} → statement M
     (component-add-next t)
     (component-add-after t)
     (component-add-more t)
-    (component-sub-meets t)
-    (component-meets-requires t)
+    (component-sub-nesting-step t)
+    (component-nesting-step-requires t)
     (component-enum-told-3 t)
     (component-value-requires t)
     (component-sub-component t)

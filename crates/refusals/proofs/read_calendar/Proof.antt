@@ -1,6 +1,6 @@
 -- The bytes that are checked are the part of the buffer that unfolding wrote.
 use Rattle.text.proofs.Unfolding.{unfolded-room}
-use Rattle.refusals.proofs.Passing.{unfolded-long, calendar-read}
+use Rattle.refusals.proofs.Stages.{unfolded-long, calendar-read}
 use borrow.Author.Needs.{needs}
 use Rattle.refusals.proofs.read_calendar.Statement.{statement}
 use Rattle.refusals.proofs.read_calendar.Tie as tie

@@ -1,5 +1,5 @@
 -- `text::next_line` meets its contract: each answer of `line_end` says which step it is.
-use Rattle.text.proofs.Lines.{line-at, last-piece, no-piece, steps-at, steps-last, steps-none}
+use Rattle.text.proofs.Lines.{line-at, unended-at, nothing-at, steps-at, steps-last, steps-none}
 use native.Mathlib.Omega.{arith}
 use borrow.Author.Needs.{needs}
 use Rattle.text.proofs.next_line.Statement.{statement}
@@ -24,10 +24,10 @@ returns : tie.Need-returns
 returns c = steps-at (line-at _ (c .before .before .before .line-end .ensures) (c .before .e .given .1))
 
 returns-2 : tie.Need-returns-2
-returns-2 c = steps-last (last-piece (c .before .before .line-end .ensures) (c .enum-told .given .1))
+returns-2 c = steps-last (unended-at (c .before .before .line-end .ensures) (c .enum-told .given .1))
 
 returns-3 : tie.Need-returns-3
-returns-3 c = steps-none (no-piece (c .before .before .line-end .ensures) (c .enum-told2 .given .1))
+returns-3 c = steps-none (nothing-at (c .before .before .line-end .ensures) (c .enum-told2 .given .1))
 
 pub next-line-spec : {M : Type 1} → statement M
 next-line-spec =

@@ -1,6 +1,6 @@
 -- `vectors::answer_all` is safe and ends: each line ends between its start and the end of all, and the next one starts behind it.
 use mathlib.Core.Bool.{false}
-use Rattle.line.proofs.Pieces.{nextPlace-ge, nextPlace-le}
+use Rattle.line.proofs.Splitting.{nextPlace-ge, nextPlace-le}
 use lib.ListN.{length}
 use Prim.Native.Nat.{_-_, _≤_}
 use native.Mathlib.Omega.{arith}

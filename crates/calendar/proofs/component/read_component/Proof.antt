@@ -5,7 +5,7 @@ use mathlib.Core.Logic.{⊎-elim}
 use lib.ListN.{length}
 use borrow.Author.Tests.{not-false}
 use Rattle.nesting.specs.Passing.{PropertyAt, InnerAt}
-use Rattle.nesting.proofs.Stepping.{property-at, inner-at, no-item-at}
+use Rattle.nesting.proofs.Components.{property-at, inner-at, no-item-at}
 use Rattle.calendar.proofs.Reading.{Reading, reading-start, reading-property, reading-silent, reading-inner, reading-end}
 use native.Mathlib.Omega.{arith}
 use borrow.Author.Needs.{needs}
@@ -13,10 +13,10 @@ use Rattle.calendar.proofs.component.read_component.Statement.{statemen
 use Rattle.calendar.proofs.component.read_component.Tie as tie
 
 abbrev Inv-loop : tie.InvT-loop
-Inv-loop s from first c scope fault₀ gathered₀ at₀ number₀ fault gathered at number = Reading c scope s from first fault gathered at number
+Inv-loop s from first c scope fault₀ properties₀ at₀ number₀ fault properties at number = Reading c scope s from first fault properties at number
 
 abbrev μ-loop : tie.MeasureT-loop
-μ-loop s from first c scope fault₀ gathered₀ at₀ number₀ fault gathered at number = length s - at
+μ-loop s from first c scope fault₀ properties₀ at₀ number₀ fault properties at number = length s - at
 
 -- the item that was found
 property-there : (c : tie.After-known-told Inv-loop μ-loop)
@@ -27,11 +27,11 @@ inner-there : (c : tie.After-known-told2 Inv-loop μ-loop)
     → InnerAt (c .before .before .before .before .before .before .before .args .s .now) (c .before .before .before .before .loop .at) (c .before .next .given .0 .0) (c .before .next .given .0 .1 .0)
 inner-there c = inner-at _ _ (c .before .before .before .next-item .ensures) (c .before .next .given .1)
 
-nothing-gathered-requires : tie.Need-nothing-gathered-requires Inv-loop μ-loop
-nothing-gathered-requires c κs = search needs
+no-properties-requires : tie.Need-no-properties-requires Inv-loop μ-loop
+no-properties-requires c κs = search needs
 
 loop-holds : tie.Need-loop-holds Inv-loop μ-loop
-loop-holds c = reading-start _ _ _ _ _ (c .before .before .pre .1) (c .before .before .pre .2) (c .nothing-gathered .ensures)
+loop-holds c = reading-start _ _ _ _ _ (c .before .before .pre .1) (c .before .before .pre .2) (c .no-properties .ensures)
 
 next-item-requires : tie.Need-next-item-requires Inv-loop μ-loop
 next-item-requires c κs = search needs
@@ -39,17 +39,17 @@ next-item-requires c κs = search needs
 enum-known-e : tie.Need-enum-known-e Inv-loop μ-loop
 enum-known-e c = search needs
 
-sub-saying-of : tie.Need-sub-saying-of Inv-loop μ-loop
-sub-saying-of c = omega (arith, property-there c .line)
+sub-property-value-of : tie.Need-sub-property-value-of Inv-loop μ-loop
+sub-property-value-of c = omega (arith, property-there c .line)
 
-part-saying-of-start : tie.Need-part-saying-of-start Inv-loop μ-loop
-part-saying-of-start c = omega (arith, property-there c .line)
+part-property-value-of-start : tie.Need-part-property-value-of-start Inv-loop μ-loop
+part-property-value-of-start c = omega (arith, property-there c .line)
 
-part-saying-of-end : tie.Need-part-saying-of-end Inv-loop μ-loop
-part-saying-of-end c = omega (arith, property-there c .line)
+part-property-value-of-end : tie.Need-part-property-value-of-end Inv-loop μ-loop
+part-property-value-of-end c = omega (arith, property-there c .line)
 
-saying-of-requires : tie.Need-saying-of-requires Inv-loop μ-loop
-saying-of-requires c κs = c .before .before .before .before .before .before .before .before .pre .0
+property-value-of-requires : tie.Need-property-value-of-requires Inv-loop μ-loop
+property-value-of-requires c κs = c .before .before .before .before .before .before .before .before .pre .0
 
 says-nothing-requires : tie.Need-says-nothing-requires Inv-loop μ-loop
 says-nothing-requires c κs = search needs
@@ -57,8 +57,8 @@ says-nothing-requires c κs = search needs
 fault-with-requires : tie.Need-fault-with-requires Inv-loop μ-loop
 fault-with-requires c κs = search needs
 
-gathered-with-requires : tie.Need-gathered-with-requires Inv-loop μ-loop
-gathered-with-requires c κs = search needs
+with-property-requires : tie.Need-with-property-requires Inv-loop μ-loop
+with-property-requires c κs = search needs
 
 add-number : tie.Need-add-number Inv-loop μ-loop
 add-number c = omega (arith, property-there (c .before .before .before .before) .line, c .before .before .before .before .before .before .before .before .loop .inv .leaving .counted)
@@ -69,8 +69,8 @@ loop-less c = omega (arith, property-there (c .before .before .before .before) .
 loop-again : tie.Need-loop-again Inv-loop μ-loop
 loop-again c =
     ⊎-elim
-    (λ w. reading-property (c .before .before .before .before .before .before .before .before .loop .inv) (property-there (c .before .before .before .before)) (c .before .before .saying-of .ensures) (w .3 ∙ w .1 .ensures) (w .4 ∙ w .2 .ensures))
-    (λ w. reading-silent (c .before .before .before .before .before .before .before .before .loop .inv) (property-there (c .before .before .before .before)) (c .before .before .saying-of .ensures) (c .before .says-nothing .ensures (not-false _ (w .0 .left))) (w .1) (w .2))
+    (λ w. reading-property (c .before .before .before .before .before .before .before .before .loop .inv) (property-there (c .before .before .before .before)) (c .before .before .property-value-of .ensures) (w .3 ∙ w .1 .ensures) (w .4 ∙ w .2 .ensures))
+    (λ w. reading-silent (c .before .before .before .before .before .before .before .before .loop .inv) (property-there (c .before .before .before .before)) (c .before .before .property-value-of .ensures) (c .before .says-nothing .ensures (not-false _ (w .0 .left))) (w .1) (w .2))
     (c .if1 .came)
 
 enum-known-next : tie.Need-enum-known-next Inv-loop μ-loop
@@ -103,17 +103,17 @@ read-component-spec =
     (tie.spec
     Inv-loop
     μ-loop
-    nothing-gathered-requires
+    no-properties-requires
     loop-holds
     next-item-requires
     enum-known-e
-    sub-saying-of
-    part-saying-of-start
-    part-saying-of-end
-    saying-of-requires
+    sub-property-value-of
+    part-property-value-of-start
+    part-property-value-of-end
+    property-value-of-requires
     says-nothing-requires
     fault-with-requires
-    gathered-with-requires
+    with-property-requires
     add-number
     loop-less
     loop-again

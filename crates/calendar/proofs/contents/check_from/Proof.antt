@@ -3,7 +3,7 @@ use Prim.Native.Nat.{_-_}
 use mathlib.Core.Path.{refl}
 use native.Mathlib.Omega.{arith}
 use lib.ListN.{length}
-use Rattle.nesting.proofs.Stepping.{property-at, inner-at, no-item-at}
+use Rattle.nesting.proofs.Components.{property-at, inner-at, no-item-at}
 use Rattle.calendar.proofs.Checking.{Checking, checking-start, checking-property, checking-inner, checking-unsupported, checking-bad, checking-end}
 use borrow.Author.Needs.{needs}
 use Rattle.calendar.proofs.contents.check_from.Statement.{statement}

@@ -1,7 +1,7 @@
 -- Only properties stand before the place, so the first component is the first from it on.
 use Prim.Native.Nat.{_-_}
 use lib.ListN.{length}
-use Rattle.nesting.proofs.Stepping.{property-at, inner-at, no-item-at}
+use Rattle.nesting.proofs.Components.{property-at, inner-at, no-item-at}
 use Rattle.calendar.proofs.Loops.{Seeking, seeking-start, seeking-property, seeking-found, seeking-end}
 use native.Mathlib.Omega.{arith}
 use borrow.Author.Needs.{needs}

@@ -1,5 +1,5 @@
 -- The names are tried in the order of the definition.
-use Rattle.marks.specs.Innermost.{isEvent, isFreeBusy}
+use Rattle.delimiters.specs.Innermost.{isEvent, isFreeBusy}
 use Rattle.calendar.specs.Meaning.{scopeOf}
 use mathlib.Core.Path.{sym, _∙_}
 use borrow.Author.Needs.{needs}

@@ -1,7 +1,7 @@
 -- The filter is asked of the unfolded calendar, once it has no fault.
 use Rattle.text.proofs.Unfolding.{unfolded-room}
-use Rattle.refusals.proofs.Passing.{unfolded-long}
-use Rattle.engine.proofs.Outcomes.{match-refused, match-verdict}
+use Rattle.refusals.proofs.Stages.{unfolded-long}
+use Rattle.engine.proofs.MatchStages.{match-refused, match-verdict}
 use borrow.Author.Needs.{needs}
 use Rattle.engine.proofs.matching.match_calendar.Statement.{statement}
 use Rattle.engine.proofs.matching.match_calendar.Tie as tie

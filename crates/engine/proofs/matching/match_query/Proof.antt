@@ -1,10 +1,10 @@
 -- Each answer of the reader is one way through the rows of the query.
 use mathlib.Core.Path.{_≡_, sym, _∙_}
 use denote.Ref.{now}
-use Rattle.paper.specs.WellFormed.{queryRead}
-use Rattle.paper.specs.declared.QueryRead.{QueryRead}
-use Rattle.paper.proofs.Refusing.{read-fits, read-records}
-use Rattle.engine.proofs.Outcomes.{match-refused-4, match-refused-5, match-query-passed}
+use Rattle.query_check.specs.WellFormed.{queryRead}
+use Rattle.query_check.specs.declared.QueryRead.{QueryRead}
+use Rattle.query_check.proofs.Queries.{read-fits, read-records}
+use Rattle.engine.proofs.MatchStages.{match-refused-4, match-refused-5, match-query-passed}
 use borrow.Author.Needs.{needs}
 use Rattle.engine.proofs.matching.match_query.Statement.{statement}
 use Rattle.engine.proofs.matching.match_query.Tie as tie

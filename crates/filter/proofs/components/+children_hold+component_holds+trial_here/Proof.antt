@@ -10,11 +10,11 @@ use borrow.Fn.Kinds.{In}
 use borrow.Fn.PlainCycle.{Measures, is, falls, and}
 use Rattle.nesting.specs.Components.{itemsOf}
 use Rattle.nesting.specs.Passing.{linesFrom, InnerAt}
-use Rattle.nesting.proofs.Stepping.{property-at, inner-at, no-item-at}
+use Rattle.nesting.proofs.Components.{property-at, inner-at, no-item-at}
 use Rattle.calendar.proofs.Loops.{Passing, passing-start, passing-property, passing-inner, passing-found, passing-end}
 use Rattle.filter.specs.Trials.{Tried, SmallTrial}
-use Rattle.filter.proofs.Trying.{tried-counted, tried-found, tried-more, tried-end}
-use Rattle.filter.proofs.Descending.{component-name, component-range, here-not, here-childless, here-tried, here-small, someHere, here-found, here-passed, here-none, test-absent, test-there, Descending, descending-start, descending-other, descending-next, descending-stop, descending-end}
+use Rattle.filter.proofs.TrialsLaws.{tried-counted, tried-found, tried-more, tried-end}
+use Rattle.filter.proofs.Tests.{component-name, component-range, here-not, here-childless, here-tried, here-small, someHere, here-found, here-passed, here-none, test-absent, test-there, Descending, descending-start, descending-other, descending-next, descending-stop, descending-end}
 use Rattle.filter.proofs.components.children_hold.Reads as children-hold
 use Rattle.filter.proofs.components.children_hold.Kinds as children-hold-kinds
 use Rattle.filter.proofs.components.+children_hold+component_holds+trial_here.Lts-children_hold as children-hold-lts

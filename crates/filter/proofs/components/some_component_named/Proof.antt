@@ -1,7 +1,7 @@
 -- No component so far has the name, so those that are left decide.
 use Prim.Native.Nat.{_-_}
 use lib.ListN.{length}
-use Rattle.nesting.proofs.Stepping.{property-at, inner-at, no-item-at}
+use Rattle.nesting.proofs.Components.{property-at, inner-at, no-item-at}
 use Rattle.filter.specs.Tests.{someComponentNamed}
 use Rattle.calendar.proofs.Loops.{Passing, passing-start, passing-property, passing-inner, passing-found, passing-end}
 use Rattle.filter.proofs.Parts.{component-named, component-other, no-component}

@@ -1,5 +1,5 @@
 -- A block that is read goes by its ends or periods; a broken one is in no range.
-use Rattle.filter.proofs.InRange.{block-of, block-broken}
+use Rattle.filter.proofs.Places.{block-of, block-broken}
 use borrow.Author.Needs.{needs}
 use Rattle.filter.proofs.ranges.block_in_at.Statement.{statement}
 use Rattle.filter.proofs.ranges.block_in_at.Tie as tie

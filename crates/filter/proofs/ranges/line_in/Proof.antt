@@ -1,11 +1,11 @@
 -- A line without periods touches no range; any other goes by those of its value.
-use Rattle.filter.proofs.InRange.{line-touches, line-gives-none}
+use Rattle.filter.proofs.Places.{line-overlaps, line-gives-none}
 use borrow.Author.Needs.{needs}
 use Rattle.filter.proofs.ranges.line_in.Statement.{statement}
 use Rattle.filter.proofs.ranges.line_in.Tie as tie
 
-saying-of-requires : tie.Need-saying-of-requires
-saying-of-requires c κs = search needs
+property-value-of-requires : tie.Need-property-value-of-requires
+property-value-of-requires c κs = search needs
 
 says-periods-requires : tie.Need-says-periods-requires
 says-periods-requires c κs = search needs
@@ -17,16 +17,16 @@ value-in-requires : tie.Need-value-in-requires
 value-in-requires c κs = search needs
 
 returns : tie.Need-returns
-returns c = line-touches _ _ _ _ (c .before .before .before .before .saying-of .ensures) (c .before .before .before .says-periods .ensures) (c .before .before .if1 .taken) (c .before .value .ensures) (c .value-in .ensures)
+returns c = line-overlaps _ _ _ _ (c .before .before .before .before .property-value-of .ensures) (c .before .before .before .says-periods .ensures) (c .before .before .if1 .taken) (c .before .value .ensures) (c .value-in .ensures)
 
 returns-2 : tie.Need-returns-2
-returns-2 c = line-gives-none _ _ _ _ (c .before .before .saying-of .ensures) (c .before .says-periods .ensures) (c .if1 .left)
+returns-2 c = line-gives-none _ _ _ _ (c .before .before .property-value-of .ensures) (c .before .says-periods .ensures) (c .if1 .left)
 
 pub line-in-spec : {M : Type 1} → statement M
 line-in-spec =
     tie.close
     (tie.spec
-    saying-of-requires
+    property-value-of-requires
     says-periods-requires
     value-requires
     value-in-requires

@@ -1,10 +1,10 @@
 -- No line so far touches the range, so the lines that are left decide.
 use Rattle.filter.specs.Places.{linesIn}
-use Rattle.filter.proofs.InRange.{period-lines}
+use Rattle.filter.proofs.Places.{period-lines}
 use Prim.Native.Nat.{_-_}
 use lib.ListN.{length}
-use Rattle.nesting.proofs.Stepping.{property-at, inner-at, no-item-at}
-use Rattle.properties.proofs.Lines.{Seeking, seeking-start, seeking-next, seeking-found, seeking-inner, seeking-end}
+use Rattle.nesting.proofs.Components.{property-at, inner-at, no-item-at}
+use Rattle.property_tests.proofs.Lines.{Seeking, seeking-start, seeking-next, seeking-found, seeking-inner, seeking-end}
 use native.Mathlib.Omega.{arith}
 use borrow.Author.Needs.{needs}
 use Rattle.filter.proofs.ranges.lines_in.Statement.{statement}

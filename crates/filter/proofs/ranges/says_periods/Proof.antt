@@ -1,5 +1,5 @@
 -- Each arm is one clause of the definition.
-use Rattle.filter.specs.Places.{saysPeriods}
+use Rattle.filter.specs.Places.{givesPeriods}
 use borrow.Author.Needs.{needs}
 use Rattle.filter.proofs.ranges.says_periods.Statement.{statement}
 use Rattle.filter.proofs.ranges.says_periods.Tie as tie
@@ -35,43 +35,43 @@ enum-told-10 : tie.Need-enum-told-10
 enum-told-10 c = search needs
 
 returns : tie.Need-returns
-unfolding saysPeriods
+unfolding givesPeriods
 returns c = simp (c .enum-told .given .1)
 
 returns-2 : tie.Need-returns-2
-unfolding saysPeriods
+unfolding givesPeriods
 returns-2 c = simp (c .enum-told2 .given .1)
 
 returns-3 : tie.Need-returns-3
-unfolding saysPeriods
+unfolding givesPeriods
 returns-3 c = simp (c .enum-told3 .given .1)
 
 returns-4 : tie.Need-returns-4
-unfolding saysPeriods
+unfolding givesPeriods
 returns-4 c = simp (c .enum-told4 .given .1)
 
 returns-5 : tie.Need-returns-5
-unfolding saysPeriods
+unfolding givesPeriods
 returns-5 c = simp (c .enum-told5 .given .1)
 
 returns-6 : tie.Need-returns-6
-unfolding saysPeriods
+unfolding givesPeriods
 returns-6 c = simp (c .enum-told6 .given .1)
 
 returns-7 : tie.Need-returns-7
-unfolding saysPeriods
+unfolding givesPeriods
 returns-7 c = simp (c .enum-told7 .given .1)
 
 returns-8 : tie.Need-returns-8
-unfolding saysPeriods
+unfolding givesPeriods
 returns-8 c = simp (c .enum-told8 .given .1)
 
 returns-9 : tie.Need-returns-9
-unfolding saysPeriods
+unfolding givesPeriods
 returns-9 c = simp (c .enum-told9 .given .1)
 
 returns-10 : tie.Need-returns-10
-unfolding saysPeriods
+unfolding givesPeriods
 returns-10 c = simp (c .enum-told10 .given .1)
 
 pub says-periods-spec : {M : Type 1} → statement M

@@ -2,20 +2,20 @@
 use Prim.Native.Nat.{_-_}
 use lib.ListN.{length}
 use Rattle.calendar.proofs.Listed.{next-period-at, no-period-at}
-use Rattle.filter.proofs.InRange.{Touching, touching-start, touching-next, touching-found, touching-end}
+use Rattle.filter.proofs.Places.{Overlapping, overlapping-start, overlapping-next, overlapping-found, overlapping-end}
 use native.Mathlib.Omega.{arith}
 use borrow.Author.Needs.{needs}
 use Rattle.filter.proofs.ranges.value_in.Statement.{statement}
 use Rattle.filter.proofs.ranges.value_in.Tie as tie
 
 abbrev Inv-loop : tie.InvT-loop
-Inv-loop v a b at₀ at = Touching a b v at
+Inv-loop v a b at₀ at = Overlapping a b v at
 
 abbrev μ-loop : tie.MeasureT-loop
 μ-loop v a b at₀ at = length v - at
 
 loop-holds : tie.Need-loop-holds Inv-loop μ-loop
-loop-holds c = touching-start _ _ _
+loop-holds c = overlapping-start _ _ _
 
 next-period-requires : tie.Need-next-period-requires Inv-loop μ-loop
 next-period-requires c κs = search needs
@@ -23,23 +23,23 @@ next-period-requires c κs = search needs
 enum-known-p : tie.Need-enum-known-p Inv-loop μ-loop
 enum-known-p c = search needs
 
-touches-requires : tie.Need-touches-requires Inv-loop μ-loop
-touches-requires c κs = search needs
+overlaps-requires : tie.Need-overlaps-requires Inv-loop μ-loop
+overlaps-requires c κs = search needs
 
 returns : tie.Need-returns Inv-loop μ-loop
-returns c = touching-found (c .before .before .before .before .before .before .loop .inv) (next-period-at _ _ (c .before .before .before .before .before .next-period .ensures) (c .before .before .before .p .given .1)) (c .before .touches .ensures) (c .if1 .taken)
+returns c = overlapping-found (c .before .before .before .before .before .before .loop .inv) (next-period-at _ _ (c .before .before .before .before .before .next-period .ensures) (c .before .before .before .p .given .1)) (c .before .overlaps .ensures) (c .if1 .taken)
 
 loop-less : tie.Need-loop-less Inv-loop μ-loop
 loop-less c = let h = next-period-at _ _ (c .before .before .before .before .before .next-period .ensures) (c .before .before .before .p .given .1) in omega (arith, h .onward, h .within)
 
 loop-again : tie.Need-loop-again Inv-loop μ-loop
-loop-again c = touching-next (c .before .before .before .before .before .before .loop .inv) (next-period-at _ _ (c .before .before .before .before .before .next-period .ensures) (c .before .before .before .p .given .1)) (c .before .touches .ensures) (c .if1 .left)
+loop-again c = overlapping-next (c .before .before .before .before .before .before .loop .inv) (next-period-at _ _ (c .before .before .before .before .before .next-period .ensures) (c .before .before .before .p .given .1)) (c .before .overlaps .ensures) (c .if1 .left)
 
 enum-told : tie.Need-enum-told Inv-loop μ-loop
 enum-told c = search needs
 
 returns-2 : tie.Need-returns-2 Inv-loop μ-loop
-returns-2 c = touching-end (c .before .before .before .loop .inv) (no-period-at (c .before .before .next-period .ensures) (c .enum-told .given .1))
+returns-2 c = overlapping-end (c .before .before .before .loop .inv) (no-period-at (c .before .before .next-period .ensures) (c .enum-told .given .1))
 
 pub value-in-spec : {M : Type 1} → statement M
 value-in-spec =
@@ -50,7 +50,7 @@ value-in-spec =
     loop-holds
     next-period-requires
     enum-known-p
-    touches-requires
+    overlaps-requires
     returns
     loop-less
     loop-again

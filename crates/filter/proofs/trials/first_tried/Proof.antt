@@ -1,5 +1,5 @@
 -- The division finds the first instance to try; anything else is tried once, as number 0.
-use Rattle.filter.proofs.Trying.{instances-small, instances-tried, once-tried}
+use Rattle.filter.proofs.TrialsLaws.{instances-small, instances-tried, once-tried}
 use native.Mathlib.Omega.{arith}
 use borrow.Author.Needs.{needs}
 use Rattle.filter.proofs.trials.first_tried.Statement.{statement}

@@ -1,5 +1,5 @@
 -- Each arm is one clause of the definition.
-use Rattle.filter.proofs.Trying.{instances-small, instances-on, once-on}
+use Rattle.filter.proofs.TrialsLaws.{instances-small, instances-on, once-on}
 use Rattle.filter.specs.Trials.{trialGoesOn}
 use borrow.Author.Needs.{needs}
 use Rattle.filter.proofs.trials.goes_on.Statement.{statement}

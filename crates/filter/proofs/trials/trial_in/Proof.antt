@@ -1,5 +1,5 @@
 -- Each arm is one clause of the definition.
-use Rattle.filter.proofs.Trying.{in-event, in-broken, in-block, in-other}
+use Rattle.filter.proofs.TrialsLaws.{in-event, in-broken, in-block, in-other}
 use borrow.Author.Needs.{needs}
 use Rattle.filter.proofs.trials.trial_in.Statement.{statement}
 use Rattle.filter.proofs.trials.trial_in.Tie as tie

@@ -1,5 +1,5 @@
 -- Without a range the one trial passes; with one, its two ends are those of the record.
-use Rattle.filter.proofs.Trying.{range-none, range-some}
+use Rattle.filter.proofs.TrialsLaws.{range-none, range-some}
 use borrow.Author.Needs.{needs}
 use Rattle.filter.proofs.trials.trial_of.Statement.{statement}
 use Rattle.filter.proofs.trials.trial_of.Tie as tie

@@ -1,5 +1,5 @@
 -- `line::check::next_good` meets its contract: each arm is one answer of the search for the end of the line, and a found line is tested.
-use Rattle.text.proofs.Lines.{line-at, last-piece, no-piece}
+use Rattle.text.proofs.Lines.{line-at, unended-at, nothing-at}
 use Rattle.line.proofs.WellFormed.{next-line, next-badly, next-unended, next-none}
 use native.Mathlib.Omega.{arith}
 use borrow.Author.Needs.{needs}
@@ -37,10 +37,10 @@ returns-2 : tie.Need-returns-2
 returns-2 c = next-badly _ (line-at _ (c .before .before .before .before .before .before .line-end .ensures) (c .before .before .before .before .e .given .1)) (c .before .is-well-formed .ensures) (c .if1 .left)
 
 returns-3 : tie.Need-returns-3
-returns-3 c = next-unended (last-piece (c .before .before .line-end .ensures) (c .enum-told .given .1))
+returns-3 c = next-unended (unended-at (c .before .before .line-end .ensures) (c .enum-told .given .1))
 
 returns-4 : tie.Need-returns-4
-returns-4 c = next-none (no-piece (c .before .before .line-end .ensures) (c .enum-told2 .given .1))
+returns-4 c = next-none (nothing-at (c .before .before .line-end .ensures) (c .enum-told2 .given .1))
 
 pub next-good-spec : {M : Type 1} → statement M
 next-good-spec =

@@ -1,7 +1,7 @@
 -- `line::read::parameter_value` meets its contract: the value is a piece behind the equals sign, its quotes taken off.
 use mathlib.Core.Bool.{true, false}
 use Rattle.line.proofs.Parameters.{valuesOf-at}
-use Rattle.line.specs.Pieces.{before, after, pieces, quotesOff}
+use Rattle.line.specs.Splitting.{before, after, pieces, quotesOff}
 use lib.ListN.{getD}
 use mathlib.Core.List.{List, []}
 use Prim.Native.Nat.{ℕ}
@@ -13,15 +13,15 @@ use Rattle.line.proofs.read.parameter_value.Tie as tie
 after-requires : tie.Need-after-requires
 after-requires c κs = search needs
 
-nth-piece-requires : tie.Need-nth-piece-requires
-nth-piece-requires c κs = search needs
+nth-part-requires : tie.Need-nth-part-requires
+nth-part-requires c κs = search needs
 
 quotes-off-requires : tie.Need-quotes-off-requires
 quotes-off-requires c κs = search needs
 
 returns : tie.Need-returns
-returns c = c .quotes-off .ensures ∙ ap quotesOff (c .before .nth-piece .ensures ∙ ap (λ (t : List ℕ). getD (pieces true 44 false t) (c .before .before .before .before .args .n) []) (c .before .before .after .ensures)) ∙ valuesOf-at _ _
+returns c = c .quotes-off .ensures ∙ ap quotesOff (c .before .nth-part .ensures ∙ ap (λ (t : List ℕ). getD (pieces true 44 false t) (c .before .before .before .before .args .n) []) (c .before .before .after .ensures)) ∙ valuesOf-at _ _
 
 pub parameter-value-spec : {M : Type 1} → statement M
 parameter-value-spec =
-    tie.close (tie.spec after-requires nth-piece-requires quotes-off-requires returns)
+    tie.close (tie.spec after-requires nth-part-requires quotes-off-requires returns)

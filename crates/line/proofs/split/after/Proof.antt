@@ -1,5 +1,5 @@
 -- `line::split::after` meets its contract: the bytes behind the place found, or none where that is the end.
-use Rattle.line.proofs.Pieces.{after-part, after-none}
+use Rattle.line.proofs.Splitting.{after-part, after-none}
 use borrow.Author.Needs.{needs}
 use Rattle.line.proofs.split.after.Statement.{statement}
 use Rattle.line.proofs.split.after.Tie as tie

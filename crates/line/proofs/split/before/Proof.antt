@@ -1,5 +1,5 @@
 -- `line::split::before` meets its contract: the bytes up to the place found.
-use Rattle.line.proofs.Pieces.{before-fits, before-is}
+use Rattle.line.proofs.Splitting.{before-fits, before-is}
 use lib.ListN.{take}
 use Prim.Native.Nat.{ℕ}
 use mathlib.Core.Path.{ap, _∙_}

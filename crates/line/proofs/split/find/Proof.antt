@@ -1,6 +1,6 @@
 -- `line::split::find` meets its contract: the bytes passed hold no separator outside quotes, so the place counted from the rest is the place counted from the start.
-use Rattle.line.proofs.Pieces.{find-here, find-next, find-end}
-use Rattle.line.specs.Pieces.{firstOutside, nextPlace}
+use Rattle.line.proofs.Splitting.{find-here, find-next, find-end}
+use Rattle.line.specs.Splitting.{firstOutside, nextPlace}
 use mathlib.Core.Bool.{Bool}
 use lib.ListN.{length, drop}
 use Prim.Native.Nat.{_+_, _-_}

@@ -1,5 +1,5 @@
 -- `line::split::quotes_off` meets its contract: a value that begins with a quote loses its first and last byte, and any other stays.
-use Rattle.line.proofs.Pieces.{quotesOff-empty, quotesOff-other, quotesOff-inside, quotesOff-alone}
+use Rattle.line.proofs.Splitting.{quotesOff-empty, quotesOff-other, quotesOff-inside, quotesOff-alone}
 use borrow.Author.Needs.{needs}
 use Rattle.line.proofs.split.quotes_off.Statement.{statement}
 use Rattle.line.proofs.split.quotes_off.Tie as tie

@@ -1,5 +1,5 @@
 -- `nesting::items::next_item` meets its contract: the mark of the line at the place says which item it is.
-use Rattle.nesting.proofs.Stepping.{item-end, item-inner, item-done, item-property, item-wrong}
+use Rattle.nesting.proofs.Components.{item-end, item-inner, item-done, item-property, item-wrong}
 use Rattle.text.proofs.Lines.{line-from, no-line-from}
 use native.Mathlib.Omega.{arith}
 use borrow.Author.Needs.{needs}
@@ -15,17 +15,17 @@ enum-told c = search needs
 enum-known-e : tie.Need-enum-known-e
 enum-known-e c = search needs
 
-sub-mark-of : tie.Need-sub-mark-of
-sub-mark-of c = let h = line-from _ _ (c .before .before .before .next-line .ensures) (c .before .e .given .1) in omega (arith, h .starts, h .ends, h .inside)
+sub-delimiter-of : tie.Need-sub-delimiter-of
+sub-delimiter-of c = let h = line-from _ _ (c .before .before .before .next-line .ensures) (c .before .e .given .1) in omega (arith, h .starts, h .ends, h .inside)
 
-part-mark-of-start : tie.Need-part-mark-of-start
-part-mark-of-start c = let h = line-from _ _ (c .before .before .before .next-line .ensures) (c .before .e .given .1) in omega (arith, h .starts, h .ends, h .inside)
+part-delimiter-of-start : tie.Need-part-delimiter-of-start
+part-delimiter-of-start c = let h = line-from _ _ (c .before .before .before .next-line .ensures) (c .before .e .given .1) in omega (arith, h .starts, h .ends, h .inside)
 
-part-mark-of-end : tie.Need-part-mark-of-end
-part-mark-of-end c = let h = line-from _ _ (c .before .before .before .next-line .ensures) (c .before .e .given .1) in omega (arith, h .starts, h .ends, h .inside)
+part-delimiter-of-end : tie.Need-part-delimiter-of-end
+part-delimiter-of-end c = let h = line-from _ _ (c .before .before .before .next-line .ensures) (c .before .e .given .1) in omega (arith, h .starts, h .ends, h .inside)
 
-mark-of-requires : tie.Need-mark-of-requires
-mark-of-requires c κs = search needs
+delimiter-of-requires : tie.Need-delimiter-of-requires
+delimiter-of-requires c κs = search needs
 
 enum-told-2 : tie.Need-enum-told-2
 enum-told-2 c = search needs
@@ -43,16 +43,16 @@ returns : tie.Need-returns
 returns c = item-end (no-line-from (c .before .before .next-line .ensures) (c .enum-told .given .1))
 
 returns-2 : tie.Need-returns-2
-returns-2 c = item-inner (line-from _ _ (c .before .before .before .before .before .before .before .next-line .ensures) (c .before .before .before .before .before .e .given .1)) (c .before .before .mark-of .ensures) (c .enum-told2 .given .1)
+returns-2 c = item-inner (line-from _ _ (c .before .before .before .before .before .before .before .next-line .ensures) (c .before .before .before .before .before .e .given .1)) (c .before .before .delimiter-of .ensures) (c .enum-told2 .given .1)
 
 returns-3 : tie.Need-returns-3
-returns-3 c = item-done (line-from _ _ (c .before .before .before .before .before .before .before .next-line .ensures) (c .before .before .before .before .before .e .given .1)) (c .before .before .mark-of .ensures) (c .enum-told3 .given .1)
+returns-3 c = item-done (line-from _ _ (c .before .before .before .before .before .before .before .next-line .ensures) (c .before .before .before .before .before .e .given .1)) (c .before .before .delimiter-of .ensures) (c .enum-told3 .given .1)
 
 returns-4 : tie.Need-returns-4
-returns-4 c = item-property (line-from _ _ (c .before .before .before .before .before .before .before .next-line .ensures) (c .before .before .before .before .before .e .given .1)) (c .before .before .mark-of .ensures) (c .enum-told4 .given .1)
+returns-4 c = item-property (line-from _ _ (c .before .before .before .before .before .before .before .next-line .ensures) (c .before .before .before .before .before .e .given .1)) (c .before .before .delimiter-of .ensures) (c .enum-told4 .given .1)
 
 returns-5 : tie.Need-returns-5
-returns-5 c = item-wrong (line-from _ _ (c .before .before .before .before .before .before .before .next-line .ensures) (c .before .before .before .before .before .e .given .1)) (c .before .before .mark-of .ensures) (c .enum-told5 .given .1)
+returns-5 c = item-wrong (line-from _ _ (c .before .before .before .before .before .before .before .next-line .ensures) (c .before .before .before .before .before .e .given .1)) (c .before .before .delimiter-of .ensures) (c .enum-told5 .given .1)
 
 pub next-item-spec : {M : Type 1} → statement M
 next-item-spec =
@@ -61,10 +61,10 @@ next-item-spec =
     next-line-requires
     enum-told
     enum-known-e
-    sub-mark-of
-    part-mark-of-start
-    part-mark-of-end
-    mark-of-requires
+    sub-delimiter-of
+    part-delimiter-of-start
+    part-delimiter-of-end
+    delimiter-of-requires
     enum-told-2
     enum-told-3
     enum-told-4

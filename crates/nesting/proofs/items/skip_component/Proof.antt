@@ -1,5 +1,5 @@
 -- `nesting::items::skip_component` meets its contract: each line that is passed over is counted in what is open, and leaves the items around the component as they are.
-use Rattle.nesting.proofs.Stepping.{Skipping, skipping-start, skipping-end, skipping-next, skipping-done}
+use Rattle.nesting.proofs.Components.{Skipping, skipping-start, skipping-end, skipping-next, skipping-done}
 use Rattle.text.proofs.Lines.{line-from, no-line-from}
 use Prim.Native.Nat.{_-_}
 use lib.ListN.{length}
@@ -29,17 +29,17 @@ returns c = skipping-end (c .before .before .before .before .loop .inv) (no-line
 enum-known-e : tie.Need-enum-known-e Inv-loop μ-loop
 enum-known-e c = search needs
 
-sub-mark-of : tie.Need-sub-mark-of Inv-loop μ-loop
-sub-mark-of c = let h = line-from _ _ (c .before .before .before .next-line .ensures) (c .before .e .given .1) in omega (arith, h .starts, h .ends, h .inside)
+sub-delimiter-of : tie.Need-sub-delimiter-of Inv-loop μ-loop
+sub-delimiter-of c = let h = line-from _ _ (c .before .before .before .next-line .ensures) (c .before .e .given .1) in omega (arith, h .starts, h .ends, h .inside)
 
-part-mark-of-start : tie.Need-part-mark-of-start Inv-loop μ-loop
-part-mark-of-start c = let h = line-from _ _ (c .before .before .before .next-line .ensures) (c .before .e .given .1) in omega (arith, h .starts, h .ends, h .inside)
+part-delimiter-of-start : tie.Need-part-delimiter-of-start Inv-loop μ-loop
+part-delimiter-of-start c = let h = line-from _ _ (c .before .before .before .next-line .ensures) (c .before .e .given .1) in omega (arith, h .starts, h .ends, h .inside)
 
-part-mark-of-end : tie.Need-part-mark-of-end Inv-loop μ-loop
-part-mark-of-end c = let h = line-from _ _ (c .before .before .before .next-line .ensures) (c .before .e .given .1) in omega (arith, h .starts, h .ends, h .inside)
+part-delimiter-of-end : tie.Need-part-delimiter-of-end Inv-loop μ-loop
+part-delimiter-of-end c = let h = line-from _ _ (c .before .before .before .next-line .ensures) (c .before .e .given .1) in omega (arith, h .starts, h .ends, h .inside)
 
-mark-of-requires : tie.Need-mark-of-requires Inv-loop μ-loop
-mark-of-requires c κs = search needs
+delimiter-of-requires : tie.Need-delimiter-of-requires Inv-loop μ-loop
+delimiter-of-requires c κs = search needs
 
 depth-after-requires : tie.Need-depth-after-requires Inv-loop μ-loop
 depth-after-requires c κs = let h = line-from _ _ (c .before .before .before .before .before .next-line .ensures) (c .before .before .before .e .given .1) in (c .before .before .before .before .before .before .loop-test .taken, omega (arith, h .goes-on, h .inside, c .before .before .before .before .before .before .before .loop .inv .shallow))
@@ -51,7 +51,7 @@ loop-less : tie.Need-loop-less Inv-loop μ-loop
 loop-less c = let h = line-from _ _ (c .before .before .before .before .before .before .next-line .ensures) (c .before .before .before .before .e .given .1) in omega (arith, h .goes-on, h .inside)
 
 loop-again : tie.Need-loop-again Inv-loop μ-loop
-loop-again c = skipping-next (c .before .before .before .before .before .before .before .before .loop .inv) (c .before .before .before .before .before .before .before .loop-test .taken) (line-from _ _ (c .before .before .before .before .before .before .next-line .ensures) (c .before .before .before .before .e .given .1)) (c .before .mark-of .ensures) (c .depth-after .ensures)
+loop-again c = skipping-next (c .before .before .before .before .before .before .before .before .loop .inv) (c .before .before .before .before .before .before .before .loop-test .taken) (line-from _ _ (c .before .before .before .before .before .before .next-line .ensures) (c .before .before .before .before .e .given .1)) (c .before .delimiter-of .ensures) (c .depth-after .ensures)
 
 returns-2 : tie.Need-returns-2 Inv-loop μ-loop
 returns-2 c = skipping-done (c .before .loop .inv) (omega (arith, c .loop-test .left))
@@ -67,10 +67,10 @@ skip-component-spec =
     enum-told
     returns
     enum-known-e
-    sub-mark-of
-    part-mark-of-start
-    part-mark-of-end
-    mark-of-requires
+    sub-delimiter-of
+    part-delimiter-of-start
+    part-delimiter-of-end
+    delimiter-of-requires
     depth-after-requires
     add-number
     loop-less

@@ -1,5 +1,5 @@
 -- `query::fields::component_at` meets its contract: the four bytes lie inside, since i is below the count.
-use Rattle.query.proofs.Reading.{component-is}
+use Rattle.query.proofs.Records.{component-is}
 use borrow.Author.Needs.{needs}
 use Rattle.query.proofs.fields.component_at.Statement.{statement}
 use Rattle.query.proofs.fields.component_at.Tie as tie

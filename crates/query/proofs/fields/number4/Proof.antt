@@ -1,5 +1,5 @@
 -- `query::fields::number4` meets its contract: each byte is below 256, so that no product or sum is too large.
-use Rattle.query.proofs.Reading.{number4-is}
+use Rattle.query.proofs.Records.{number4-is}
 use native.Mathlib.Omega.{arith}
 use borrow.Author.Needs.{needs}
 use Rattle.query.proofs.fields.number4.Statement.{statement}

@@ -1,5 +1,5 @@
 -- `query::fields::number8` meets its contract: two numbers of four bytes are one of eight.
-use Rattle.query.proofs.Reading.{number8-is}
+use Rattle.query.proofs.Records.{number8-is}
 use borrow.Author.Needs.{needs}
 use Rattle.query.proofs.fields.number8.Statement.{statement}
 use Rattle.query.proofs.fields.number8.Tie as tie

@@ -1,5 +1,5 @@
 -- `query::fields::parameter_at` meets its contract: the five bytes lie inside, since i is below the count.
-use Rattle.query.proofs.Reading.{parameter-is}
+use Rattle.query.proofs.Records.{parameter-is}
 use borrow.Author.Needs.{needs}
 use Rattle.query.proofs.fields.parameter_at.Statement.{statement}
 use Rattle.query.proofs.fields.parameter_at.Tie as tie

@@ -1,5 +1,5 @@
 -- `query::fields::property_at` meets its contract: the six bytes lie inside, since i is below the count.
-use Rattle.query.proofs.Reading.{property-is}
+use Rattle.query.proofs.Records.{property-is}
 use borrow.Author.Needs.{needs}
 use Rattle.query.proofs.fields.property_at.Statement.{statement}
 use Rattle.query.proofs.fields.property_at.Tie as tie

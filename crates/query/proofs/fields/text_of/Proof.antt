@@ -1,5 +1,5 @@
 -- `query::fields::text_of` meets its contract: the text lies inside, and its length byte says how many bytes it has.
-use Rattle.query.proofs.Reading.{place-inside, text-is}
+use Rattle.query.proofs.Records.{place-inside, text-is}
 use mathlib.Core.Path.{refl}
 use native.Mathlib.Omega.{arith}
 use borrow.Author.Needs.{needs}

@@ -1,7 +1,7 @@
 -- `query::fields::text_place` meets its contract: after i texts the place is that of text i, and each text passed lies inside.
 use Rattle.query.specs.Records.{textPlace}
 use Prim.Native.Nat.{_≤_, _-_}
-use Rattle.query.proofs.Reading.{place-start, place-inside, place-next, place-end}
+use Rattle.query.proofs.Records.{place-start, place-inside, place-next, place-end}
 use mathlib.Core.Path.{_≡_}
 use native.Mathlib.Omega.{arith}
 use borrow.Author.Needs.{needs}

@@ -1,5 +1,5 @@
 -- `query::place::behind_text_section` meets its contract: a count that fits is a byte of the slice, so that one place on is no sum too large.
-use Rattle.query.proofs.Places.{count-inside, text-section-yes, text-section-no}
+use Rattle.query.proofs.SectionsLaws.{count-inside, text-section-yes, text-section-no}
 use mathlib.Core.Path.{sym, _∙_}
 use native.Mathlib.Omega.{arith}
 use borrow.Author.Needs.{needs}

@@ -1,6 +1,6 @@
 -- `query::place::behind_texts` meets its contract: the texts that are left, from where they begin, are behind where all of them are.
 use Rattle.query.specs.Sections.{behindTexts}
-use Rattle.query.proofs.Places.{texts-next, texts-stop, texts-none}
+use Rattle.query.proofs.SectionsLaws.{texts-next, texts-stop, texts-none}
 use mathlib.Core.Path.{_≡_, refl, sym, _∙_}
 use native.Mathlib.Omega.{arith}
 use borrow.Author.Needs.{needs}

@@ -1,5 +1,5 @@
 -- `query::place::byte_at` meets its contract: a byte of the slice is below 256, and past the end the definition reads 0.
-use Rattle.query.proofs.Places.{byte-past}
+use Rattle.query.proofs.SectionsLaws.{byte-past}
 use Rattle.query.specs.Sections.{byteAt}
 use mathlib.Core.Path.{refl, sym}
 use native.Mathlib.Omega.{arith}

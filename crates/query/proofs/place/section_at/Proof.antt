@@ -1,6 +1,6 @@
 -- `query::place::section_at` meets its contract: the count is the byte that was read.
 use Prim.Native.Nat.{ℕ, _+_}
-use Rattle.query.proofs.Places.{section}
+use Rattle.query.proofs.SectionsLaws.{section}
 use mathlib.Core.Path.{ap}
 use borrow.Author.Needs.{needs}
 use Rattle.query.proofs.place.section_at.Statement.{statement}

@@ -1,5 +1,5 @@
 -- `query::place::sections_of` meets its contract: each way out is one case of the definition, and a section that fits has its count inside.
-use Rattle.query.proofs.Places.{no-first, no-second, no-third, no-fourth, no-fifth, all-five, records-inside, texts-inside}
+use Rattle.query.proofs.SectionsLaws.{no-first, no-second, no-third, no-fourth, no-fifth, all-five, records-inside, texts-inside}
 use mathlib.Core.Path.{sym, _∙_}
 use borrow.Author.Needs.{needs}
 use Rattle.query.proofs.place.sections_of.Statement.{statement}

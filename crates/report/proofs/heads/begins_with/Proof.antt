@@ -2,7 +2,7 @@
 use mathlib.Core.Path.{refl, sym}
 use Prim.Native.Nat.{_-_}
 use lib.ListN.{length}
-use Rattle.report.proofs.Standing.{begins-short, Compared, compared-next, compared-stop, compared-end}
+use Rattle.report.proofs.HeadsLaws.{begins-short, Compared, compared-next, compared-stop, compared-end}
 use native.Mathlib.Omega.{arith}
 use Rattle.report.proofs.heads.begins_with.Statement.{statement}
 use Rattle.report.proofs.heads.begins_with.Tie as tie

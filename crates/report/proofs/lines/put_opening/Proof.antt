@@ -1,6 +1,6 @@
 -- Stamp, start and end, each behind its head, and CR LF are the lines before the periods.
 use Rattle.report.specs.Heads.{stampHead, startHead, endHead}
-use Rattle.report.proofs.Composing.{timed-place, put-opening}
+use Rattle.report.proofs.Writing.{timed-place, put-opening}
 use native.Mathlib.Omega.{arith}
 use borrow.Author.Needs.{needs}
 use Rattle.report.proofs.lines.put_opening.Statement.{statement}

@@ -1,5 +1,5 @@
 -- A head with the start, a solidus with the end, and CR LF are the line of the period.
-use Rattle.report.proofs.Composing.{timed-place, put-line}
+use Rattle.report.proofs.Writing.{timed-place, put-line}
 use native.Mathlib.Omega.{arith}
 use borrow.Author.Needs.{needs}
 use Rattle.report.proofs.lines.put_period.Statement.{statement}

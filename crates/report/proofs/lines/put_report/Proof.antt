@@ -1,5 +1,5 @@
 -- Opening, periods and closing, one behind the other, are the report, and the room for it is known from their lengths.
-use Rattle.report.proofs.Composing.{put-report, opening-asks, types-good, types-room, closing-room}
+use Rattle.report.proofs.Writing.{put-report, opening-asks, types-good, types-room, closing-room}
 use Rattle.report.specs.Heads.{closing}
 use native.Mathlib.Omega.{arith}
 use borrow.Author.Needs.{needs}

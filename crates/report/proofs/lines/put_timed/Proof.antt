@@ -1,5 +1,5 @@
 -- Two runs of bytes, one behind the other, are one run.
-use Rattle.report.proofs.Composing.{put-timed}
+use Rattle.report.proofs.Writing.{put-timed}
 use borrow.Author.Needs.{needs}
 use Rattle.report.proofs.lines.put_timed.Statement.{statement}
 use Rattle.report.proofs.lines.put_timed.Tie as tie

@@ -1,5 +1,5 @@
 -- The lines of the three types stand one behind the other, each where the last one ended.
-use Rattle.report.proofs.Composing.{busy-room, tentative-room, unavailable-room, put-types}
+use Rattle.report.proofs.Writing.{busy-room, tentative-room, unavailable-room, put-types}
 use Rattle.report.specs.Bytes.{periodHead}
 use native.Mathlib.Omega.{arith}
 use borrow.Author.Needs.{needs}

@@ -1,5 +1,5 @@
 -- The three steps make the definition: rows that end before, the widened stretch, the rows behind it.
-use Rattle.table.proofs.Columns.{ends-within}
+use Rattle.table.proofs.Columns.{ends-secondIn}
 use Rattle.table.proofs.Tables.{added}
 use Rattle.table.specs.Tables.{Sound}
 use borrow.Author.Needs.{needs}
@@ -13,7 +13,7 @@ skip-requires : tie.Need-skip-requires
 skip-requires c κs = search needs
 
 take-in-requires : tie.Need-take-in-requires
-take-in-requires c κs = (rw (c .before .before .before .before .before .skip .ensures) (ends-within _ _ _), search needs, search needs)
+take-in-requires c κs = (rw (c .before .before .before .before .before .skip .ensures) (ends-secondIn _ _ _), search needs, search needs)
 
 splice-requires : tie.Need-splice-requires
 splice-requires c κs = search needs

@@ -1,5 +1,5 @@
 -- The three ways out are the definition's tests; a day that is there is in one of twelve months, so that the sums fit.
-use Rattle.time.proofs.Readers.{day-parts, checkedDay-below, checkedDay-above, checkedDay-of}
+use Rattle.time.proofs.DateTime.{day-parts, checkedDay-below, checkedDay-above, checkedDay-of}
 use Rattle.time.proofs.Months.{monthDays-month}
 use native.Mathlib.Omega.{arith}
 use borrow.Author.Needs.{needs}

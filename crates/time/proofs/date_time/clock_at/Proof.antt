@@ -1,5 +1,5 @@
 -- The T, the day and the time decide one after the other, and both numbers are small.
-use Rattle.time.proofs.Readers.{clockAt-mark, clockAt-day, clockAt-time, clockAt-of, dateAt-small, timeAt-small}
+use Rattle.time.proofs.DateTime.{clockAt-mark, clockAt-day, clockAt-time, clockAt-of, dateAt-small, timeAt-small}
 use mathlib.Core.Path.{sym, _∙_}
 use native.Mathlib.Omega.{arith}
 use borrow.Author.Needs.{needs}

@@ -1,6 +1,6 @@
 -- Each way out is a case of the three numbers.
 use Rattle.time.specs.DateTime.{dateAt}
-use Rattle.time.proofs.Readers.{yearAt-small, three-first, three-second, three-third, three-all}
+use Rattle.time.proofs.DateTime.{yearAt-small, three-first, three-second, three-third, three-all}
 use mathlib.Core.Path.{sym, _∙_}
 use borrow.Author.Needs.{needs}
 use Rattle.time.proofs.date_time.date_at.Statement.{statement}

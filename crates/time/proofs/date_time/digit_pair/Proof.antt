@@ -1,5 +1,5 @@
 -- Two digits are 48 to 57 each, so that nothing wraps; either way out is the definition's.
-use Rattle.time.proofs.Readers.{both-digits, digitPair-of, digitPair-bad}
+use Rattle.time.proofs.DateTime.{both-digits, digitPair-of, digitPair-bad}
 use native.Mathlib.Omega.{arith}
 use borrow.Author.Needs.{needs}
 use Rattle.time.proofs.date_time.digit_pair.Statement.{statement}

@@ -1,5 +1,5 @@
 -- The length and the day's number decide, and a day's number is small.
-use Rattle.time.proofs.Readers.{readDate-length, readDate-bad, readDate-of, dateAt-small}
+use Rattle.time.proofs.DateTime.{readDate-length, readDate-bad, readDate-of, dateAt-small}
 use mathlib.Core.Path.{sym, _∙_}
 use native.Mathlib.Omega.{arith}
 use borrow.Author.Needs.{needs}

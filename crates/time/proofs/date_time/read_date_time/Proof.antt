@@ -1,5 +1,5 @@
 -- The length decides, and at sixteen bytes the Z.
-use Rattle.time.proofs.Readers.{readDateTime-floating, readDateTime-length, readDateTime-mark, readDateTime-utc}
+use Rattle.time.proofs.DateTime.{readDateTime-floating, readDateTime-length, readDateTime-mark, readDateTime-utc}
 use mathlib.Core.Path.{_∙_}
 use borrow.Author.Needs.{needs}
 use Rattle.time.proofs.date_time.read_date_time.Statement.{statement}

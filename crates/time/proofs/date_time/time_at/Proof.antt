@@ -1,6 +1,6 @@
 -- Each way out is a case of the three numbers.
 use Rattle.time.specs.DateTime.{timeAt}
-use Rattle.time.proofs.Readers.{three-first, three-second, three-third, three-all}
+use Rattle.time.proofs.DateTime.{three-first, three-second, three-third, three-all}
 use mathlib.Core.Path.{sym, _∙_}
 use borrow.Author.Needs.{needs}
 use Rattle.time.proofs.date_time.time_at.Statement.{statement}

@@ -1,6 +1,6 @@
 -- Each way out is a case of the two pairs, each at most 99.
 use Rattle.time.specs.DateTime.{yearAt}
-use Rattle.time.proofs.Readers.{pairAt-small, joined-first, joined-second, joined-both}
+use Rattle.time.proofs.DateTime.{pairAt-small, joined-first, joined-second, joined-both}
 use mathlib.Core.Path.{sym, _∙_}
 use native.Mathlib.Omega.{arith}
 use borrow.Author.Needs.{needs}

@@ -3,7 +3,7 @@ use Prim.Native.Nat.{_≤_, _-_}
 use lib.ListN.{length, drop}
 use Rattle.time.specs.declared.duration.Stage.the-variants.{Start}
 use Rattle.time.specs.Duration.{Small, runs, blank, finish, durationText}
-use Rattle.time.proofs.Durations.{blank-small, step-small, runs-next, runs-end}
+use Rattle.time.proofs.DurationLaws.{blank-small, step-small, runs-next, runs-end}
 use mathlib.Core.Path.{_≡_, refl, sym, ap, _∙_}
 use native.Mathlib.Omega.{arith}
 use borrow.Author.Needs.{needs}

@@ -1,5 +1,5 @@
 -- The test is the definition's, at the weight that the callee answers.
-use Rattle.time.proofs.Durations.{weight-small, finish-of, finish-bad}
+use Rattle.time.proofs.DurationLaws.{weight-small, finish-of, finish-bad}
 use native.Mathlib.Omega.{arith}
 use borrow.Author.Needs.{needs}
 use Rattle.time.proofs.duration.finish.Statement.{statement}

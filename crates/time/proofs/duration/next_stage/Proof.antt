@@ -1,5 +1,5 @@
 -- Each arm is the definition at its stage and letter, or at none of the letters.
-use Rattle.time.proofs.Durations.{nextStage-at}
+use Rattle.time.proofs.DurationLaws.{nextStage-at}
 use borrow.Author.Tests.{ne-eqb}
 use Rattle.time.specs.Duration.{nextStage}
 use Rattle.time.specs.declared.duration.Stage.the-variants.{Start, Sign, Period, Weeks, Days, Time, Hours, Minutes, Seconds, Wrong}

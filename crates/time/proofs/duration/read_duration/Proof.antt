@@ -1,5 +1,5 @@
 -- The text decides, and then the limit; what is read is small, so that the sum fits.
-use Rattle.time.proofs.Durations.{durationText-small, readDuration-bad, readDuration-of, readDuration-over}
+use Rattle.time.proofs.DurationLaws.{durationText-small, readDuration-bad, readDuration-of, readDuration-over}
 use mathlib.Core.Path.{sym, _∙_}
 use native.Mathlib.Omega.{arith}
 use borrow.Author.Needs.{needs}

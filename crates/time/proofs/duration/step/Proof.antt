@@ -1,6 +1,6 @@
 -- A byte's interval says whether it is a digit and what its capital is.
 use mathlib.Core.Logic.{⊎-elim}
-use Rattle.time.proofs.Durations.{step-digit, step-low, step-middle, step-high, step-lower}
+use Rattle.time.proofs.DurationLaws.{step-digit, step-low, step-middle, step-high, step-lower}
 use mathlib.Core.Path.{_∙_}
 use native.Mathlib.Omega.{arith}
 use borrow.Author.Needs.{needs}

@@ -1,5 +1,5 @@
 -- Each arm is the definition at its letter, or at none of the letters.
-use Rattle.time.proofs.Durations.{timeStart-at}
+use Rattle.time.proofs.DurationLaws.{timeStart-at}
 use borrow.Author.Tests.{ne-eqb}
 use Rattle.time.specs.Duration.{timeStart}
 use Rattle.time.proofs.duration.time_start.Statement.{statement}

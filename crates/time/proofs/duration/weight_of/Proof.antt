@@ -1,5 +1,5 @@
 -- Each arm is the definition at its stage.
-use Rattle.time.proofs.Durations.{weightOf-at}
+use Rattle.time.proofs.DurationLaws.{weightOf-at}
 use Rattle.time.specs.Duration.{weightOf}
 use Rattle.time.specs.declared.duration.Stage.the-variants.{Start, Sign, Period, Weeks, Days, Time, Hours, Minutes, Seconds, Wrong}
 use borrow.Author.Needs.{needs}

@@ -1,5 +1,5 @@
 -- The test is the definition's; a number of at most six digits fits.
-use Rattle.time.proofs.Durations.{number-small, withDigit-of, withDigit-full}
+use Rattle.time.proofs.DurationLaws.{number-small, withDigit-of, withDigit-full}
 use mathlib.Core.Path.{_∙_}
 use native.Mathlib.Omega.{arith}
 use borrow.Author.Needs.{needs}

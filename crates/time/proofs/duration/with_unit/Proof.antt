@@ -1,5 +1,5 @@
 -- The test is the definition's, at the stage and the weight that the callees answer; both products are small.
-use Rattle.time.proofs.Durations.{unit-fits, withUnit-of, withUnit-wrong}
+use Rattle.time.proofs.DurationLaws.{unit-fits, withUnit-of, withUnit-wrong}
 use mathlib.Core.Path.{_∙_}
 use native.Mathlib.Omega.{arith}
 use borrow.Author.Needs.{needs}

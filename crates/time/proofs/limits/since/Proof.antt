@@ -1,5 +1,5 @@
 -- The two tests are the definition's.
-use Rattle.time.proofs.Seconds.{since-before, since-after, since-within}
+use Rattle.time.proofs.LimitsLaws.{since-before, since-after, since-within}
 use Rattle.time.specs.Limits.{lastSecond}
 use Rattle.time.proofs.limits.since.Statement.{statement}
 use Rattle.time.proofs.limits.since.Tie as tie

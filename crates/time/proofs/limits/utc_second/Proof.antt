@@ -1,7 +1,7 @@
 -- In each kind's arm the definition is its clause for that kind.
 use Rattle.time.specs.declared.date_time.Kind.{Kind}
 use Rattle.time.specs.Limits.{utcSecond, epoch}
-use Rattle.time.proofs.Seconds.{utcSecond-kind}
+use Rattle.time.proofs.LimitsLaws.{utcSecond-kind}
 use mathlib.Core.Path.{_∙_}
 use borrow.Author.Needs.{needs}
 use Rattle.time.proofs.limits.utc_second.Statement.{statement}

@@ -1,6 +1,6 @@
 -- The division is the count of months begun, computed at every day of a year.
 use mathlib.Core.Bool.{true, false}
-use Rattle.time.proofs.Calendar.{yearIn-small, monthIn-early, monthIn-by}
+use Rattle.time.proofs.DaysLaws.{yearIn-small, monthIn-early, monthIn-by}
 use native.Mathlib.Omega.{arith}
 use borrow.Author.Needs.{needs}
 use Rattle.time.proofs.writing.month_in.Statement.{statement}

@@ -2,7 +2,7 @@
 use Prim.Native.Nat.{_≤_, _+_, _-_}
 use lib.Seq.{sets}
 use lib.ListN.{length, drop, length-set}
-use Rattle.time.proofs.Putting.{sets-start, sets-next, sets-end}
+use Rattle.time.proofs.Stores.{sets-start, sets-next, sets-end}
 use mathlib.Core.Path.{_≡_, refl, sym, _∙_}
 use native.Mathlib.Omega.{arith}
 use Rattle.time.proofs.writing.put_bytes.Statement.{statement}

@@ -1,5 +1,5 @@
 -- Two runs of bytes, one behind the other, are the text.
-use Rattle.time.proofs.Written.{written-parts}
+use Rattle.time.proofs.WritingLaws.{written-parts}
 use Rattle.time.specs.Limits.{lastSecond}
 use native.Mathlib.Omega.{arith}
 use borrow.Author.Needs.{needs}

@@ -1,5 +1,5 @@
 -- Each arm is the definition's clause, and a start with a duration is small.
-use Rattle.values.proofs.Periods.{readDuration-small}
+use Rattle.values.proofs.PeriodLaws.{readDuration-small}
 use Rattle.time.specs.Limits.{lastSecond}
 use Rattle.values.specs.Period.{endBy}
 use mathlib.Core.Path.{sym, _∙_}

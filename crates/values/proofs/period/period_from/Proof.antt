@@ -1,5 +1,5 @@
 -- Each arm is the definition's clause, and a start that is read is within the limits.
-use Rattle.values.proofs.Periods.{utcAt-small}
+use Rattle.values.proofs.PeriodLaws.{utcAt-small}
 use Rattle.values.specs.Period.{periodFrom}
 use mathlib.Core.Path.{sym, _∙_}
 use borrow.Author.Needs.{needs}

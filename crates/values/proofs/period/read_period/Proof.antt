@@ -1,6 +1,6 @@
 -- The place of the slash tells whether there is one, and where start and end stand.
-use Rattle.values.proofs.Periods.{periodOf-at, periodOf-none}
-use Rattle.line.proofs.Pieces.{before-fits}
+use Rattle.values.proofs.PeriodLaws.{periodOf-at, periodOf-none}
+use Rattle.line.proofs.Splitting.{before-fits}
 use mathlib.Core.Path.{_∙_}
 use borrow.Author.Needs.{needs}
 use Rattle.values.proofs.period.read_period.Statement.{statement}

@@ -2,8 +2,8 @@
 use lib.ListN.{length}
 use Prim.Native.Nat.{_-_}
 use borrow.Author.Tests.{not-true, not-false}
-use Rattle.time.proofs.Readers.{digit-range}
-use Rattle.values.proofs.Rules.{number-length, Digits, digits-start, digits-small, digits-next, digits-stop, digits-over, digits-of}
+use Rattle.time.proofs.DateTime.{digit-range}
+use Rattle.values.proofs.RuleLaws.{number-length, Digits, digits-start, digits-small, digits-next, digits-stop, digits-over, digits-of}
 use mathlib.Core.Path.{sym, _∙_}
 use native.Mathlib.Omega.{arith}
 use Rattle.values.proofs.rule.number_to.Statement.{statement}

@@ -1,6 +1,6 @@
 -- The place of the sign tells whether there is one, and where name and value stand.
-use Rattle.values.proofs.Rules.{partOf-unsigned, partOf-named, partOf-unnamed}
-use Rattle.line.proofs.Pieces.{before-fits}
+use Rattle.values.proofs.RuleLaws.{partOf-unsigned, partOf-named, partOf-unnamed}
+use Rattle.line.proofs.Splitting.{before-fits}
 use mathlib.Core.Path.{_∙_}
 use borrow.Author.Needs.{needs}
 use Rattle.values.proofs.rule.part_of.Statement.{statement}

@@ -1,5 +1,5 @@
 -- The tests stand in the order of the definition.
-use Rattle.values.proofs.Rules.{ruleBy-unsupported, ruleBy-bad, ruleBy-of}
+use Rattle.values.proofs.RuleLaws.{ruleBy-unsupported, ruleBy-bad, ruleBy-of}
 use borrow.Author.Needs.{needs}
 use Rattle.values.proofs.rule.rule_by.Statement.{statement}
 use Rattle.values.proofs.rule.rule_by.Tie as tie

@@ -1,7 +1,7 @@
 -- With the parts before a place, those from it on give all the parts.
 use lib.ListN.{length}
 use Prim.Native.Nat.{_-_}
-use Rattle.values.proofs.Rules.{Gathered, gathered-start, gathered-next, gathered-end}
+use Rattle.values.proofs.RuleLaws.{PartsRead, parts-start, parts-next, parts-end}
 use Rattle.values.proofs.Items.{item-rises, item-inside}
 use mathlib.Core.Path.{_∙_}
 use native.Mathlib.Omega.{arith}
@@ -10,7 +10,7 @@ use Rattle.values.proofs.rule.rule_of.Statement.{statement}
 use Rattle.values.proofs.rule.rule_of.Tie as tie
 
 abbrev Inv-loop : tie.InvT-loop
-Inv-loop c v p₀ from₀ p from = Gathered c v p from
+Inv-loop c v p₀ from₀ p from = PartsRead c v p from
 
 abbrev μ-loop : tie.MeasureT-loop
 μ-loop c v p₀ from₀ p from = length v - from
@@ -19,7 +19,7 @@ no-parts-requires : tie.Need-no-parts-requires Inv-loop μ-loop
 no-parts-requires c κs = search needs
 
 loop-holds : tie.Need-loop-holds Inv-loop μ-loop
-loop-holds c = gathered-start _ _ _ (c .no-parts .ensures)
+loop-holds c = parts-start _ _ _ (c .no-parts .ensures)
 
 find-requires : tie.Need-find-requires Inv-loop μ-loop
 find-requires c κs = search needs
@@ -43,7 +43,7 @@ rule-by-requires : tie.Need-rule-by-requires Inv-loop μ-loop
 rule-by-requires c κs = search needs
 
 returns : tie.Need-returns Inv-loop μ-loop
-returns c = c .rule-by .ensures ∙ gathered-end _ _ _ (c .before .before .before .before .before .find .ensures) (c .before .if1 .taken) (c .before .before .before .part-of .ensures) (c .before .before .with-part .ensures) (c .before .before .before .before .before .before .loop .inv)
+returns c = c .rule-by .ensures ∙ parts-end _ _ _ (c .before .before .before .before .before .find .ensures) (c .before .if1 .taken) (c .before .before .before .part-of .ensures) (c .before .before .with-part .ensures) (c .before .before .before .before .before .before .loop .inv)
 
 add-from : tie.Need-add-from Inv-loop μ-loop
 add-from c = omega arith
@@ -52,7 +52,7 @@ loop-less : tie.Need-loop-less Inv-loop μ-loop
 loop-less c = omega (arith, item-rises _ _ _ _ (c .before .before .before .before .find .ensures), item-inside _ _ _ _ (c .before .before .before .before .before .loop .inv .inside-value) (c .before .before .before .before .find .ensures))
 
 loop-again : tie.Need-loop-again Inv-loop μ-loop
-loop-again c = gathered-next _ _ _ (c .before .before .before .before .find .ensures) (c .if1 .left) (c .before .before .part-of .ensures) (c .before .with-part .ensures) (c .before .before .before .before .before .loop .inv)
+loop-again c = parts-next _ _ _ (c .before .before .before .before .find .ensures) (c .if1 .left) (c .before .before .part-of .ensures) (c .before .with-part .ensures) (c .before .before .before .before .before .loop .inv)
 
 pub rule-of-spec : {M : Type 1} → statement M
 rule-of-spec =

@@ -1,5 +1,5 @@
 -- `vectors::times::write_again` meets what it calls: a second that `utc_second` gives is within the limits.
-use Rattle.time.proofs.Seconds.{utcSecond-in}
+use Rattle.time.proofs.LimitsLaws.{utcSecond-in}
 use mathlib.Core.Path.{sym, _∙_}
 use borrow.Author.Needs.{needs}
 use Rattle.vectors.proofs.times.write_again.Statement.{statement}

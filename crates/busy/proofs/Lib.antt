@@ -1,5 +1,0 @@
-pub mod Bounds
-pub mod EventSizes
-pub mod Starts
-pub mod Searching
-pub mod PeriodLists

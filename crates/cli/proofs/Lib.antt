@@ -1,0 +1,4 @@
+pub mod ArgumentsLaws
+pub mod HexLaws
+pub mod WordsLaws
+pub mod SumsLaws

@@ -1,0 +1,55 @@
+-- Each word is tried in turn.
+use mathlib.Core.Path.{sym, _∙_}
+use Rattle.cli.specs.Arguments.{commandOf}
+use borrow.Author.Needs.{needs}
+use Rattle.cli.proofs.arguments.command_of.Statement.{statement}
+use Rattle.cli.proofs.arguments.command_of.Tie as tie
+
+slice-aggregate-same-name : tie.Need-slice-aggregate-same-name
+slice-aggregate-same-name c = search needs
+
+same-name-requires : tie.Need-same-name-requires
+same-name-requires c κs = search needs
+
+returns : tie.Need-returns
+unfolding commandOf
+returns c = rw (sym (c .before .same-name .ensures) ∙ c .if1 .taken)
+
+slice-aggregate-same-name-2 : tie.Need-slice-aggregate-same-name-2
+slice-aggregate-same-name-2 c = search needs
+
+same-name-requires-2 : tie.Need-same-name-requires-2
+same-name-requires-2 c κs = search needs
+
+returns-2 : tie.Need-returns-2
+unfolding commandOf
+returns-2 c = rw (sym (c .before .before .before .before .same-name .ensures) ∙ c .before .before .before .if1 .left, sym (c .before .same-name2 .ensures) ∙ c .if2 .taken)
+
+slice-aggregate-same-name-3 : tie.Need-slice-aggregate-same-name-3
+slice-aggregate-same-name-3 c = search needs
+
+same-name-requires-3 : tie.Need-same-name-requires-3
+same-name-requires-3 c κs = search needs
+
+returns-3 : tie.Need-returns-3
+unfolding commandOf
+returns-3 c = rw (sym (c .before .before .before .before .before .before .before .same-name .ensures) ∙ c .before .before .before .before .before .before .if1 .left, sym (c .before .before .before .before .same-name2 .ensures) ∙ c .before .before .before .if2 .left, sym (c .before .same-name3 .ensures) ∙ c .if3 .taken)
+
+returns-4 : tie.Need-returns-4
+unfolding commandOf
+returns-4 c = rw (sym (c .before .before .before .before .before .before .before .same-name .ensures) ∙ c .before .before .before .before .before .before .if1 .left, sym (c .before .before .before .before .same-name2 .ensures) ∙ c .before .before .before .if2 .left, sym (c .before .same-name3 .ensures) ∙ c .if3 .left)
+
+pub command-of-spec : {M : Type 1} → statement M
+command-of-spec =
+    tie.close
+    (tie.spec
+    slice-aggregate-same-name
+    same-name-requires
+    returns
+    slice-aggregate-same-name-2
+    same-name-requires-2
+    returns-2
+    slice-aggregate-same-name-3
+    same-name-requires-3
+    returns-3
+    returns-4)

@@ -1,0 +1,169 @@
+-- Collected tables: none where something is refused; otherwise, from the noted pieces, the covered seconds of the range.
+use Prim.Native.Nat.{ℕ, zero, suc, _+_, _-_, _≤_, _<_}
+use mathlib.Core.Path.{_≡_, sym, ap, _∙_, refl}
+use mathlib.Core.Bool.{Bool, true, _&&_}
+use mathlib.Core.List.{List, [], _∷_, List·Memᴰ}
+use native.Mathlib.Omega.{arith}
+use lib.Dec.{ltb}
+use lib.ListN.{length, take}
+use lib.Seq.{sets}
+use borrow.Author.Tests.{lt-ltb, le-ltb}
+use Rattle.ascii.proofs.Bools.{clash}
+use Rattle.periods.specs.declared.Period.{Period}
+use Rattle.values.specs.declared.times.Context.{Context}
+use Rattle.periods.specs.declared.BusyType.{BusyType}
+use Rattle.table.specs.Runs.{runs, Lies}
+use Rattle.table.specs.Tables.{listed, Empty}
+use Rattle.table.specs.declared.Table.{Table}
+use Rattle.table.proofs.Runs.{runs-same}
+use Rattle.periods.proofs.Periods.{secondIn-true}
+use Rattle.report.specs.Writing.{byType}
+use Rattle.periods.specs.BusyTypes.{reportPlace, isBusy, BusyPeriod}
+use Rattle.events.specs.Events.{Entry}
+use Rattle.calendar.specs.Meaning.{entriesOf, componentsOf}
+use Rattle.calendar.specs.declared.Fault.{Fault}
+use Rattle.pieces.specs.BusyPeriods.{busyPeriods}
+use Rattle.pieces.specs.Columns.{flat, stored, Stored}
+use Rattle.pieces.specs.Covered.{coveredBy, covered}
+use Rattle.pieces.specs.Pieces.{busyPieces}
+use Rattle.pieces.proofs.Columns.{stored-all}
+use Rattle.pieces.proofs.Pieces.{busyPieces-cover, pieces-inside}
+use Rattle.refusals.specs.Refusals.{Row, row, lowest}
+use Rattle.refusals.proofs.Refusals.{row-applies, row-passed}
+use Rattle.refusals.proofs.Stages.{contents-passed, contents-refused}
+use Rattle.walk.specs.Walks.{StoresContents}
+use Rattle.walk.specs.declared.ContentsStored.{ContentsStored}
+use Rattle.tables.specs.Building.{Built}
+use Rattle.tables.proofs.Built.{built-stored}
+use Rattle.collecting.specs.CollectStages.{AllSound, Refuses, Typed, unlessFault, Tabled, pieceRows, fewestPeriods, ContentsTabled}
+use Rattle.collecting.specs.declared.Collected.{Collected}
+
+-- ---- a refusal
+
+none-listed : {x y z : Table} → Empty x → Empty y → Empty z → (b : BusyType) → byType x y z b ≡ []
+unfolding byType
+none-listed p q r BusyType.Busy = p .list
+none-listed p q r BusyType.Tentative = q .list
+none-listed p q r BusyType.Unavailable = r .list
+none-listed p q r BusyType.Free = refl
+
+pub refuses : {x y z : Table} (f : Fault) → Empty x → Empty y → Empty z → Refuses f (record { fault = f; busy = x; tentative = y; unavailable = z })
+refuses f p q r =
+    record {
+      fault-is = refl;
+      no-periods = none-listed p q r;
+      sound = record { busy-sound = p .sound; tentative-sound = q .sound; unavailable-sound = r .sound };
+    }
+
+module _ {rows : List Row} {ps : BusyType → List Period} {r : Collected} where
+  pub tabled-refused : {n i : ℕ} → lowest rows ≡ Fault.At n i → Refuses (Fault.At n i) r → Tabled rows ps r
+  unfolding unlessFault
+  tabled-refused e k =
+      record {
+        fault-is = k .fault-is ∙ sym e;
+        periods-are = λ b u. k .no-periods b ∙ sym (ap (λ (f : Fault). unlessFault f (ps b)) e);
+        sound = k .sound;
+      }
+
+  pub tabled-passed : {more : List Row} → lowest rows ≡ lowest more → Tabled more ps r → Tabled rows ps r
+  tabled-passed e t =
+      record {
+        fault-is = t .fault-is ∙ sym e;
+        periods-are = λ b u. t .periods-are b u ∙ ap (λ (f : Fault). unlessFault f (ps b)) (sym e);
+        sound = t .sound;
+      }
+
+-- ---- no refusal
+
+module _ {c : List ℕ} {n : ℕ} {r : Collected} (t : Typed c n r) where
+  typed-sound : AllSound r
+  typed-sound =
+      record {
+        busy-sound = t .busy-built .sound;
+        tentative-sound = t .tentative-built .sound;
+        unavailable-sound = t .unavailable-built .sound;
+      }
+
+  -- what is known of the table of any type is known of the three
+  typed-listed : (ps : BusyType → List Period) → ((b : BusyType) (x : Table) → isBusy b ≡ true → Built c n (reportPlace b) x → listed x ≡ ps b)
+      → (b : BusyType) → isBusy b ≡ true → byType (r .busy) (r .tentative) (r .unavailable) b ≡ ps b
+  unfolding byType reportPlace isBusy
+  typed-listed ps f BusyType.Busy u = f BusyType.Busy _ u (t .busy-built)
+  typed-listed ps f BusyType.Tentative u = f BusyType.Tentative _ u (t .tentative-built)
+  typed-listed ps f BusyType.Unavailable u = f BusyType.Unavailable _ u (t .unavailable-built)
+  typed-listed ps f BusyType.Free u = clash u refl
+
+-- no more are taken than there are
+take-least : (m : ℕ) (ps : List BusyPeriod) → length (take m ps) ≤ length ps
+take-least zero ps = omega arith
+take-least (suc m) [] = omega arith
+take-least (suc m) (p ∷ ps) = omega (arith, take-least m ps)
+
+module _ (a e : ℕ) (es : List Entry) where
+  -- a range and its length
+  range-end : a < e → a + (e - a) ≡ e
+  range-end h = omega arith
+
+  pieces-lie : a < e → (p : BusyPeriod) → List·Memᴰ p (busyPieces a e es) → Lies a (a + (e - a)) (p .period)
+  unfolding busyPieces
+  pieces-lie h p m =
+      let i = pieces-inside a e (busyPeriods es) m in
+      record { from = i .from; some = i .rising; to = omega (arith, i .to) }
+
+  -- in the range, the pieces cover what the calendar covers
+  pieces-runs : (b : BusyType) → isBusy b ≡ true → a < e → runs (coveredBy b (busyPieces a e es)) a (e - a) ≡ fewestPeriods a e es b
+  unfolding fewestPeriods
+  pieces-runs b u h =
+      runs-same (coveredBy b (busyPieces a e es)) (covered b es) a (e - a)
+      (λ x k l. busyPieces-cover b u a e x es ∙ ap (λ (t : Bool). t && covered b es x) (secondIn-true a e x k (omega (arith, range-end h))))
+
+  module _ {o o′ : List ℕ} {n : ℕ} (h : Stored o 0 (busyPieces a e es) o′ n) where
+    stored-many : 512 < n → lowest (pieceRows a e es) ≡ Fault.At 11 0
+    unfolding pieceRows stored
+    stored-many k =
+        row-applies _ _ (lt-ltb 512 (length (busyPieces a e es)) (omega (arith, h .count, take-least 513 (busyPieces a e es))))
+
+    module _ (k : n ≤ 512) where
+      all-stored : stored 0 (busyPieces a e es) ≡ busyPieces a e es
+      all-stored = stored-all h (omega arith)
+
+      stored-count : n ≡ length (busyPieces a e es)
+      stored-count = (let z : n ≡ length (stored 0 (busyPieces a e es)) = omega (arith, h .count) in z) ∙ ap length all-stored
+
+      stored-numbers : o′ ≡ sets o 0 (flat (busyPieces a e es))
+      stored-numbers = h .numbers ∙ ap (λ (ps : List BusyPeriod). sets o 0 (flat ps)) all-stored
+
+      few-stored : lowest (pieceRows a e es) ≡ Fault.None
+      unfolding pieceRows lowest
+      few-stored = row-passed (row 11 0 (ltb 512 (length (busyPieces a e es)))) [] (le-ltb 512 (length (busyPieces a e es)) (omega (arith, stored-count)))
+
+      tabled-stored : {r : Collected} → length o ≡ 1539 → a < e → Typed o′ n r → Tabled (pieceRows a e es) (fewestPeriods a e es) r
+      unfolding unlessFault
+      tabled-stored l w t =
+          record {
+            fault-is = t .fault-is ∙ sym few-stored;
+            periods-are = λ b u.
+                typed-listed t (fewestPeriods a e es)
+                (λ y x v d.
+                built-stored y a (e - a) (busyPieces a e es) o stored-numbers (omega (arith, stored-count)) stored-count (pieces-lie w) d
+                ∙ pieces-runs y v w)
+                b u
+                ∙ sym (ap (λ (f : Fault). unlessFault f (fewestPeriods a e es b)) few-stored);
+            sound = typed-sound t;
+          }
+
+-- ---- refusals 8 to 11, then the tables
+
+module _ {c : Context} {u : List ℕ} {a e : ℕ} {o o′ : List ℕ} {x : ContentsStored} (k : StoresContents c u a e o o′ x) {r : Collected} where
+  pub contents-refuse : {n i : ℕ} → x .fault ≡ Fault.At n i → Refuses (Fault.At n i) r → ContentsTabled c u a e r
+  contents-refuse q w = tabled-refused (contents-refused c u _ (sym (k .fault-is) ∙ q)) w
+
+  module _ (q : x .fault ≡ Fault.None) where
+    contents-pass : Tabled (pieceRows a e (entriesOf c (componentsOf u))) (fewestPeriods a e (entriesOf c (componentsOf u))) r → ContentsTabled c u a e r
+    contents-pass t = tabled-passed (contents-passed c u _ (sym (k .fault-is) ∙ q)) t
+
+    pub contents-many : 512 < x .count → Refuses (Fault.At 11 0) r → ContentsTabled c u a e r
+    contents-many m w = contents-pass (tabled-refused (stored-many a e _ (k .stored q) m) w)
+
+    pub contents-few : x .count ≤ 512 → length o ≡ 1539 → a < e → Typed o′ (x .count) r → ContentsTabled c u a e r
+    contents-few m l w t = contents-pass (tabled-stored a e _ (k .stored q) m l w t)

@@ -1,0 +1,58 @@
+-- At most 513 pieces are noted: with 513 there are more than 512, with fewer they are all.
+use Rattle.collecting.proofs.CollectStages.{contents-refuse, contents-many, contents-few}
+use borrow.Author.Needs.{needs}
+use Rattle.collecting.proofs.collect_stored.Statement.{statement}
+use Rattle.collecting.proofs.collect_stored.Tie as tie
+
+store-contents-requires : tie.Need-store-contents-requires
+store-contents-requires c κs = search needs
+
+enum-known-f : tie.Need-enum-known-f
+enum-known-f c = search needs
+
+refused-requires : tie.Need-refused-requires
+refused-requires c κs = search needs
+
+enum-told : tie.Need-enum-told
+enum-told c = search needs
+
+refused-requires-2 : tie.Need-refused-requires-2
+refused-requires-2 c κs = search needs
+
+same-length : tie.Need-same-length
+same-length c = search needs
+
+returns : tie.Need-returns
+returns c = contents-many (c .before .before .before .before .before .before .store-contents .ensures) (c .before .before .enum-told .given .1) (c .before .if1 .taken) (c .refused2 .ensures)
+
+tables-of-requires : tie.Need-tables-of-requires
+tables-of-requires c κs = search needs
+
+same-length-2 : tie.Need-same-length-2
+same-length-2 c = search needs
+
+returns-2 : tie.Need-returns-2
+returns-2 c = contents-refuse (c .before .before .before .before .before .before .store-contents .ensures) (c .before .before .f .given .1) (c .refused .ensures)
+
+same-length-3 : tie.Need-same-length-3
+same-length-3 c = search needs
+
+returns-3 : tie.Need-returns-3
+returns-3 c = contents-few (c .before .before .before .before .before .before .before .store-contents .ensures) (c .before .before .before .enum-told .given .1) (c .before .before .if1 .left) (c .before .before .before .before .before .before .before .before .before .before .before .pre .0) (c .before .before .before .before .before .before .before .before .before .before .before .pre .1 .1 .0) (c .tables-of .ensures)
+
+pub collect-stored-spec : {M : Type 1} → statement M
+collect-stored-spec =
+    tie.close
+    (tie.spec
+    store-contents-requires
+    enum-known-f
+    refused-requires
+    enum-told
+    refused-requires-2
+    same-length
+    returns
+    tables-of-requires
+    same-length-2
+    returns-2
+    same-length-3
+    returns-3)

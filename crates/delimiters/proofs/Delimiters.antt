@@ -1,0 +1,132 @@
+-- What a line is to the nesting, and what it does to the innermost open component.
+use Prim.Native.Nat.{ℕ, _+_, _-_}
+use mathlib.Core.Path.{_≡_, refl, sym, ap, _∙_}
+use mathlib.Core.Bool.{Bool, true, false, cond, not, _&&_}
+use mathlib.Core.List.{List, [], _∷_, map}
+use native.Mathlib.Omega.{arith}
+use lib.Dec.{eqb}
+use lib.ListN.{length, take, drop, getD, length-map}
+use borrow.Author.Tests.{ne-eqb, eqb-false, not-true}
+use Rattle.ascii.specs.Names.{sameName, isName}
+use Rattle.ascii.specs.Words.{ascii}
+use Rattle.ascii.specs.Bytes.{upper}
+use Rattle.ascii.proofs.Bools.{and-left, and-right}
+use Rattle.ascii.proofs.Names.{sameName-iff}
+use Rattle.line.specs.Grammar.{ContentLine}
+use Rattle.line.specs.Reading.{lineOf, nameOf, valueOf, parameterTexts, parameterOf, Plain}
+use Rattle.line.proofs.Splitting.{suffix}
+use Rattle.line.proofs.Reading.{other-first}
+use Rattle.delimiters.specs.Delimiters.{delimiterOf, delimitedBy, noParameters}
+use Rattle.delimiters.specs.Innermost.{isCalendar, mayBegin, nestingStepBy, beginsBy}
+use Rattle.delimiters.specs.declared.Delimiter.{Delimiter}
+use Rattle.delimiters.specs.declared.Delimiter.the-variants.{Begins, Ends, Property, Wrong}
+use Rattle.delimiters.specs.declared.NestingStep.the-variants.{Opens, Stays, Closes, Breaks}
+
+-- ---- what a line is
+
+no-parameters : (ts : List (List ℕ)) → noParameters (map parameterOf ts) ≡ eqb (length ts) 0
+no-parameters [] = refl
+no-parameters (t ∷ ts) = sym (ne-eqb (length (t ∷ ts)) 0 (λ e. omega arith))
+
+-- the code's test is the rule's
+delimited-test : (l : List ℕ) (n : ℕ) (b : Bool) → n ≡ length (parameterTexts l) → b ≡ isName (valueOf l)
+    → (noParameters (lineOf l .parameters) && isName (lineOf l .value)) ≡ (eqb n 0 && b)
+unfolding lineOf
+delimited-test l n b p q = rw (no-parameters (parameterTexts l), p, q)
+
+pub delimited-yes : (l : List ℕ) (m : Delimiter) (n : ℕ) (b : Bool) → n ≡ length (parameterTexts l) → b ≡ isName (valueOf l)
+    → (eqb n 0 && b) ≡ true → m ≡ delimitedBy (lineOf l) m
+delimited-yes l m n b p q e = sym (ap (λ (t : Bool). cond t m Wrong) (delimited-test l n b p q ∙ e))
+
+pub delimited-no : (l : List ℕ) (m : Delimiter) (n : ℕ) (b : Bool) → n ≡ length (parameterTexts l) → b ≡ isName (valueOf l)
+    → (eqb n 0 && b) ≡ false → Wrong ≡ delimitedBy (lineOf l) m
+delimited-no l m n b p q e = sym (ap (λ (t : Bool). cond t m Wrong) (delimited-test l n b p q ∙ e))
+
+-- where the colon stands right behind the name, the value is what is left
+module _ {l : List ℕ} {n : ℕ} (p : Plain l n) (m : Delimiter) (b : Bool) (q : b ≡ isName (take (length l - (n + 1)) (drop (n + 1) l))) where
+  plain-count : 0 ≡ length (parameterTexts l)
+  unfolding lineOf
+  plain-count = sym (ap length (p .no-parameters)) ∙ length-map (parameterTexts l) parameterOf
+
+  plain-named : b ≡ isName (valueOf l)
+  plain-named = q ∙ ap isName (suffix l (n + 1) ∙ sym (p .value-behind))
+
+  pub plain-yes : b ≡ true → m ≡ delimitedBy (lineOf l) m
+  plain-yes e = delimited-yes l m 0 b plain-count plain-named e
+
+  pub plain-no : b ≡ false → Wrong ≡ delimitedBy (lineOf l) m
+  plain-no e = delimited-no l m 0 b plain-count plain-named e
+
+-- the same name has the same length
+pub named-length : (w v : List ℕ) (t : Bool) → t ≡ sameName w v → t ≡ true → length v ≡ length w
+named-length w v t q e =
+    sym (length-map v upper) ∙ sym (ap length (sameName-iff w v .0 (sym q ∙ e))) ∙ length-map w upper
+
+-- the mark of a line whose name is BEGIN, or is END
+abbrev delimiting : ContentLine → Bool → Bool → Delimiter
+delimiting x a b = cond a (delimitedBy x Begins) (cond b (delimitedBy x Ends) Property)
+
+module _ (l : List ℕ) (t : Bool) (q : t ≡ sameName (nameOf l) (ascii "BEGIN")) where
+  delimiter-is : (u : Bool) → u ≡ sameName (nameOf l) (ascii "END") → delimiterOf (lineOf l) ≡ delimiting (lineOf l) t u
+  unfolding delimiterOf lineOf
+  delimiter-is u v = rw (q, v)
+
+  pub delimiter-begin : (r : Delimiter) → t ≡ true → r ≡ delimitedBy (lineOf l) Begins → r ≡ delimiterOf (lineOf l)
+  delimiter-begin r e h = h ∙ sym (delimiter-is (sameName (nameOf l) (ascii "END")) refl ∙ ap (λ (a : Bool). delimiting (lineOf l) a (sameName (nameOf l) (ascii "END"))) e)
+
+  module _ (u : Bool) (v : u ≡ sameName (nameOf l) (ascii "END")) (e : t ≡ false) where
+    delimiter-later : (b : Bool) → u ≡ b → delimiterOf (lineOf l) ≡ delimiting (lineOf l) false b
+    delimiter-later b f = delimiter-is u v ∙ ap (λ (a : Bool). delimiting (lineOf l) a u) e ∙ ap (delimiting (lineOf l) false) f
+
+    pub delimiter-end : (r : Delimiter) → u ≡ true → r ≡ delimitedBy (lineOf l) Ends → r ≡ delimiterOf (lineOf l)
+    delimiter-end r f h = h ∙ sym (delimiter-later true f)
+
+    pub delimiter-property : u ≡ false → Property ≡ delimiterOf (lineOf l)
+    delimiter-property f = sym (delimiter-later false f)
+
+-- a line that begins with neither B nor E is a property
+pub delimiter-other : (l : List ℕ) (b : ℕ) → b ≡ upper (getD l 0 0) → (not (eqb b 66) && not (eqb b 69)) ≡ true → Property ≡ delimiterOf (lineOf l)
+unfolding upper
+delimiter-other l b e h =
+    delimiter-property l false
+    (sym (other-first l (ascii "BEGIN") (omega arith) (λ q. eqb-false b 66 (not-true _ (and-left _ _ h)) (e ∙ q))))
+    false
+    (sym (other-first l (ascii "END") (omega arith) (λ q. eqb-false b 69 (not-true _ (and-right (not (eqb b 66)) _ h)) (e ∙ q))))
+    refl
+    refl
+
+-- ---- the function that says what a line does
+
+module _ (n : List ℕ) (d k : ℕ) {m r : Delimiter} {v w : List ℕ} {t : Bool} (p : r ≡ m) (g : w ≡ v) where
+  pub step-opens : r ≡ Begins → t ≡ mayBegin w d k → t ≡ true → Opens ≡ nestingStepBy m v n d k
+  unfolding nestingStepBy
+  step-opens b e h = rw (sym p ∙ b, sym g, sym e ∙ h)
+
+  pub step-begin-breaks : r ≡ Begins → t ≡ mayBegin w d k → t ≡ false → Breaks ≡ nestingStepBy m v n d k
+  unfolding nestingStepBy
+  step-begin-breaks b e h = rw (sym p ∙ b, sym g, sym e ∙ h)
+
+  pub step-closes : r ≡ Ends → t ≡ sameName w n → t ≡ true → Closes ≡ nestingStepBy m v n d k
+  unfolding nestingStepBy
+  step-closes b e h = rw (sym p ∙ b, sym g, sym e ∙ h)
+
+  pub step-end-breaks : r ≡ Ends → t ≡ sameName w n → t ≡ false → Breaks ≡ nestingStepBy m v n d k
+  unfolding nestingStepBy
+  step-end-breaks b e h = rw (sym p ∙ b, sym g, sym e ∙ h)
+
+pub step-stays : (v n : List ℕ) (d k : ℕ) {m r : Delimiter} → r ≡ m → r ≡ Property → Stays ≡ nestingStepBy m v n d k
+unfolding nestingStepBy
+step-stays v n d k p b = rw (sym p ∙ b)
+
+pub step-wrong : (v n : List ℕ) (d k : ℕ) {m r : Delimiter} → r ≡ m → r ≡ Wrong → Breaks ≡ nestingStepBy m v n d k
+unfolding nestingStepBy
+step-wrong v n d k p b = rw (sym p ∙ b)
+
+-- ---- the line that begins VCALENDAR
+
+pub begins-yes : {m r : Delimiter} {v w : List ℕ} (t : Bool) → r ≡ m → w ≡ v → r ≡ Begins → t ≡ sameName w (ascii "VCALENDAR") → t ≡ beginsBy m v
+unfolding isCalendar
+begins-yes t p g b e = rw (sym p ∙ b, sym g) e
+
+pub begins-no : {m r : Delimiter} (v : List ℕ) (q : Delimiter) → r ≡ m → r ≡ q → beginsBy q v ≡ false → false ≡ beginsBy m v
+begins-no v q p b e = sym (ap (λ (j : Delimiter). beginsBy j v) (sym p ∙ b) ∙ e)

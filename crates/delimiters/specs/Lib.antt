@@ -1,0 +1,2 @@
+pub mod Delimiters
+pub mod Innermost

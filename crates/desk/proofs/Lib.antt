@@ -1,4 +1,0 @@
-pub mod Reading
-pub mod Decoding
-pub mod Saying
-pub mod Summing

@@ -1,0 +1,38 @@
+-- Refusals 4 and 5: what the rows of the query paper refuse, whatever rows follow, and what they leave to them.
+use Prim.Native.Nat.{ℕ}
+use mathlib.Core.Path.{_≡_, refl, subst}
+use mathlib.Core.List.{List}
+use native.Mathlib.Omega.{arith}
+use Rattle.calendar.specs.declared.Fault.{Fault}
+use Rattle.query.specs.Sections.{sectionsOf}
+use Rattle.query.specs.declared.Sections.{Sections}
+use Rattle.query.specs.declared.SectionsRead.{SectionsRead}
+use Rattle.query_check.specs.WellFormed.{queryRead, ReadSays}
+use Rattle.query_check.specs.declared.QueryRead.{QueryRead}
+use Rattle.query_check.proofs.Queries.{read-says}
+use Rattle.refusals.specs.Refusals.{Row, lowest, Rising}
+use Rattle.refusals.proofs.Stages.{rises}
+use Rattle.engine.specs.Matching.{misplacedIn, queryRows}
+
+pub query-rising : (s : List ℕ) (rows : List Row) → Rising 5 rows → Rising 3 (queryRows s rows)
+unfolding queryRows
+query-rising s rows g = rises 3 4 refl (omega arith) (rises 4 5 refl (omega arith) g)
+
+module _ (s : List ℕ) (rows : List Row) where
+  says : {r : QueryRead} → queryRead s ≡ r → ReadSays s r
+  says e = subst (ReadSays s) e (read-says s)
+
+  pub query-refused-4 : queryRead s ≡ QueryRead.Bad → lowest (queryRows s rows) ≡ Fault.At 4 0
+  unfolding queryRows lowest
+  query-refused-4 e = rw (says e)
+
+  pub query-refused-5 : queryRead s ≡ QueryRead.Misplaced → lowest (queryRows s rows) ≡ Fault.At 5 0
+  unfolding queryRows lowest misplacedIn
+  query-refused-5 e = let h : ReadSays s QueryRead.Misplaced = says e in rw (h .0, h .2, h .3)
+
+  pub query-passed : (q : Sections) → queryRead s ≡ QueryRead.Of q → lowest (queryRows s rows) ≡ lowest rows
+  unfolding queryRows lowest misplacedIn
+  query-passed q e = let h : ReadSays s (QueryRead.Of q) = says e in rw (h .0, h .1, h .2)
+
+  pub query-sections : (q : Sections) → queryRead s ≡ QueryRead.Of q → sectionsOf s ≡ SectionsRead.Of q
+  query-sections q e = let h : ReadSays s (QueryRead.Of q) = says e in h .1

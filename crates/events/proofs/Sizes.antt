@@ -1,0 +1,238 @@
+-- An event and a block that are read are small, where what their lines say is.
+use Prim.Native.Nat.{ℕ, _≤_}
+use mathlib.Core.Path.{_≡_, refl, subst}
+use mathlib.Core.Bool.{Bool, true, false, cond, _&&_}
+use mathlib.Core.List.{List, [], _∷_}
+use native.Mathlib.Omega.{arith}
+use lib.Dec.{ltb, leb}
+use borrow.Author.Tests.{ltb-true, leb-true}
+use Rattle.ascii.proofs.Bools.{and-right}
+use Rattle.time.specs.Limits.{lastSecond}
+use Rattle.time.specs.declared.duration.Duration.{Duration}
+use Rattle.values.specs.Period.{DurationSmall}
+use Rattle.values.specs.Rule.{LimitSmall, RuleSmall}
+use Rattle.values.specs.declared.times.Time.{Time}
+use Rattle.values.specs.declared.rule.Limit.{Limit}
+use Rattle.property.specs.Properties.{PropertyValueSmall}
+use Rattle.property.specs.declared.PropertyValue.{PropertyValue}
+use Rattle.events.specs.ComponentProperties.{noProperties, withProperty, withProperties}
+use Rattle.events.specs.Events.{sameKind, isDate, statedEnd, statedDuration, endingBy, limitBy, repeatBy, daysBy, intervalBy, eventMade, eventWith, eventFrom, eventBy, blockBetween, blockFrom, blockBy}
+use Rattle.events.specs.Sizes.{EndingSmall, RepeatSmall, EventSmall, BlockSmall}
+use Rattle.events.specs.declared.Ending.{Ending}
+use Rattle.events.specs.declared.Repeat.{Repeat}
+use Rattle.events.specs.declared.Event.{Event}
+use Rattle.events.specs.declared.Bound.{Bound}
+use Rattle.events.specs.declared.Block.{Block}
+use Rattle.events.specs.declared.ComponentProperties.{ComponentProperties}
+use Rattle.events.specs.declared.TimeGiven.{TimeGiven}
+use Rattle.events.specs.declared.DurationGiven.{DurationGiven}
+use Rattle.events.specs.declared.RuleGiven.{RuleGiven}
+use Rattle.events.specs.declared.EndingRead.{EndingRead}
+use Rattle.events.specs.declared.RepeatRead.{RepeatRead}
+use Rattle.events.specs.declared.EventRead.{EventRead}
+use Rattle.events.specs.declared.BlockRead.{BlockRead}
+
+-- ---- what lines say together
+
+abbrev TimeSmall : TimeGiven → Type 0
+TimeSmall (TimeGiven.Given t) = t .second ≤ lastSecond
+TimeSmall TimeGiven.Absent = Unit {0}
+
+abbrev LastsSmall : DurationGiven → Type 0
+LastsSmall (DurationGiven.Given d) = DurationSmall d
+LastsSmall DurationGiven.Absent = Unit {0}
+
+abbrev RepeatsSmall : RuleGiven → Type 0
+RepeatsSmall (RuleGiven.Given r) = RuleSmall r
+RepeatsSmall RuleGiven.Absent = Unit {0}
+
+record ComponentPropertiesSmall (g : ComponentProperties) : Type 0 where
+  start-small : TimeSmall (g .start)
+  end-small : TimeSmall (g .end)
+  lasts-small : LastsSmall (g .lasts)
+  repeats-small : RepeatsSmall (g .repeats)
+
+nothing-small : ComponentPropertiesSmall noProperties
+unfolding noProperties
+nothing-small = record { start-small = tt; end-small = tt; lasts-small = tt; repeats-small = tt }
+
+with-small : (g : ComponentProperties) (x : PropertyValue) → ComponentPropertiesSmall g → PropertyValueSmall x → ComponentPropertiesSmall (withProperty g x)
+unfolding withProperty
+with-small g PropertyValue.Nothing r h = r
+with-small g PropertyValue.Unsupported r h = r
+with-small g PropertyValue.Bad r h = r
+with-small g (PropertyValue.Start t) r h =
+    record { start-small = h; end-small = r .end-small; lasts-small = r .lasts-small; repeats-small = r .repeats-small }
+with-small g (PropertyValue.End t) r h =
+    record { start-small = r .start-small; end-small = h; lasts-small = r .lasts-small; repeats-small = r .repeats-small }
+with-small g (PropertyValue.Lasts d) r h =
+    record { start-small = r .start-small; end-small = r .end-small; lasts-small = h; repeats-small = r .repeats-small }
+with-small g (PropertyValue.Repeats x) r h =
+    record { start-small = r .start-small; end-small = r .end-small; lasts-small = r .lasts-small; repeats-small = h }
+with-small g (PropertyValue.HasStatus x) r h =
+    record { start-small = r .start-small; end-small = r .end-small; lasts-small = r .lasts-small; repeats-small = r .repeats-small }
+with-small g (PropertyValue.Transparent x) r h =
+    record { start-small = r .start-small; end-small = r .end-small; lasts-small = r .lasts-small; repeats-small = r .repeats-small }
+with-small g (PropertyValue.HasPeriods b) r h = r
+
+-- each line says something small
+pub data AllSmall : List PropertyValue → Type 0 where
+  none : AllSmall []
+  then : {x : PropertyValue} {ss : List PropertyValue} → PropertyValueSmall x → AllSmall ss → AllSmall (x ∷ ss)
+
+with-properties-small : (ss : List PropertyValue) (g : ComponentProperties) → ComponentPropertiesSmall g → AllSmall ss → ComponentPropertiesSmall (withProperties g ss)
+unfolding withProperties
+with-properties-small [] g r AllSmall.none = r
+with-properties-small (x ∷ ss) g r (AllSmall.then h k) = with-properties-small ss (withProperty g x) (with-small g x r h) k
+
+-- ---- the ending and the limit
+
+stated-end-small : (s e : Time) (x : Ending) → e .second ≤ lastSecond → statedEnd s e ≡ EndingRead.Of x → EndingSmall (s .second) x
+unfolding statedEnd
+stated-end-small s e x h q = go (sameKind e s && ltb (s .second) (e .second)) refl q
+  where
+    go : (t : Bool) → (sameKind e s && ltb (s .second) (e .second)) ≡ t
+        → cond t (EndingRead.Of (Ending.End (e .second))) EndingRead.Broken ≡ EndingRead.Of x → EndingSmall (s .second) x
+    go true p k =
+        let z : Ending.End (e .second) ≡ x = cc in
+        rw (← z) (ltb-true (s .second) (e .second) (and-right (sameKind e s) _ p), h)
+    go false p k = let z : _≡_ {A = ℕ} 0 1 = cc in absurd (omega arith)
+
+stated-duration-small : (s : Time) (d : Duration) (x : Ending) → DurationSmall d → statedDuration s d ≡ EndingRead.Of x → EndingSmall (s .second) x
+unfolding statedDuration
+stated-duration-small s d x h q = go (isDate s && d .timed) q
+  where
+    go : (t : Bool) → cond t EndingRead.Broken (EndingRead.Of (Ending.Lasts d)) ≡ EndingRead.Of x → EndingSmall (s .second) x
+    go true k = let z : _≡_ {A = ℕ} 0 1 = cc in absurd (omega arith)
+    go false k = let z : Ending.Lasts d ≡ x = cc in rw (← z) h
+
+ending-small : (s : Time) (e : TimeGiven) (d : DurationGiven) (x : Ending) → TimeSmall e → LastsSmall d → endingBy s e d ≡ EndingRead.Of x
+    → EndingSmall (s .second) x
+unfolding endingBy
+ending-small s TimeGiven.Absent DurationGiven.Absent x h k q = let z : Ending.None ≡ x = cc in rw (← z) tt
+ending-small s (TimeGiven.Given e) DurationGiven.Absent x h k q = stated-end-small s e x h q
+ending-small s TimeGiven.Absent (DurationGiven.Given d) x h k q = stated-duration-small s d x k q
+ending-small s (TimeGiven.Given e) (DurationGiven.Given d) x h k q = let z : _≡_ {A = ℕ} 0 1 = cc in absurd (omega arith)
+
+limit-small : (s : Time) (l : Limit) (x : Repeat) → LimitSmall l → limitBy s l ≡ RepeatRead.Of x → RepeatSmall (s .second) x
+unfolding limitBy
+limit-small s Limit.Forever x h q = let z : Repeat.Forever ≡ x = cc in rw (← z) tt
+limit-small s (Limit.Count n) x h q = let z : Repeat.Count n ≡ x = cc in rw (← z) h
+limit-small s (Limit.Until u) x h q = go (sameKind u s && leb (s .second) (u .second)) refl q
+  where
+    go : (t : Bool) → (sameKind u s && leb (s .second) (u .second)) ≡ t
+        → cond t (RepeatRead.Of (Repeat.Until (u .second))) RepeatRead.Broken ≡ RepeatRead.Of x → RepeatSmall (s .second) x
+    go true p k =
+        let z : Repeat.Until (u .second) ≡ x = cc in
+        rw (← z) (leb-true (s .second) (u .second) (and-right (sameKind u s) _ p), h)
+    go false p k = let z : _≡_ {A = ℕ} 0 1 = cc in absurd (omega arith)
+
+repeat-small : (s : Time) (g : RuleGiven) (x : Repeat) → RepeatsSmall g → repeatBy s g ≡ RepeatRead.Of x → RepeatSmall (s .second) x
+unfolding repeatBy
+repeat-small s RuleGiven.Absent x h q = let z : Repeat.Once ≡ x = cc in rw (← z) tt
+repeat-small s (RuleGiven.Given r) x h q = limit-small s (r .limit) x (h .limit-small) q
+
+days-small : (g : RuleGiven) → RepeatsSmall g → (1 ≤ daysBy g) × (daysBy g ≤ 7)
+unfolding daysBy
+days-small RuleGiven.Absent h = (omega arith, omega arith)
+days-small (RuleGiven.Given r) h = (h .some-days, h .few-days)
+
+interval-small : (g : RuleGiven) → RepeatsSmall g → (1 ≤ intervalBy g) × (intervalBy g ≤ 999)
+unfolding intervalBy
+interval-small RuleGiven.Absent h = (omega arith, omega arith)
+interval-small (RuleGiven.Given r) h = (h .some-interval, h .few-interval)
+
+-- ---- the event
+
+made-small : (s : Time) (g : ComponentProperties) (x : Ending) (y : Repeat) → s .second ≤ lastSecond → ComponentPropertiesSmall g → EndingSmall (s .second) x
+    → RepeatSmall (s .second) y → EventSmall (eventMade s g x y)
+unfolding eventMade
+made-small s g x y h r k m =
+    record {
+      start-small = h;
+      some-days = days-small (g .repeats) (r .repeats-small) .0;
+      few-days = days-small (g .repeats) (r .repeats-small) .1;
+      some-interval = interval-small (g .repeats) (r .repeats-small) .0;
+      few-interval = interval-small (g .repeats) (r .repeats-small) .1;
+      ending-small = k;
+      repeat-small = m;
+    }
+
+with-event-small : (s : Time) (g : ComponentProperties) (a : EndingRead) (b : RepeatRead) (e : Event) → s .second ≤ lastSecond → ComponentPropertiesSmall g
+    → ((x : Ending) → a ≡ EndingRead.Of x → EndingSmall (s .second) x) → ((y : Repeat) → b ≡ RepeatRead.Of y → RepeatSmall (s .second) y)
+    → eventWith s g a b ≡ EventRead.Of e → EventSmall e
+unfolding eventWith
+with-event-small s g (EndingRead.Of x) (RepeatRead.Of y) e h r k m q =
+    let z : eventMade s g x y ≡ e = cc in
+    subst EventSmall z (made-small s g x y h r (k x refl) (m y refl))
+with-event-small s g (EndingRead.Of x) RepeatRead.Broken e h r k m q = let z : _≡_ {A = ℕ} 0 1 = cc in absurd (omega arith)
+with-event-small s g EndingRead.Broken b e h r k m q = let z : _≡_ {A = ℕ} 0 1 = cc in absurd (omega arith)
+
+from-small : (t : TimeGiven) (g : ComponentProperties) (e : Event) → TimeSmall t → ComponentPropertiesSmall g → eventFrom t g ≡ EventRead.Of e → EventSmall e
+unfolding eventFrom
+from-small TimeGiven.Absent g e h r q = let z : _≡_ {A = ℕ} 0 1 = cc in absurd (omega arith)
+from-small (TimeGiven.Given s) g e h r q =
+    with-event-small s g (endingBy s (g .end) (g .lasts)) (repeatBy s (g .repeats)) e h r
+    (λ x. ending-small s (g .end) (g .lasts) x (r .end-small) (r .lasts-small))
+    (λ y. repeat-small s (g .repeats) y (r .repeats-small))
+    q
+
+eventBy-small : (g : ComponentProperties) (e : Event) → ComponentPropertiesSmall g → eventBy g ≡ EventRead.Of e → EventSmall e
+unfolding eventBy
+eventBy-small g e r q = go (g .repeated) q
+  where
+    go : (t : Bool) → cond t EventRead.Broken (eventFrom (g .start) g) ≡ EventRead.Of e → EventSmall e
+    go true k = let z : _≡_ {A = ℕ} 0 1 = cc in absurd (omega arith)
+    go false k = from-small (g .start) g e (r .start-small) r k
+
+pub event-small : (ss : List PropertyValue) (e : Event) → AllSmall ss → eventBy (withProperties noProperties ss) ≡ EventRead.Of e → EventSmall e
+event-small ss e h q = eventBy-small _ e (with-properties-small ss noProperties nothing-small h) q
+
+-- ---- the block
+
+between-small : (s e : ℕ) (b : Block) → s ≤ lastSecond → e ≤ lastSecond → blockBetween s e ≡ BlockRead.Of b → BlockSmall b
+unfolding blockBetween
+between-small s e b h k q = go (ltb s e) refl q
+  where
+    go : (t : Bool) → ltb s e ≡ t → cond t (BlockRead.Of (record { start = Bound.At s; end = Bound.At e })) BlockRead.Broken ≡ BlockRead.Of b
+        → BlockSmall b
+    go true p m =
+        let z : record { start = Bound.At s; end = Bound.At e } ≡ b = cc in
+        let w : BlockSmall (record { start = Bound.At s; end = Bound.At e }) =
+        record {
+          start-small = h;
+          end-small = k;
+          rising = λ x y a d. let i : s ≡ x = cc in let j : e ≡ y = cc in omega (arith, ltb-true s e p);
+        } in
+        subst BlockSmall z w
+    go false p m = let z : _≡_ {A = ℕ} 0 1 = cc in absurd (omega arith)
+
+blockFrom-small : (s e : TimeGiven) (b : Block) → TimeSmall s → TimeSmall e → blockFrom s e ≡ BlockRead.Of b → BlockSmall b
+unfolding blockFrom
+blockFrom-small TimeGiven.Absent TimeGiven.Absent b h k q =
+    let z : record { start = Bound.None; end = Bound.None } ≡ b = cc in
+    let w : BlockSmall (record { start = Bound.None; end = Bound.None }) =
+    record { start-small = tt; end-small = tt; rising = λ x y a d. let i : _≡_ {A = ℕ} 0 1 = cc in absurd (omega arith) } in
+    subst BlockSmall z w
+blockFrom-small (TimeGiven.Given s) TimeGiven.Absent b h k q =
+    let z : record { start = Bound.At (s .second); end = Bound.None } ≡ b = cc in
+    let w : BlockSmall (record { start = Bound.At (s .second); end = Bound.None }) =
+    record { start-small = h; end-small = tt; rising = λ x y a d. let i : _≡_ {A = ℕ} 0 1 = cc in absurd (omega arith) } in
+    subst BlockSmall z w
+blockFrom-small TimeGiven.Absent (TimeGiven.Given e) b h k q =
+    let z : record { start = Bound.None; end = Bound.At (e .second) } ≡ b = cc in
+    let w : BlockSmall (record { start = Bound.None; end = Bound.At (e .second) }) =
+    record { start-small = tt; end-small = k; rising = λ x y a d. let i : _≡_ {A = ℕ} 0 1 = cc in absurd (omega arith) } in
+    subst BlockSmall z w
+blockFrom-small (TimeGiven.Given s) (TimeGiven.Given e) b h k q = between-small (s .second) (e .second) b h k q
+
+blockBy-small : (g : ComponentProperties) (b : Block) → ComponentPropertiesSmall g → blockBy g ≡ BlockRead.Of b → BlockSmall b
+unfolding blockBy
+blockBy-small g b r q = go (g .repeated) q
+  where
+    go : (t : Bool) → cond t BlockRead.Broken (blockFrom (g .start) (g .end)) ≡ BlockRead.Of b → BlockSmall b
+    go true k = let z : _≡_ {A = ℕ} 0 1 = cc in absurd (omega arith)
+    go false k = blockFrom-small (g .start) (g .end) b (r .start-small) (r .end-small) k
+
+pub block-small : (ss : List PropertyValue) (b : Block) → AllSmall ss → blockBy (withProperties noProperties ss) ≡ BlockRead.Of b → BlockSmall b
+block-small ss b h q = blockBy-small _ b (with-properties-small ss noProperties nothing-small h) q

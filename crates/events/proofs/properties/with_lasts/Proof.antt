@@ -1,0 +1,15 @@
+-- The fields are those of the clause for this saying.
+use Rattle.events.specs.ComponentProperties.{withProperty}
+use borrow.Author.Needs.{needs}
+use Rattle.events.proofs.properties.with_lasts.Statement.{statement}
+use Rattle.events.proofs.properties.with_lasts.Tie as tie
+
+duration-given-requires : tie.Need-duration-given-requires
+duration-given-requires c κs = search needs
+
+returns : tie.Need-returns
+unfolding withProperty
+returns c = simp (c .duration-given .ensures)
+
+pub with-lasts-spec : {M : Type 1} → statement M
+with-lasts-spec = tie.close (tie.spec duration-given-requires returns)

@@ -1,0 +1,15 @@
+-- The fields are those of the clause for this saying.
+use Rattle.events.specs.ComponentProperties.{withProperty}
+use borrow.Author.Needs.{needs}
+use Rattle.events.proofs.properties.with_start.Statement.{statement}
+use Rattle.events.proofs.properties.with_start.Tie as tie
+
+time-given-requires : tie.Need-time-given-requires
+time-given-requires c κs = search needs
+
+returns : tie.Need-returns
+unfolding withProperty
+returns c = simp (c .time-given .ensures)
+
+pub with-start-spec : {M : Type 1} → statement M
+with-start-spec = tie.close (tie.spec time-given-requires returns)

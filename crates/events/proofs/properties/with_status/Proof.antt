@@ -1,0 +1,15 @@
+-- The fields are those of the clause for this saying.
+use Rattle.events.specs.ComponentProperties.{withProperty}
+use borrow.Author.Needs.{needs}
+use Rattle.events.proofs.properties.with_status.Statement.{statement}
+use Rattle.events.proofs.properties.with_status.Tie as tie
+
+status-given-requires : tie.Need-status-given-requires
+status-given-requires c κs = search needs
+
+returns : tie.Need-returns
+unfolding withProperty
+returns c = simp (c .status-given .ensures)
+
+pub with-status-spec : {M : Type 1} → statement M
+with-status-spec = tie.close (tie.spec status-given-requires returns)

@@ -1,0 +1,3 @@
+pub mod ComponentProperties
+pub mod Events
+pub mod Sizes

@@ -1,0 +1,28 @@
+-- Busy types are told apart by their places.
+use Prim.Native.Nat.{ℕ, zero, suc}
+use mathlib.Core.Path.{_≡_, refl, sym, ap, _∙_}
+use mathlib.Core.Bool.{true}
+use mathlib.Core.Logic.{_↔_}
+use borrow.Author.Tests.{eqb-true, eq-eqb}
+use Rattle.periods.specs.declared.BusyType.{BusyType}
+use Rattle.periods.specs.BusyTypes.{reportPlace, sameBusy}
+
+-- the busy type that stands at a place
+typeAt : ℕ → BusyType
+typeAt zero = BusyType.Busy
+typeAt (suc zero) = BusyType.Tentative
+typeAt (suc (suc zero)) = BusyType.Unavailable
+typeAt (suc (suc (suc n))) = BusyType.Free
+
+type-there : (b : BusyType) → typeAt (reportPlace b) ≡ b
+unfolding typeAt reportPlace
+type-there BusyType.Busy = refl
+type-there BusyType.Tentative = refl
+type-there BusyType.Unavailable = refl
+type-there BusyType.Free = refl
+
+-- no two types have one place
+pub sameBusy-iff : (a b : BusyType) → (sameBusy a b ≡ true) ↔ (a ≡ b)
+unfolding sameBusy
+sameBusy-iff a b =
+    (λ e. sym (type-there a) ∙ ap typeAt (eqb-true (reportPlace a) (reportPlace b) e) ∙ type-there b, λ e. eq-eqb (reportPlace a) (reportPlace b) (ap reportPlace e))

@@ -1,0 +1,22 @@
+-- Each arm is the definition's clause.
+use Rattle.property.specs.Properties.{endBy}
+use borrow.Author.Needs.{needs}
+use Rattle.property.proofs.end_by.Statement.{statement}
+use Rattle.property.proofs.end_by.Tie as tie
+
+enum-known-r : tie.Need-enum-known-r
+enum-known-r c = search needs
+
+enum-told : tie.Need-enum-told
+enum-told c = search needs
+
+returns : tie.Need-returns
+unfolding endBy
+returns c = rw (c .before .r .given .1)
+
+returns-2 : tie.Need-returns-2
+unfolding endBy
+returns-2 c = rw (c .enum-told .given .1)
+
+pub end-by-spec : {M : Type 1} → statement M
+end-by-spec = tie.close (tie.spec enum-known-r enum-told returns returns-2)

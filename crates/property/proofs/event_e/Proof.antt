@@ -1,0 +1,46 @@
+-- Only the words with the first byte of the name can be meant: those are tried in their order.
+use mathlib.Core.Path.{sym, ap, _∙_}
+use mathlib.Core.Bool.{Bool, cond}
+use denote.Ref.{now}
+use Rattle.ascii.specs.Bytes.{upper}
+use Rattle.property.specs.declared.Scope.{Scope}
+use Rattle.property.specs.declared.Property.{Property}
+use Rattle.property.proofs.FirstBytes.{by-first}
+use borrow.Author.Needs.{needs}
+use Rattle.property.proofs.event_e.Statement.{statement}
+use Rattle.property.proofs.event_e.Tie as tie
+
+slice-aggregate-same-name : tie.Need-slice-aggregate-same-name
+slice-aggregate-same-name c = search needs
+
+same-name-requires : tie.Need-same-name-requires
+same-name-requires c κs = search needs
+
+returns : tie.Need-returns
+unfolding upper
+returns c = rw (by-first Scope.Event (now (c .before .before .before .before .args .name)) 69 (c .before .before .before .before .pre), sym (c .before .same-name .ensures) ∙ c .if1 .taken)
+
+slice-aggregate-same-name-2 : tie.Need-slice-aggregate-same-name-2
+slice-aggregate-same-name-2 c = search needs
+
+same-name-requires-2 : tie.Need-same-name-requires-2
+same-name-requires-2 c κs = search needs
+
+property-if-requires : tie.Need-property-if-requires
+property-if-requires c κs = search needs
+
+returns-2 : tie.Need-returns-2
+unfolding upper
+returns-2 c = rw (by-first Scope.Event (now (c .before .before .before .before .before .before .before .args .name)) 69 (c .before .before .before .before .before .before .before .pre), sym (c .before .before .before .before .same-name .ensures) ∙ c .before .before .before .if1 .left) (c .property-if .ensures ∙ ap (λ (t : Bool). cond t Property.Unsupported Property.Unread) (c .before .same-name2 .ensures))
+
+pub event-e-spec : {M : Type 1} → statement M
+event-e-spec =
+    tie.close
+    (tie.spec
+    slice-aggregate-same-name
+    same-name-requires
+    returns
+    slice-aggregate-same-name-2
+    same-name-requires-2
+    property-if-requires
+    returns-2)

@@ -1,0 +1,123 @@
+-- What a line says (document 01, Values), by the component that it stands directly in.
+-- Here, and nowhere else, it is decided which properties are read.
+use Prim.Native.Nat.{ℕ, _≤_}
+use mathlib.Core.Bool.{Bool, cond, _||_}
+use mathlib.Core.List.{List}
+use Rattle.ascii.specs.Names.{sameName}
+use Rattle.ascii.specs.Words.{ascii}
+use Rattle.time.specs.Duration.{readDuration}
+use Rattle.time.specs.Limits.{lastSecond}
+use Rattle.time.specs.declared.duration.DurationRead.{DurationRead}
+use Rattle.line.specs.Grammar.{ContentLine}
+use Rattle.line.specs.Reading.{hasParameter, hasTwice, hasList, firstValue}
+use Rattle.values.specs.Times.{timeOf, utcOnly}
+use Rattle.values.specs.Rule.{ruleOf, RuleSmall}
+use Rattle.values.specs.Period.{periodItems, allPeriods, DurationSmall}
+use Rattle.values.specs.declared.times.Context.{Context}
+use Rattle.values.specs.declared.times.TimeRead.{TimeRead}
+use Rattle.values.specs.declared.rule.RuleRead.{RuleRead}
+use Rattle.property.specs.declared.Scope.{Scope}
+use Rattle.property.specs.declared.Property.{Property}
+use Rattle.property.specs.declared.Status.{Status}
+use Rattle.periods.specs.declared.BusyType.{BusyType}
+use Rattle.property.specs.declared.PropertyValue.{PropertyValue}
+
+-- the properties that a VEVENT may not have (refusal 8)
+unfoldable pub isUnsupported : List ℕ → Bool
+isUnsupported n =
+    sameName n (ascii "RDATE") || sameName n (ascii "EXDATE") || sameName n (ascii "EXRULE") || sameName n (ascii "RECURRENCE-ID")
+
+-- DTSTART and DTEND are read in VEVENT and VFREEBUSY, anything else as `other` says
+unfoldable pub timesOr : List ℕ → Property → Property
+timesOr n other = cond (sameName n (ascii "DTSTART")) Property.Start (cond (sameName n (ascii "DTEND")) Property.End other)
+
+unfoldable pub eventProperty : List ℕ → Property
+eventProperty n =
+    cond (sameName n (ascii "DURATION")) Property.Duration
+    (cond (sameName n (ascii "RRULE")) Property.Rule
+    (cond (sameName n (ascii "STATUS")) Property.Status
+    (cond (sameName n (ascii "TRANSP")) Property.Transparency (cond (isUnsupported n) Property.Unsupported Property.Unread))))
+
+unfoldable pub freeBusyProperty : List ℕ → Property
+freeBusyProperty n = cond (sameName n (ascii "FREEBUSY")) Property.Periods Property.Unread
+
+-- nothing else is read, and nothing outside these two or in components inside them
+unfoldable pub propertyOf : Scope → List ℕ → Property
+propertyOf Scope.Event n = timesOr n (eventProperty n)
+propertyOf Scope.FreeBusy n = timesOr n (freeBusyProperty n)
+propertyOf Scope.Other n = Property.Unread
+
+-- in VFREEBUSY a time is UTC
+unfoldable pub timeIn : Scope → TimeRead → TimeRead
+timeIn Scope.Event r = r
+timeIn Scope.FreeBusy r = utcOnly r
+timeIn Scope.Other r = r
+
+unfoldable pub startBy : TimeRead → PropertyValue
+startBy (TimeRead.Of t) = PropertyValue.Start t
+startBy TimeRead.Bad = PropertyValue.Bad
+
+unfoldable pub endBy : TimeRead → PropertyValue
+endBy (TimeRead.Of t) = PropertyValue.End t
+endBy TimeRead.Bad = PropertyValue.Bad
+
+-- a time with TZID is unsupported, whatever else is on its line
+unfoldable pub unlessZoned : ContentLine → PropertyValue → PropertyValue
+unlessZoned x s = cond (hasParameter (ascii "TZID") x) PropertyValue.Unsupported s
+
+unfoldable pub durationBy : DurationRead → PropertyValue
+durationBy (DurationRead.Of d) = PropertyValue.Lasts d
+durationBy DurationRead.Bad = PropertyValue.Bad
+
+unfoldable pub ruleValue : RuleRead → PropertyValue
+ruleValue (RuleRead.Of r) = PropertyValue.Repeats r
+ruleValue RuleRead.Unsupported = PropertyValue.Unsupported
+ruleValue RuleRead.Bad = PropertyValue.Bad
+
+-- STATUS has no bad value
+unfoldable pub statusNamed : List ℕ → Status
+statusNamed v =
+    cond (sameName v (ascii "CANCELLED")) Status.Cancelled (cond (sameName v (ascii "TENTATIVE")) Status.Tentative Status.Other)
+
+-- the words of FBTYPE; none of them is BUSY
+unfoldable pub busyNamed : List ℕ → BusyType
+busyNamed w =
+    cond (sameName w (ascii "FREE")) BusyType.Free
+    (cond (sameName w (ascii "BUSY-TENTATIVE")) BusyType.Tentative (cond (sameName w (ascii "BUSY-UNAVAILABLE")) BusyType.Unavailable BusyType.Busy))
+
+-- FBTYPE of a line; without it BUSY (an empty word is another word)
+unfoldable pub busyOf : ContentLine → BusyType
+busyOf x = busyNamed (firstValue (ascii "FBTYPE") x)
+
+-- FREEBUSY: FBTYPE twice or as a list is bad, and so is any bad period
+unfoldable pub periodsValue : ContentLine → PropertyValue
+periodsValue x =
+    cond (hasTwice (ascii "FBTYPE") x || hasList (ascii "FBTYPE") x) PropertyValue.Bad
+    (cond (allPeriods (periodItems (x .value))) (PropertyValue.HasPeriods (busyOf x)) PropertyValue.Bad)
+
+unfoldable pub valueAs : Property → Context → Scope → ContentLine → PropertyValue
+valueAs Property.Start c s x = unlessZoned x (startBy (timeIn s (timeOf c x)))
+valueAs Property.End c s x = unlessZoned x (endBy (timeIn s (timeOf c x)))
+valueAs Property.Duration c s x = durationBy (readDuration (x .value))
+valueAs Property.Rule c s x = ruleValue (ruleOf c (x .value))
+valueAs Property.Status c s x = PropertyValue.HasStatus (statusNamed (x .value))
+valueAs Property.Transparency c s x = PropertyValue.Transparent (sameName (x .value) (ascii "TRANSPARENT"))
+valueAs Property.Periods c s x = periodsValue x
+valueAs Property.Unsupported c s x = PropertyValue.Unsupported
+valueAs Property.Unread c s x = PropertyValue.Nothing
+
+unfoldable pub propertyValueOf : Context → Scope → ContentLine → PropertyValue
+propertyValueOf c s x = valueAs (propertyOf s (x .name)) c s x
+
+-- how large what a line says can be
+abbrev pub PropertyValueSmall : PropertyValue → Type 0
+PropertyValueSmall PropertyValue.Nothing = Unit {0}
+PropertyValueSmall PropertyValue.Unsupported = Unit {0}
+PropertyValueSmall PropertyValue.Bad = Unit {0}
+PropertyValueSmall (PropertyValue.Start t) = t .second ≤ lastSecond
+PropertyValueSmall (PropertyValue.End t) = t .second ≤ lastSecond
+PropertyValueSmall (PropertyValue.Lasts d) = DurationSmall d
+PropertyValueSmall (PropertyValue.Repeats r) = RuleSmall r
+PropertyValueSmall (PropertyValue.HasStatus s) = Unit {0}
+PropertyValueSmall (PropertyValue.Transparent b) = Unit {0}
+PropertyValueSmall (PropertyValue.HasPeriods b) = Unit {0}

@@ -1,0 +1,3 @@
+pub mod Searches
+pub mod Lines
+pub mod PropertyTests

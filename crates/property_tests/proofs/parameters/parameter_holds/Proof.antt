@@ -1,0 +1,25 @@
+-- The flag decides which of the two questions is asked.
+use Rattle.property_tests.proofs.Searches.{parameter-absent, parameter-there}
+use borrow.Author.Needs.{needs}
+use Rattle.property_tests.proofs.parameters.parameter_holds.Statement.{statement}
+use Rattle.property_tests.proofs.parameters.parameter_holds.Tie as tie
+
+text-of-requires : tie.Need-text-of-requires
+text-of-requires c κs = search needs
+
+has-parameter-requires : tie.Need-has-parameter-requires
+has-parameter-requires c κs = search needs
+
+some-named-requires : tie.Need-some-named-requires
+some-named-requires c κs = search needs
+
+returns : tie.Need-returns
+returns c = parameter-absent _ _ _ _ (c .before .before .text-of .ensures) (c .before .if1 .taken) (c .has-parameter .ensures)
+
+returns-2 : tie.Need-returns-2
+returns-2 c = parameter-there _ _ _ _ (c .before .before .text-of .ensures) (c .before .if1 .left) (c .some-named .ensures)
+
+pub parameter-holds-spec : {M : Type 1} → statement M
+parameter-holds-spec =
+    tie.close
+    (tie.spec text-of-requires has-parameter-requires some-named-requires returns returns-2)

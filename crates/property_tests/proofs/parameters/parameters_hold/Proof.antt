@@ -1,0 +1,55 @@
+-- Every record so far passes, and the first that does not decides.
+use Rattle.property_tests.specs.PropertyTests.{parameterPasses, parametersHold}
+use mathlib.Core.Bool.{true}
+use Rattle.line.specs.Reading.{lineOf}
+use Rattle.query.specs.Counting.{everyBelow}
+use borrow.Author.Tests.{not-true, not-false}
+use Rattle.query.proofs.Counting.{every-start, every-stop, every-next, every-end}
+use Prim.Native.Nat.{_-_, _≤_}
+use mathlib.Core.Path.{_≡_, sym, _∙_}
+use native.Mathlib.Omega.{arith}
+use Rattle.property_tests.proofs.parameters.parameters_hold.Statement.{statement}
+use Rattle.property_tests.proofs.parameters.parameters_hold.Tie as tie
+
+abbrev Inv-loop : tie.InvT-loop
+Inv-loop paper q i line n k₀ k = (k ≤ q .parameters .count) × (everyBelow k (parameterPasses paper q i (lineOf line)) ≡ true)
+
+abbrev μ-loop : tie.MeasureT-loop
+μ-loop paper q i line n k₀ k = n - k
+
+loop-holds : tie.Need-loop-holds Inv-loop μ-loop
+loop-holds c = (omega arith, every-start _)
+
+parameter-passes-requires : tie.Need-parameter-passes-requires Inv-loop μ-loop
+parameter-passes-requires c κs = (c .before .before .before .before .before .pre .0, (c .before .before .before .before .before .pre .1, c .loop-test .taken))
+
+returns : tie.Need-returns Inv-loop μ-loop
+unfolding parametersHold
+returns c = sym (every-stop _ _ _ (c .before .before .loop-test .taken) (sym (c .before .parameter-passes .ensures) ∙ not-true _ (c .if1 .taken)))
+
+add-k : tie.Need-add-k Inv-loop μ-loop
+add-k c = omega arith
+
+loop-less : tie.Need-loop-less Inv-loop μ-loop
+loop-less c = omega arith
+
+loop-again : tie.Need-loop-again Inv-loop μ-loop
+loop-again c = (omega arith, every-next _ _ (c .before .before .before .loop .inv .1) (sym (c .before .parameter-passes .ensures) ∙ not-false _ (c .if1 .left)))
+
+returns-2 : tie.Need-returns-2 Inv-loop μ-loop
+unfolding parametersHold
+returns-2 c = sym (every-end _ _ _ (c .before .loop .inv .0) (c .loop-test .left) (c .before .loop .inv .1))
+
+pub parameters-hold-spec : {M : Type 1} → statement M
+parameters-hold-spec =
+    tie.close
+    (tie.spec
+    Inv-loop
+    μ-loop
+    loop-holds
+    parameter-passes-requires
+    returns
+    add-k
+    loop-less
+    loop-again
+    returns-2)

@@ -1,0 +1,55 @@
+-- Every record so far passes, and the first that does not decides.
+use Rattle.property_tests.specs.PropertyTests.{propertiesAt}
+use Rattle.property_tests.specs.PropertyTests.{propertyPasses, propertiesHold}
+use mathlib.Core.Bool.{true}
+use Rattle.query.specs.Counting.{everyBelow}
+use borrow.Author.Tests.{not-true, not-false}
+use Rattle.query.proofs.Counting.{every-start, every-stop, every-next, every-end}
+use Prim.Native.Nat.{_-_, _≤_}
+use mathlib.Core.Path.{_≡_, sym, _∙_}
+use native.Mathlib.Omega.{arith}
+use Rattle.property_tests.proofs.properties_hold.Statement.{statement}
+use Rattle.property_tests.proofs.properties_hold.Tie as tie
+
+abbrev Inv-loop : tie.InvT-loop
+Inv-loop paper q k s at n i₀ i = (i ≤ q .properties .count) × (everyBelow i (propertyPasses paper q k (propertiesAt s at)) ≡ true)
+
+abbrev μ-loop : tie.MeasureT-loop
+μ-loop paper q k s at n i₀ i = n - i
+
+loop-holds : tie.Need-loop-holds Inv-loop μ-loop
+loop-holds c = (omega arith, every-start _)
+
+property-passes-requires : tie.Need-property-passes-requires Inv-loop μ-loop
+property-passes-requires c κs = (c .before .before .before .before .before .pre .0, (c .before .before .before .before .before .pre .1, c .loop-test .taken))
+
+returns : tie.Need-returns Inv-loop μ-loop
+unfolding propertiesHold
+returns c = sym (every-stop _ _ _ (c .before .before .loop-test .taken) (sym (c .before .property-passes .ensures) ∙ not-true _ (c .if1 .taken)))
+
+add-i : tie.Need-add-i Inv-loop μ-loop
+add-i c = omega arith
+
+loop-less : tie.Need-loop-less Inv-loop μ-loop
+loop-less c = omega arith
+
+loop-again : tie.Need-loop-again Inv-loop μ-loop
+loop-again c = (omega arith, every-next _ _ (c .before .before .before .loop .inv .1) (sym (c .before .property-passes .ensures) ∙ not-false _ (c .if1 .left)))
+
+returns-2 : tie.Need-returns-2 Inv-loop μ-loop
+unfolding propertiesHold
+returns-2 c = sym (every-end _ _ _ (c .before .loop .inv .0) (c .loop-test .left) (c .before .loop .inv .1))
+
+pub properties-hold-spec : {M : Type 1} → statement M
+properties-hold-spec =
+    tie.close
+    (tie.spec
+    Inv-loop
+    μ-loop
+    loop-holds
+    property-passes-requires
+    returns
+    add-i
+    loop-less
+    loop-again
+    returns-2)

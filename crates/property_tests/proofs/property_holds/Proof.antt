@@ -1,0 +1,34 @@
+-- The flag decides which of the two questions is asked.
+use Rattle.property_tests.proofs.PropertyTests.{property-name, property-text, property-absent, property-there}
+use borrow.Author.Needs.{needs}
+use Rattle.property_tests.proofs.property_holds.Statement.{statement}
+use Rattle.property_tests.proofs.property_holds.Tie as tie
+
+property-at-requires : tie.Need-property-at-requires
+property-at-requires c κs = search needs
+
+text-of-requires : tie.Need-text-of-requires
+text-of-requires c κs = (c .before .before .before .before .before .pre .0, property-name _ _ _ (c .before .before .property-at .ensures) (c .before .before .before .before .before .pre .1 .0) (c .before .before .before .before .before .pre .1 .1))
+
+some-named-requires : tie.Need-some-named-requires
+some-named-requires c κs = search needs
+
+some-line-requires : tie.Need-some-line-requires
+some-line-requires c κs = (c .before .before .before .before .before .pre .0, (c .before .before .before .before .before .pre .1 .0, (property-name _ _ _ (c .before .before .property-at .ensures) (c .before .before .before .before .before .pre .1 .0) (c .before .before .before .before .before .pre .1 .1), property-text _ _ _ (c .before .before .property-at .ensures) (c .before .before .before .before .before .pre .1 .0) (c .before .before .before .before .before .pre .1 .1))))
+
+returns : tie.Need-returns
+returns c = property-absent _ _ _ (c .before .before .before .before .property-at .ensures) _ (c .before .text-of .ensures) (c .before .before .if1 .taken) (c .some-named .ensures)
+
+returns-2 : tie.Need-returns-2
+returns-2 c = property-there _ _ _ (c .before .before .before .property-at .ensures) _ (c .before .if1 .left) (c .some-line .ensures)
+
+pub property-holds-spec : {M : Type 1} → statement M
+property-holds-spec =
+    tie.close
+    (tie.spec
+    property-at-requires
+    text-of-requires
+    some-named-requires
+    some-line-requires
+    returns
+    returns-2)

@@ -1,0 +1,89 @@
+-- No line so far has the name, so the lines that are left decide.
+use Rattle.property_tests.specs.PropertyTests.{someNamed}
+use Rattle.property_tests.proofs.PropertyTests.{named-lines, named-line}
+use Prim.Native.Nat.{_-_}
+use mathlib.Core.Path.{refl}
+use lib.ListN.{length}
+use Rattle.nesting.proofs.Components.{property-at, inner-at, no-item-at}
+use Rattle.property_tests.proofs.Lines.{Seeking, seeking-start, seeking-next, seeking-found, seeking-inner, seeking-end}
+use native.Mathlib.Omega.{arith}
+use borrow.Author.Needs.{needs}
+use Rattle.property_tests.proofs.some_named.Statement.{statement}
+use Rattle.property_tests.proofs.some_named.Tie as tie
+
+abbrev Inv-loop : tie.InvT-loop
+Inv-loop name s from at₀ at = Seeking (someNamed name) s from at
+
+abbrev μ-loop : tie.MeasureT-loop
+μ-loop name s from at₀ at = length s - at
+
+loop-holds : tie.Need-loop-holds Inv-loop μ-loop
+loop-holds c = seeking-start _ _ _
+
+next-item-requires : tie.Need-next-item-requires Inv-loop μ-loop
+next-item-requires c κs = search needs
+
+enum-known-e : tie.Need-enum-known-e Inv-loop μ-loop
+enum-known-e c = search needs
+
+sub-is-called : tie.Need-sub-is-called Inv-loop μ-loop
+sub-is-called c = let h = property-at _ _ (c .before .before .before .next-item .ensures) (c .before .e .given .1) in omega (arith, h .line .starts, h .line .ends, h .line .inside)
+
+part-is-called-start : tie.Need-part-is-called-start Inv-loop μ-loop
+part-is-called-start c = let h = property-at _ _ (c .before .before .before .next-item .ensures) (c .before .e .given .1) in omega (arith, h .line .starts, h .line .ends, h .line .inside)
+
+part-is-called-end : tie.Need-part-is-called-end Inv-loop μ-loop
+part-is-called-end c = let h = property-at _ _ (c .before .before .before .next-item .ensures) (c .before .e .given .1) in omega (arith, h .line .starts, h .line .ends, h .line .inside)
+
+is-called-requires : tie.Need-is-called-requires Inv-loop μ-loop
+is-called-requires c κs = search needs
+
+returns : tie.Need-returns Inv-loop μ-loop
+returns c = seeking-found (named-lines _) (c .before .before .before .before .before .before .before .loop .inv) (property-at _ _ (c .before .before .before .before .before .before .next-item .ensures) (c .before .before .before .before .e .given .1)) (named-line _ _ refl (c .before .is-called .ensures)) (c .if1 .taken)
+
+loop-less : tie.Need-loop-less Inv-loop μ-loop
+loop-less c = let h = property-at _ _ (c .before .before .before .before .before .before .next-item .ensures) (c .before .before .before .before .e .given .1) in omega (arith, h .line .goes-on, h .line .inside)
+
+loop-again : tie.Need-loop-again Inv-loop μ-loop
+loop-again c = seeking-next (named-lines _) (c .before .before .before .before .before .before .before .loop .inv) (property-at _ _ (c .before .before .before .before .before .before .next-item .ensures) (c .before .before .before .before .e .given .1)) (named-line _ _ refl (c .before .is-called .ensures)) (c .if1 .left)
+
+enum-known-next : tie.Need-enum-known-next Inv-loop μ-loop
+enum-known-next c = search needs
+
+skip-component-requires : tie.Need-skip-component-requires Inv-loop μ-loop
+skip-component-requires c κs = let h = inner-at _ _ (c .before .before .before .next-item .ensures) (c .before .next .given .1) in (h .line .inside, omega arith)
+
+loop-less-2 : tie.Need-loop-less-2 Inv-loop μ-loop
+loop-less-2 c = let h = inner-at _ _ (c .before .before .before .before .next-item .ensures) (c .before .before .next .given .1) in omega (arith, h .line .goes-on, h .line .inside, c .skip-component .ensures .onward, c .skip-component .ensures .within)
+
+loop-again-2 : tie.Need-loop-again-2 Inv-loop μ-loop
+loop-again-2 c = seeking-inner (named-lines _) (c .before .before .before .before .before .loop .inv) (inner-at _ _ (c .before .before .before .before .next-item .ensures) (c .before .before .next .given .1)) (c .skip-component .ensures)
+
+enum-told : tie.Need-enum-told Inv-loop μ-loop
+enum-told c = search needs
+
+returns-2 : tie.Need-returns-2 Inv-loop μ-loop
+returns-2 c = seeking-end (named-lines _) (c .before .before .before .loop .inv) (no-item-at (c .before .before .next-item .ensures) (c .enum-told .given .1))
+
+pub some-named-spec : {M : Type 1} → statement M
+some-named-spec =
+    tie.close
+    (tie.spec
+    Inv-loop
+    μ-loop
+    loop-holds
+    next-item-requires
+    enum-known-e
+    sub-is-called
+    part-is-called-start
+    part-is-called-end
+    is-called-requires
+    returns
+    loop-less
+    loop-again
+    enum-known-next
+    skip-component-requires
+    loop-less-2
+    loop-again-2
+    enum-told
+    returns-2)

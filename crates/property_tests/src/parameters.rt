@@ -1,0 +1,109 @@
+// The parameter tests of a query on one line.
+// A name that stands twice on a line has the values of both.
+use crate::texts;
+use line::read;
+use line::split;
+use query::ParameterRecord;
+use query::Sections;
+use query::fields;
+ghost use mathlib.Core.Path.{_≡_};
+ghost use mathlib.Core.Bool.{true};
+ghost use Prim.Native.Nat.{_≤_, _<_};
+ghost use Rattle.line.specs.Reading.{valuesOf, valuesNamed, lineOf};
+ghost use Rattle.query.specs.Fits.{Fits};
+ghost use Rattle.query_check.specs.WellFormed.{recordsGood};
+ghost use Rattle.property_tests.specs.PropertyTests.{someValue, parameterHolds, parameterPasses, parametersHold};
+
+// Does some value of a parameter hold up?
+fn some_value(paper: &[u8], q: Sections, r: ParameterRecord, p: &[u8]) -> bool
+    requires { ⌜ Fits (now paper) q ⌝ }
+    requires { ⌜ r .text ≤ q .texts .count ⌝ }
+    ensures { λ t. ⌜ t ≡ someValue (now (paper .entry)) q r (valuesOf (now (p .entry))) ⌝ }
+{
+    let n = read::value_count(p);
+    let mut k: usize = 0;
+    while k < n {
+        if texts::text_holds(
+            paper,
+            q,
+            r.text,
+            r.collation,
+            r.flag,
+            read::parameter_value(p, k),
+        ) {
+            return true;
+        }
+        k += 1;
+    }
+    false
+}
+
+// Does some value of a parameter of the name hold up?
+fn some_named(paper: &[u8], q: Sections, r: ParameterRecord, name: &[u8], line: &[u8]) -> bool
+    requires { ⌜ Fits (now paper) q ⌝ }
+    requires { ⌜ r .text ≤ q .texts .count ⌝ }
+    ensures { λ t. ⌜ t ≡ someValue (now (paper .entry)) q r (valuesNamed (now (name .entry)) (lineOf (now (line .entry)) .parameters)) ⌝ }
+{
+    let h = read::head(line);
+    let mut at = split::find(h, 0, 59, true);
+    while at < h.len() {
+        let from = at + 1;
+        let e = split::find(h, from, 59, true);
+        let p = &h[from..e];
+        if read::is_named(p, name) & some_value(paper, q, r, p) {
+            return true;
+        }
+        at = e;
+    }
+    false
+}
+
+// A parameter test on one line: flag 1 asks that no parameter has the name.
+pub fn parameter_holds(paper: &[u8], q: Sections, line: &[u8], r: ParameterRecord) -> bool
+    requires { ⌜ Fits (now paper) q ⌝ }
+    requires { ⌜ r .name < q .texts .count ⌝ }
+    requires { ⌜ r .text ≤ q .texts .count ⌝ }
+    ensures { λ t. ⌜ t ≡ parameterHolds (now (paper .entry)) q (lineOf (now (line .entry))) r ⌝ }
+{
+    let n = r.name;
+    let flag = r.flag;
+    let name = fields::text_of(paper, q, n);
+    if flag == 1 {
+        !read::has_parameter(line, name)
+    } else {
+        some_named(paper, q, r, name, line)
+    }
+}
+
+// Parameter record k, where it is one of property record i.
+fn parameter_passes(paper: &[u8], q: Sections, i: usize, line: &[u8], k: usize) -> bool
+    requires { ⌜ Fits (now paper) q ⌝ }
+    requires { ⌜ recordsGood (now paper) q ≡ true ⌝ }
+    requires { ⌜ k < q .parameters .count ⌝ }
+    ensures { λ t. ⌜ t ≡ parameterPasses (now (paper .entry)) q i (lineOf (now (line .entry))) k ⌝ }
+{
+    let r = fields::parameter_at(paper, q, k);
+    if r.property == i {
+        parameter_holds(paper, q, line, r)
+    } else {
+        true
+    }
+}
+
+// Every parameter test of property record i.
+pub fn parameters_hold(paper: &[u8], q: Sections, i: usize, line: &[u8]) -> bool
+    requires { ⌜ Fits (now paper) q ⌝ }
+    requires { ⌜ recordsGood (now paper) q ≡ true ⌝ }
+    ensures { λ t. ⌜ t ≡ parametersHold (now (paper .entry)) q i (lineOf (now (line .entry))) ⌝ }
+{
+    let parameters = q.parameters;
+    let n = parameters.count;
+    let mut k: usize = 0;
+    while k < n {
+        if !parameter_passes(paper, q, i, line, k) {
+            return false;
+        }
+        k += 1;
+    }
+    true
+}

@@ -1,0 +1,59 @@
+-- `paper::components_misplaced` meets its contract: no component so far has a misplaced range, and every name is the number of a text.
+use Rattle.query.specs.Counting.{someBelow}
+use Rattle.query_check.specs.WellFormed.{componentMisplaced, componentsMisplaced}
+use Rattle.query_check.proofs.Fields.{component-text}
+use mathlib.Core.Bool.{false}
+use Prim.Native.Nat.{_≤_, _-_}
+use Rattle.query.proofs.Counting.{none-start, none-next, none-end, some-found}
+use Rattle.query_check.proofs.Loops.{componentOff}
+use mathlib.Core.Path.{_≡_, sym, ap, _∙_}
+use native.Mathlib.Omega.{arith}
+use Rattle.query_check.proofs.components_misplaced.Statement.{statement}
+use Rattle.query_check.proofs.components_misplaced.Tie as tie
+
+abbrev Inv-loop : tie.InvT-loop
+Inv-loop s q n k₀ k = (k ≤ q .components .count) × (someBelow k (componentOff s q) ≡ false)
+
+abbrev μ-loop : tie.MeasureT-loop
+μ-loop s q n k₀ k = n - k
+
+loop-holds : tie.Need-loop-holds Inv-loop μ-loop
+loop-holds c = (omega arith, none-start _)
+
+component-at-requires : tie.Need-component-at-requires Inv-loop μ-loop
+component-at-requires c κs = (c .before .before .before .before .pre .0, c .loop-test .taken)
+
+component-misplaced-requires : tie.Need-component-misplaced-requires Inv-loop μ-loop
+component-misplaced-requires c κs = (c .before .before .before .before .before .pre .0, component-text _ (c .before .before .before .before .before .args .q) _ (c .before .before .before .before .before .pre .1) (c .before .loop-test .taken) (c .component-at .ensures))
+
+returns : tie.Need-returns Inv-loop μ-loop
+unfolding componentsMisplaced
+returns c = sym (some-found (componentOff _ (c .before .before .before .before .before .before .before .args .q)) _ _ (c .before .before .before .loop-test .taken) (sym (c .before .component-misplaced .ensures ∙ ap (componentMisplaced _ (c .before .before .before .before .before .before .before .args .q)) (c .before .before .component-at .ensures)) ∙ c .if1 .taken))
+
+add-k : tie.Need-add-k Inv-loop μ-loop
+add-k c = omega arith
+
+loop-less : tie.Need-loop-less Inv-loop μ-loop
+loop-less c = omega arith
+
+loop-again : tie.Need-loop-again Inv-loop μ-loop
+loop-again c = (omega arith, none-next (componentOff _ (c .before .before .before .before .before .before .before .args .q)) _ (c .before .before .before .before .loop .inv .1) (sym (c .before .component-misplaced .ensures ∙ ap (componentMisplaced _ (c .before .before .before .before .before .before .before .args .q)) (c .before .before .component-at .ensures)) ∙ c .if1 .left))
+
+returns-2 : tie.Need-returns-2 Inv-loop μ-loop
+unfolding componentsMisplaced
+returns-2 c = sym (none-end (componentOff _ (c .before .before .before .before .args .q)) _ _ (c .before .loop .inv .0) (c .loop-test .left) (c .before .loop .inv .1))
+
+pub components-misplaced-spec : {M : Type 1} → statement M
+components-misplaced-spec =
+    tie.close
+    (tie.spec
+    Inv-loop
+    μ-loop
+    loop-holds
+    component-at-requires
+    component-misplaced-requires
+    returns
+    add-k
+    loop-less
+    loop-again
+    returns-2)

@@ -1,0 +1,5 @@
+pub mod Sizes
+pub mod EventSizes
+pub mod Instances
+pub mod Candidates
+pub mod Blocks

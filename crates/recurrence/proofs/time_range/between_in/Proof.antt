@@ -1,0 +1,15 @@
+-- The definition is that of touching.
+use Rattle.recurrence.specs.TimeRange.{betweenIn}
+use borrow.Author.Needs.{needs}
+use Rattle.recurrence.proofs.time_range.between_in.Statement.{statement}
+use Rattle.recurrence.proofs.time_range.between_in.Tie as tie
+
+overlaps-requires : tie.Need-overlaps-requires
+overlaps-requires c κs = search needs
+
+returns : tie.Need-returns
+unfolding betweenIn
+returns c = c .overlaps .ensures
+
+pub between-in-spec : {M : Type 1} → statement M
+between-in-spec = tie.close (tie.spec overlaps-requires returns)

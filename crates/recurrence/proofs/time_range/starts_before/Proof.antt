@@ -1,0 +1,18 @@
+-- The two tests are the definition's own.
+use Rattle.recurrence.specs.Candidates.{startsBefore}
+use borrow.Author.Needs.{needs}
+use Rattle.recurrence.proofs.time_range.starts_before.Statement.{statement}
+use Rattle.recurrence.proofs.time_range.starts_before.Tie as tie
+
+is-instance-requires : tie.Need-is-instance-requires
+is-instance-requires c κs = search needs
+
+start-of-requires : tie.Need-start-of-requires
+start-of-requires c κs = search needs
+
+returns : tie.Need-returns
+unfolding startsBefore
+returns c = simp (c .before .is-instance .ensures, c .start-of .ensures)
+
+pub starts-before-spec : {M : Type 1} → statement M
+starts-before-spec = tie.close (tie.spec is-instance-requires start-of-requires returns)

@@ -1,0 +1,51 @@
+-- Recurrence instances of an event (document 01, Events and blocks): when each starts and ends, and which there are.
+use Prim.Native.Nat.{ℕ, _+_, _-_, _*_}
+use mathlib.Core.Bool.{Bool, true}
+use lib.Dec.{eqb, ltb, leb}
+use Rattle.time.specs.Duration.{durationSeconds}
+use Rattle.time.specs.declared.date_time.Kind.{Kind}
+use Rattle.events.specs.declared.Ending.{Ending}
+use Rattle.events.specs.declared.Repeat.{Repeat}
+use Rattle.events.specs.declared.Event.{Event}
+
+-- the seconds from one start to the next: INTERVAL times a day or a week
+unfoldable pub stepOf : Event → ℕ
+stepOf e = e .days * e .interval * 86400
+
+-- instance k starts k steps after DTSTART
+unfoldable pub startOf : Event → ℕ → ℕ
+startOf e k = e .start + k * stepOf e
+
+-- which k the rule has: k < COUNT, or a start no later than UNTIL, or all; without a rule 0 alone
+unfoldable pub repeats : Repeat → ℕ → ℕ → Bool
+repeats Repeat.Once s k = eqb k 0
+repeats Repeat.Forever s k = true
+repeats (Repeat.Count n) s k = ltb k n
+repeats (Repeat.Until t) s k = leb s t
+
+-- the rule's instance k
+unfoldable pub isInstance : Event → ℕ → Bool
+isInstance e k = repeats (e .repeat) (startOf e k) k
+
+-- an instance that stands; today each of the rule's does
+unfoldable pub occurs : Event → ℕ → Bool
+occurs e k = isInstance e k
+
+-- starts are a day or more apart, so no instance from this number on starts by 2099
+abbrev pub instancesAtMost : ℕ
+instancesAtMost = 50000
+
+-- the length: end minus start; the duration; or, with neither, a day for a DATE and 0 otherwise
+unfoldable pub defaultLength : Kind → ℕ
+defaultLength Kind.Utc = 0
+defaultLength Kind.Floating = 0
+defaultLength Kind.Date = 86400
+
+unfoldable pub lengthBy : Event → Ending → ℕ
+lengthBy e (Ending.End t) = t - e .start
+lengthBy e (Ending.Lasts d) = durationSeconds d
+lengthBy e Ending.None = defaultLength (e .kind)
+
+-- instance k ends its length after its start
+unfoldable pub endOf : Event → ℕ → ℕ
+endOf e k = startOf e k + lengthBy e (e .ending)

@@ -1,0 +1,47 @@
+-- The time range test (document 01, Events and blocks; RFC 4791 9.9): is an event or a block in the range from a up to, but not including, b?
+use Prim.Native.Nat.{ℕ, _<_, _≤_}
+use mathlib.Core.Path.{_≡_}
+use mathlib.Core.Bool.{Bool, true, false, cond, _&&_, _||_}
+use mathlib.Core.List.{List, [], _∷_}
+use lib.Dec.{eqb, ltb, leb}
+use Rattle.periods.specs.BusyTypes.{BusyPeriod}
+use Rattle.events.specs.declared.Event.{Event}
+use Rattle.events.specs.declared.Bound.{Bound}
+use Rattle.events.specs.declared.Block.{Block}
+use Rattle.recurrence.specs.Instances.{startOf, endOf, occurs}
+
+-- what stands from s to t, against the range: start < t and end > s; where it has no length, start ≤ s and s < end
+unfoldable pub overlaps : ℕ → ℕ → ℕ → ℕ → Bool
+overlaps a b s t = cond (eqb s t) (leb a s && ltb s b) (ltb a t && ltb s b)
+
+-- instance k of an event is in range
+unfoldable pub instanceIn : Event → ℕ → ℕ → ℕ → Bool
+instanceIn e a b k = occurs e k && overlaps a b (startOf e k) (endOf e k)
+
+-- an event is in range where some instance is
+pub record EventIn (e : Event) (a b : ℕ) : Type 0 where
+  pub number : ℕ
+  pub passes : instanceIn e a b number ≡ true
+
+-- a block with both ends, tested as an event between them is
+unfoldable pub betweenIn : ℕ → ℕ → ℕ → ℕ → Bool
+betweenIn a b s t = overlaps a b s t
+
+-- any other block goes by its periods, free ones too; without one it is in no range
+unfoldable pub periodsOverlap : ℕ → ℕ → List BusyPeriod → Bool
+periodsOverlap a b [] = false
+periodsOverlap a b (p ∷ ps) = overlaps a b (p .period .start) (p .period .end) || periodsOverlap a b ps
+
+unfoldable pub boundsIn : ℕ → ℕ → Bound → Bound → List BusyPeriod → Bool
+boundsIn a b (Bound.At s) (Bound.At t) ps = betweenIn a b s t
+boundsIn a b (Bound.At s) Bound.None ps = periodsOverlap a b ps
+boundsIn a b Bound.None (Bound.At t) ps = periodsOverlap a b ps
+boundsIn a b Bound.None Bound.None ps = periodsOverlap a b ps
+
+unfoldable pub blockIn : Block → List BusyPeriod → ℕ → ℕ → Bool
+blockIn k ps a b = boundsIn a b (k .start) (k .end) ps
+
+-- a Bool that decides a statement
+pub record Decides (r : Bool) (P : Type 0) : Type 0 where
+  pub holds : r ≡ true → P
+  pub fails : r ≡ false → P → ⊥

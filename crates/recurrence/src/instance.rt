@@ -1,0 +1,86 @@
+// Recurrence instances of an event: when each starts, how long each is, and which there are.
+// Starts go up by whole days; how many there are is the rule's limit alone.
+use events::Ending;
+use events::Event;
+use events::Repeat;
+use time::date_time::Kind;
+use time::duration;
+ghost use mathlib.Core.Path.{_≡_};
+ghost use Prim.Native.Nat.{_≤_};
+ghost use Rattle.recurrence.specs.Instances.{stepOf, startOf, repeats, isInstance, occurs, defaultLength, lengthBy};
+ghost use Rattle.recurrence.specs.Sizes.{Small};
+
+// The seconds from one start to the next.
+pub fn step_of(e: Event) -> u64
+    requires { ⌜ Small e ⌝ }
+    ensures { λ r. ⌜ r ≡ stepOf e ⌝ }
+{
+    e.days * e.interval * 86400
+}
+
+// Instance k starts k steps after the first.
+pub fn start_of(e: Event, k: u64) -> u64
+    requires { ⌜ Small e ⌝ }
+    requires { ⌜ k ≤ 100000 ⌝ }
+    ensures { λ r. ⌜ r ≡ startOf e k ⌝ }
+{
+    e.start + k * step_of(e)
+}
+
+// A day for a DATE, nothing otherwise.
+fn default_length(kind: Kind) -> u64
+    ensures { λ r. ⌜ r ≡ defaultLength kind ⌝ }
+{
+    match kind {
+        Kind::Utc => 0,
+        Kind::Floating => 0,
+        Kind::Date => 86400,
+    }
+}
+
+// End minus start, or the duration, or the default.
+pub fn length_of(e: Event) -> u64
+    requires { ⌜ Small e ⌝ }
+    ensures { λ r. ⌜ r ≡ lengthBy e (e .ending) ⌝ }
+{
+    let ending = e.ending;
+    match ending {
+        Ending::End(t) => t - e.start,
+        Ending::Lasts(d) => duration::duration_seconds(d),
+        Ending::None => {
+            let kind = e.kind;
+            default_length(kind)
+        }
+    }
+}
+
+// Does the rule have instance k, which starts at s?
+fn repeats(rule: Repeat, s: u64, k: u64) -> bool
+    ensures { λ r. ⌜ r ≡ repeats rule s k ⌝ }
+{
+    match rule {
+        Repeat::Once => k == 0,
+        Repeat::Forever => true,
+        Repeat::Count(n) => k < n,
+        Repeat::Until(t) => s <= t,
+    }
+}
+
+// Is there an instance k by the rule?
+pub fn is_instance(e: Event, k: u64) -> bool
+    requires { ⌜ Small e ⌝ }
+    requires { ⌜ k ≤ 100000 ⌝ }
+    ensures { λ r. ⌜ r ≡ isInstance e k ⌝ }
+{
+    let rule = e.repeat;
+    repeats(rule, start_of(e, k), k)
+}
+
+// Does instance k stand? Each of the rule's does.
+pub fn occurs(e: Event, k: u64) -> bool
+    requires { ⌜ Small e ⌝ }
+    requires { ⌜ k ≤ 100000 ⌝ }
+    ensures { λ r. ⌜ r ≡ occurs e k ⌝ }
+{
+    is_instance(e, k)
+}

@@ -1,0 +1,76 @@
+// The time range test: is an instance of an event, or a block with both ends, in the range from a up to, but not including, b?
+// One division finds the first instance that can be in a range; from there on each is tested.
+use crate::instance;
+use events::Event;
+ghost use mathlib.Core.Path.{_≡_};
+ghost use Prim.Native.Nat.{_≤_};
+ghost use Rattle.recurrence.specs.Sizes.{Small};
+ghost use Rattle.recurrence.specs.TimeRange.{overlaps, instanceIn, betweenIn};
+ghost use Rattle.recurrence.specs.Candidates.{firstAt, spanOf, FirstCandidate, startsBefore};
+
+// What stands from s to t, against the range.
+pub fn overlaps(a: u64, b: u64, s: u64, t: u64) -> bool
+    ensures { λ r. ⌜ r ≡ overlaps a b s t ⌝ }
+{
+    if s == t {
+        (a <= s) & (s < b)
+    } else {
+        (a < t) & (s < b)
+    }
+}
+
+// A block with both ends is tested as an event between them is.
+pub fn between_in(a: u64, b: u64, s: u64, t: u64) -> bool
+    ensures { λ r. ⌜ r ≡ betweenIn a b s t ⌝ }
+{
+    overlaps(a, b, s, t)
+}
+
+// Is instance k in range?
+pub fn instance_in(e: Event, a: u64, b: u64, k: u64) -> bool
+    requires { ⌜ Small e ⌝ }
+    requires { ⌜ k ≤ 100000 ⌝ }
+    ensures { λ r. ⌜ r ≡ instanceIn e a b k ⌝ }
+{
+    let s = instance::start_of(e, k);
+    instance::occurs(e, k) & overlaps(a, b, s, s + instance::length_of(e))
+}
+
+// The least k with a < s + span + k * d.
+pub fn first_at(s: u64, d: u64, span: u64, a: u64) -> u64
+    requires { ⌜ s ≤ 10000000000 ⌝ }
+    requires { ⌜ 1 ≤ d ⌝ }
+    requires { ⌜ span ≤ 10000000000 ⌝ }
+    requires { ⌜ a ≤ 10000000000 ⌝ }
+    ensures { λ r. ⌜ r ≡ firstAt s d span a ⌝ }
+{
+    let end = s + span;
+    if a < end { 0 } else { (a - end) / d + 1 }
+}
+
+// The length, and one second where there is none.
+fn span_of(e: Event) -> u64
+    requires { ⌜ Small e ⌝ }
+    ensures { λ r. ⌜ r ≡ spanOf e ⌝ }
+{
+    let length = instance::length_of(e);
+    if length == 0 { 1 } else { length }
+}
+
+// The first instance that ends after a, by one division.
+pub fn first_candidate(e: Event, a: u64) -> u64
+    requires { ⌜ Small e ⌝ }
+    requires { ⌜ a ≤ 4102444799 ⌝ }
+    ensures { λ r. ⌜ FirstCandidate e a r ⌝ }
+{
+    first_at(e.start, instance::step_of(e), span_of(e), a)
+}
+
+// Is instance k the rule's, and does it start before b?
+pub fn starts_before(e: Event, b: u64, k: u64) -> bool
+    requires { ⌜ Small e ⌝ }
+    requires { ⌜ k ≤ 100000 ⌝ }
+    ensures { λ r. ⌜ r ≡ startsBefore e b k ⌝ }
+{
+    instance::is_instance(e, k) & (instance::start_of(e, k) < b)
+}

@@ -1,3 +1,0 @@
-pub mod Outcomes
-pub mod BusyPlaces
-pub mod Sizes

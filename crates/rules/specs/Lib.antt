@@ -1,4 +1,0 @@
-pub mod Gathered
-pub mod Events
-pub mod BusyTypes
-pub mod Sizes
