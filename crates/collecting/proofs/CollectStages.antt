@@ -35,7 +35,8 @@ use Rattle.walk.specs.Walks.{StoresContents}
 use Rattle.walk.specs.declared.ContentsStored.{ContentsStored}
 use Rattle.tables.specs.Building.{Built}
 use Rattle.tables.proofs.Built.{built-stored}
-use Rattle.collecting.specs.CollectStages.{AllSound, Refuses, Typed, unlessFault, Tabled, pieceRows, fewestPeriods, ContentsTabled}
+use Rattle.collecting.specs.CalendarTerms.{pieceRows}
+use Rattle.collecting.specs.CollectStages.{AllSound, Refuses, Typed, unlessFault, Tabled, fewestPeriods, ContentsTabled}
 use Rattle.collecting.specs.declared.Collected.{Collected}
 
 -- ---- a refusal
@@ -118,7 +119,7 @@ module _ (a e : ℕ) (es : List Entry) where
       (λ x k l. busyPieces-cover b u a e x es ∙ ap (λ (t : Bool). t && covered b es x) (secondIn-true a e x k (omega (arith, range-end h))))
 
   module _ {o o′ : List ℕ} {n : ℕ} (h : Stored o 0 (busyPieces a e es) o′ n) where
-    stored-many : 512 < n → lowest (pieceRows a e es) ≡ Fault.At 11 0
+    stored-many : 512 < n → lowest (pieceRows (busyPieces a e es) []) ≡ Fault.At 11 0
     unfolding pieceRows stored
     stored-many k =
         row-applies _ _ (lt-ltb 512 (length (busyPieces a e es)) (omega (arith, h .count, take-least 513 (busyPieces a e es))))
@@ -133,11 +134,11 @@ module _ (a e : ℕ) (es : List Entry) where
       stored-numbers : o′ ≡ sets o 0 (flat (busyPieces a e es))
       stored-numbers = h .numbers ∙ ap (λ (ps : List BusyPeriod). sets o 0 (flat ps)) all-stored
 
-      few-stored : lowest (pieceRows a e es) ≡ Fault.None
+      few-stored : lowest (pieceRows (busyPieces a e es) []) ≡ Fault.None
       unfolding pieceRows lowest
       few-stored = row-passed (row 11 0 (ltb 512 (length (busyPieces a e es)))) [] (le-ltb 512 (length (busyPieces a e es)) (omega (arith, stored-count)))
 
-      tabled-stored : {r : Collected} → length o ≡ 1539 → a < e → Typed o′ n r → Tabled (pieceRows a e es) (fewestPeriods a e es) r
+      tabled-stored : {r : Collected} → length o ≡ 1539 → a < e → Typed o′ n r → Tabled (pieceRows (busyPieces a e es) []) (fewestPeriods a e es) r
       unfolding unlessFault
       tabled-stored l w t =
           record {
@@ -159,7 +160,7 @@ module _ {c : Context} {u : List ℕ} {a e : ℕ} {o o′ : List ℕ} {x : Conte
   contents-refuse q w = tabled-refused (contents-refused c u _ (sym (k .fault-is) ∙ q)) w
 
   module _ (q : x .fault ≡ Fault.None) where
-    contents-pass : Tabled (pieceRows a e (entriesOf c (componentsOf u))) (fewestPeriods a e (entriesOf c (componentsOf u))) r → ContentsTabled c u a e r
+    contents-pass : Tabled (pieceRows (busyPieces a e (entriesOf c (componentsOf u))) []) (fewestPeriods a e (entriesOf c (componentsOf u))) r → ContentsTabled c u a e r
     contents-pass t = tabled-passed (contents-passed c u _ (sym (k .fault-is) ∙ q)) t
 
     pub contents-many : 512 < x .count → Refuses (Fault.At 11 0) r → ContentsTabled c u a e r

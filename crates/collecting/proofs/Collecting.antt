@@ -16,16 +16,16 @@ use Rattle.values.specs.declared.times.Context.{Context}
 use Rattle.periods.specs.declared.BusyType.{BusyType}
 use Rattle.calendar.specs.Meaning.{structureFault}
 use Rattle.calendar.specs.declared.Fault.{Fault}
-use Rattle.refusals.specs.Refusals.{Row, lowest, Rising, ends, sizeRows}
+use Rattle.refusals.specs.Refusals.{Row, lowest, NumbersRise, ends, sizeRows}
 use Rattle.refusals.specs.Offsets.{offsetGood, contextOf, offsetRead}
 use Rattle.refusals.specs.Stages.{sizeFault, earlyFault, workBy}
 use Rattle.refusals.specs.declared.OffsetRead.{OffsetRead}
 use Rattle.refusals.proofs.Offsets.{read-good, read-out, shift-bound, offset-given}
 use Rattle.refusals.proofs.Refusals.{row-applies, row-passed, lowest-above}
 use Rattle.refusals.proofs.Stages.{rises, sizes-early, sizes-passed, sizes-refused, structure-passed, structure-refused, calendar-rising, work-by}
-use Rattle.collecting.specs.ReportCalls.{ReportCall, rangeGood, stampGood, entriesIn, coveredIn, piecesFor, reportFor, collectRows}
+use Rattle.collecting.specs.CalendarTerms.{CalendarTerms, rangeGood, stampGood, entriesIn, coveredIn, piecesFor, reportFor, pieceRows, collectRows}
 use Rattle.collecting.specs.Collecting.{periodsBy, Collects}
-use Rattle.collecting.specs.CollectStages.{callRead, Refuses, unlessFault, Tabled, pieceRows, fewestPeriods, ContentsTabled, CollectedAs, laterRows, laterPeriods}
+use Rattle.collecting.specs.CollectStages.{callRead, Refuses, unlessFault, Tabled, fewestPeriods, ContentsTabled, CollectedAs, laterRows, laterPeriods}
 use Rattle.collecting.specs.declared.Collected.{Collected}
 use Rattle.collecting.proofs.CollectStages.{tabled-refused, tabled-passed}
 
@@ -89,7 +89,7 @@ module _ (cal work : List ℕ) where
 
 -- ---- from the calendar on
 
-late-above : (rows : List Row) → Rising 5 rows → earlyFault (lowest rows) ≡ false
+late-above : (rows : List Row) → NumbersRise 5 rows → earlyFault (lowest rows) ≡ false
 unfolding earlyFault
 late-above rows g = go (lowest rows) refl
   where
@@ -124,9 +124,9 @@ module _ {cal work left : List ℕ} {m : ℕ} (k : Unfolded cal work left m) {f 
 
 -- ---- the whole call
 
-module _ (cal : List ℕ) (a e : ℕ) (o : ℤ) (t : ℕ) (work out : List ℕ) where
-  abbrev call : ReportCall
-  call = record { calendar = cal; start = a; end = e; offset = o; stamp = t; work = work; output = out }
+module _ (cal : List ℕ) (a e : ℕ) (o : ℤ) (t : ℕ) (work : List ℕ) where
+  abbrev call : CalendarTerms
+  call = record { calendar = cal; start = a; end = e; offset = o; stamp = t; work = work }
 
   periods-same : (f : Fault) (b : BusyType) → unlessFault f (laterPeriods (contextOf o) cal a e b) ≡ periodsBy f call b
   unfolding unlessFault laterPeriods fewestPeriods periodsBy reportFor coveredIn entriesIn

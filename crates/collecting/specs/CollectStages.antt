@@ -24,7 +24,7 @@ use Rattle.refusals.specs.Offsets.{offsetRead}
 use Rattle.refusals.specs.declared.OffsetRead.{OffsetRead}
 use Rattle.refusals.specs.Stages.{workBy}
 use Rattle.tables.specs.Building.{Built}
-use Rattle.collecting.specs.ReportCalls.{rangeGood, stampGood}
+use Rattle.collecting.specs.CalendarTerms.{rangeGood, stampGood, pieceRows}
 use Rattle.collecting.specs.declared.Collected.{Collected}
 
 -- refusal 1: the offset once it is read, where range and stamp are good
@@ -71,10 +71,6 @@ pub record CollectedAs (rows : List Row) (periods : BusyType → List Period) (c
 
 -- ---- rows and periods from a stage on
 
--- 11
-unfoldable pub pieceRows : ℕ → ℕ → List Entry → List Row
-pieceRows a e es = row 11 0 (ltb 512 (length (busyPieces a e es))) ∷ []
-
 -- the covered seconds of the range as the fewest periods
 unfoldable pub fewestPeriods : ℕ → ℕ → List Entry → BusyType → List Period
 fewestPeriods a e es b = runs (covered b es) a (e - a)
@@ -82,11 +78,11 @@ fewestPeriods a e es b = runs (covered b es) a (e - a)
 -- the lowest of 8 to 11, and the tables where there is none
 abbrev pub ContentsTabled : Context → List ℕ → ℕ → ℕ → Collected → Type 0
 ContentsTabled c u a e r =
-    Tabled (contentsRows c u (pieceRows a e (entriesOf c (componentsOf u)))) (fewestPeriods a e (entriesOf c (componentsOf u))) r
+    Tabled (contentsRows c u (pieceRows (busyPieces a e (entriesOf c (componentsOf u))) [])) (fewestPeriods a e (entriesOf c (componentsOf u))) r
 
 -- 6 to 11
 unfoldable pub laterRows : Context → List ℕ → ℕ → ℕ → List Row
-laterRows c cal a e = calendarRows c (unfolded cal) (pieceRows a e (entriesOf c (componentsOf (unfolded cal))))
+laterRows c cal a e = calendarRows c (unfolded cal) (pieceRows (busyPieces a e (entriesOf c (componentsOf (unfolded cal)))) [])
 
 unfoldable pub laterPeriods : Context → List ℕ → ℕ → ℕ → BusyType → List Period
 laterPeriods c cal a e = fewestPeriods a e (entriesOf c (componentsOf (unfolded cal)))

@@ -11,16 +11,16 @@ use Rattle.periods.specs.BusyTypes.{isBusy}
 use Rattle.calendar.specs.declared.Fault.{Fault}
 use Rattle.refusals.specs.Refusals.{lowest}
 use Rattle.refusals.specs.Stages.{workBy}
-use Rattle.collecting.specs.ReportCalls.{ReportCall, reportFor, collectRows}
+use Rattle.collecting.specs.CalendarTerms.{CalendarTerms, reportFor, collectRows}
 use Rattle.collecting.specs.declared.Collected.{Collected}
 
 -- the periods of each type, none where there is a refusal
-unfoldable pub periodsBy : Fault → ReportCall → BusyType → List Period
+unfoldable pub periodsBy : Fault → CalendarTerms → BusyType → List Period
 periodsBy Fault.None m b = reportFor m .periods b
 periodsBy (Fault.At n i) m b = []
 
 -- the whole promise: the refusal or none, every byte of the work buffer, and the three tables
-pub record Collects (m : ReportCall) (r : Collected) (work-left : List ℕ) : Type 0 where
+pub record Collects (m : CalendarTerms) (r : Collected) (work-left : List ℕ) : Type 0 where
   pub fault-is : r .fault ≡ lowest (collectRows m [])
   pub work-left-is : work-left ≡ workBy (lowest (collectRows m [])) (m .calendar) (m .work)
   pub periods-are : (b : BusyType) → isBusy b ≡ true

@@ -1,3 +1,3 @@
-pub mod ReportCalls
+pub mod CalendarTerms
 pub mod Collecting
 pub mod CollectStages

@@ -114,7 +114,7 @@ pub fn collect(
     stamp: u64,
     work: &mut [u8],
 ) -> Collected
-    ensures { λ r. ⌜ ((out : List ℕ) → Collects (record { calendar = now (cal .entry); start = start; end = end; offset = offset; stamp = stamp; work = now (work .entry); output = out }) r (now (work .exit))) ⌝ }
+    ensures { λ r. ⌜ Collects (record { calendar = now (cal .entry); start = start; end = end; offset = offset; stamp = stamp; work = now (work .entry) }) r (now (work .exit)) ⌝ }
 {
     match read_call(start, end, offset, stamp) {
         OffsetRead::Bad => refused(Fault::At(1, 0)),

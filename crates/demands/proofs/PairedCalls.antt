@@ -10,9 +10,8 @@ use lib.Seq.{length-take-le}
 use Rattle.ascii.proofs.Bools.{and-both}
 use Rattle.report.specs.Heads.{opensReport, closesReport}
 use Rattle.report.proofs.HeadsLaws.{report-opens, report-closes}
-use Rattle.collecting.specs.ReportCalls.{ReportCall}
 use Rattle.engine.specs.Answers.{outcomeOf}
-use Rattle.engine.specs.Reporting.{Reported}
+use Rattle.engine.specs.Reporting.{ReportCall, Reported}
 use Rattle.engine.specs.Meanings.{IsReport}
 use Rattle.engine.specs.declared.Answer.{Answer}
 use Rattle.engine.proofs.ReportAnswers.{written-report}
@@ -60,20 +59,20 @@ heads-at a o e f g = rw (f, g) (ap (λ (k : ℕ). opensReport (take k o) && clos
 
 module _ {cal work out w o work₂ out₂ w₂ o₂ : List ℕ} {start end stamp : ℕ} {x y : ℤ} {a b : Answer} where
   pub read-twice : {n : ℕ} {s t : Bool}
-      → Reported (record { calendar = cal; start = start; end = end; offset = x; stamp = stamp; work = work; output = out }) a w o
+      → Reported (record { terms = record { calendar = cal; start = start; end = end; offset = x; stamp = stamp; work = work }; output = out }) a w o
       → n ≡ lengthOf a → s ≡ opensReport (take n o) → t ≡ closesReport (take n o)
-      → Reported (record { calendar = take n o; start = start; end = end; offset = y; stamp = stamp; work = work₂; output = out₂ }) b w₂ o₂
-      → ReadTwice (record { calendar = cal; start = start; end = end; offset = x; stamp = stamp; work = work; output = out })
-      (record { calendar = take (lengthOf a) o; start = start; end = end; offset = y; stamp = stamp; work = work₂; output = out₂ })
+      → Reported (record { terms = record { calendar = take n o; start = start; end = end; offset = y; stamp = stamp; work = work₂ }; output = out₂ }) b w₂ o₂
+      → ReadTwice (record { terms = record { calendar = cal; start = start; end = end; offset = x; stamp = stamp; work = work }; output = out })
+      (record { terms = record { calendar = take (lengthOf a) o; start = start; end = end; offset = y; stamp = stamp; work = work₂ }; output = out₂ })
       (record { first = a; second = b; heads = s && t }) w o w₂ o₂
   read-twice p e f g q =
       let v =
       subst
-      (λ (k : ℕ). Reported (record { calendar = take k o; start = start; end = end; offset = y; stamp = stamp; work = work₂; output = out₂ }) b w₂ o₂)
+      (λ (k : ℕ). Reported (record { terms = record { calendar = take k o; start = start; end = end; offset = y; stamp = stamp; work = work₂ }; output = out₂ }) b w₂ o₂)
       e q in
       record {
         first-call = p;
-        on-first = record { its-bytes = refl; same-start = refl; same-end = refl; same-stamp = refl };
+        on-first = record { its-bytes = refl; same-range = record { same-start = refl; same-end = refl; same-stamp = refl } };
         second-call = v;
         says-covered = says-covered p;
         reads-back = reads-back p v;
@@ -82,10 +81,10 @@ module _ {cal work out w o work₂ out₂ w₂ o₂ : List ℕ} {start end stamp
       }
 
   pub compared : {other : List ℕ}
-      → Reported (record { calendar = cal; start = start; end = end; offset = x; stamp = stamp; work = work; output = out }) a w o
-      → Reported (record { calendar = other; start = start; end = end; offset = y; stamp = stamp; work = work₂; output = out₂ }) b w₂ o₂
-      → Compared (record { calendar = cal; start = start; end = end; offset = x; stamp = stamp; work = work; output = out })
-      (record { calendar = other; start = start; end = end; offset = y; stamp = stamp; work = work₂; output = out₂ })
+      → Reported (record { terms = record { calendar = cal; start = start; end = end; offset = x; stamp = stamp; work = work }; output = out }) a w o
+      → Reported (record { terms = record { calendar = other; start = start; end = end; offset = y; stamp = stamp; work = work₂ }; output = out₂ }) b w₂ o₂
+      → Compared (record { terms = record { calendar = cal; start = start; end = end; offset = x; stamp = stamp; work = work }; output = out })
+      (record { terms = record { calendar = other; start = start; end = end; offset = y; stamp = stamp; work = work₂ }; output = out₂ })
       (record { first = a; second = b }) w o w₂ o₂
   compared p q =
       record {

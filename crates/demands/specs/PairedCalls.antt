@@ -5,9 +5,8 @@ use mathlib.Core.Bool.{true, _&&_}
 use mathlib.Core.List.{List}
 use lib.ListN.{take}
 use Rattle.report.specs.Heads.{opensReport, closesReport}
-use Rattle.collecting.specs.ReportCalls.{ReportCall}
-use Rattle.engine.specs.Reporting.{Reported}
-use Rattle.engine.specs.Meanings.{IsReport, SaysCovered, ReadsBack, OneMeaning}
+use Rattle.engine.specs.Reporting.{ReportCall, Reported}
+use Rattle.engine.specs.Meanings.{IsReport, SaysCovered, OnReport, ReadsBack, OneMeaning}
 use Rattle.engine.specs.declared.Answer.{Answer}
 use Rattle.demands.specs.declared.Twice.{Twice}
 use Rattle.demands.specs.declared.Pair.{Pair}
@@ -18,17 +17,10 @@ lengthOf (Answer.Verdict b) = 0
 lengthOf (Answer.Length n) = n
 lengthOf (Answer.Refused n) = 0
 
--- what is handed in for the second call: the first bytes of the first call's output, over its range with its stamp
-pub record Again (m : ReportCall) (r : Twice) (out-left : List ℕ) (again : ReportCall) : Type 0 where
-  pub its-bytes : again .calendar ≡ take (lengthOf (r .first)) out-left
-  pub same-start : again .start ≡ m .start
-  pub same-end : again .end ≡ m .end
-  pub same-stamp : again .stamp ≡ m .stamp
-
 -- a report read back: the whole promise of both calls, and beside it that the second report is the first
 pub record ReadTwice (m again : ReportCall) (r : Twice) (w o w₂ o₂ : List ℕ) : Type 0 where
   pub first-call : Reported m (r .first) w o
-  pub on-first : Again m r o again
+  pub on-first : OnReport m (lengthOf (r .first)) o again
   pub second-call : Reported again (r .second) w₂ o₂
   pub says-covered : SaysCovered m (r .first) o
   pub reads-back : ReadsBack m (r .first) o again (r .second) o₂

@@ -43,7 +43,7 @@ pub fn read_back(
     work_again: &mut [u8],
     out_again: &mut [u8],
 ) -> Twice
-    ensures { λ r. ⌜ ReadTwice (record { calendar = now (cal .entry); start = start; end = end; offset = offset; stamp = stamp; work = now (work .entry); output = now (out .entry) }) (record { calendar = take (lengthOf (r .first)) (now (out .exit)); start = start; end = end; offset = «offset_again»; stamp = stamp; work = now («work_again» .entry); output = now («out_again» .entry) }) r (now (work .exit)) (now (out .exit)) (now («work_again» .exit)) (now («out_again» .exit)) ⌝ }
+    ensures { λ r. ⌜ ReadTwice (record { terms = record { calendar = now (cal .entry); start = start; end = end; offset = offset; stamp = stamp; work = now (work .entry) }; output = now (out .entry) }) (record { terms = record { calendar = take (lengthOf (r .first)) (now (out .exit)); start = start; end = end; offset = «offset_again»; stamp = stamp; work = now («work_again» .entry) }; output = now («out_again» .entry) }) r (now (work .exit)) (now (out .exit)) (now («work_again» .exit)) (now («out_again» .exit)) ⌝ }
 {
     let first = engine::report(cal, start, end, offset, stamp, work, out);
     let n = length_of(first);
@@ -78,7 +78,7 @@ pub fn compare(
     work_other: &mut [u8],
     out_other: &mut [u8],
 ) -> Pair
-    ensures { λ r. ⌜ Compared (record { calendar = now (cal .entry); start = start; end = end; offset = offset; stamp = stamp; work = now (work .entry); output = now (out .entry) }) (record { calendar = now (other .entry); start = start; end = end; offset = «offset_other»; stamp = stamp; work = now («work_other» .entry); output = now («out_other» .entry) }) r (now (work .exit)) (now (out .exit)) (now («work_other» .exit)) (now («out_other» .exit)) ⌝ }
+    ensures { λ r. ⌜ Compared (record { terms = record { calendar = now (cal .entry); start = start; end = end; offset = offset; stamp = stamp; work = now (work .entry) }; output = now (out .entry) }) (record { terms = record { calendar = now (other .entry); start = start; end = end; offset = «offset_other»; stamp = stamp; work = now («work_other» .entry) }; output = now («out_other» .entry) }) r (now (work .exit)) (now (out .exit)) (now («work_other» .exit)) (now («out_other» .exit)) ⌝ }
 {
     let first = engine::report(cal, start, end, offset, stamp, work, out);
     let second = engine::report(

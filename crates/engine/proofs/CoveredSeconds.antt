@@ -24,8 +24,8 @@ use Rattle.readback.specs.Reading.{reportPeriods}
 use Rattle.readback.proofs.Lines.{report-unfolds}
 use Rattle.readback.proofs.Reading.{reportBlock, report-entries}
 use Rattle.readback.proofs.BusyTypes.{report-types}
-use Rattle.collecting.specs.ReportCalls.{ReportCall, rangeGood, stampGood, entriesIn, coveredIn, reportFor}
-use Rattle.engine.specs.Reporting.{Reported}
+use Rattle.collecting.specs.CalendarTerms.{CalendarTerms, rangeGood, stampGood, entriesIn, coveredIn, reportFor}
+use Rattle.engine.specs.Reporting.{ReportCall, Reported}
 use Rattle.engine.specs.Meanings.{IsReport, StandsUnder, SaysCovered}
 use Rattle.engine.specs.declared.Answer.{Answer}
 use Rattle.engine.proofs.ReportAnswers.{written-report}
@@ -52,7 +52,7 @@ read-covered o {r} w b u x =
 
 -- ---- a call's report
 
-module _ (m : ReportCall) (g : rangeGood (m .start) (m .end) ≡ true) (s : stampGood (m .stamp) ≡ true) where
+module _ (m : CalendarTerms) (g : rangeGood (m .start) (m .end) ≡ true) (s : stampGood (m .stamp) ≡ true) where
   -- it covers what the calendar covers
   pub read-covers : (o : ℤ) (b : BusyType) → isBusy b ≡ true → (x : ℕ) → m .start ≤ x → x < m .end
       → coveredIn (reportBytes (reportFor m)) o b x ≡ coveredIn (m .calendar) (m .offset) b x
@@ -75,12 +75,12 @@ pub says-covered : {m : ReportCall} {a : Answer} {work-left out-left : List ℕ}
 unfolding StandsUnder
 says-covered {m} {a} {out-left = out-left} p = record { stands-when = stands }
   where
-    stands : (n : ℕ) → IsReport a n → (b : BusyType) → isBusy b ≡ true → (x : ℕ) → m .start ≤ x → x < m .end
-        → StandsUnder (take n out-left) b x ↔ Covers (entriesIn (m .calendar) (m .offset)) b x
+    stands : (n : ℕ) → IsReport a n → (b : BusyType) → isBusy b ≡ true → (x : ℕ) → m .terms .start ≤ x → x < m .terms .end
+        → StandsUnder (take n out-left) b x ↔ Covers (entriesIn (m .terms .calendar) (m .terms .offset)) b x
     stands n e b u x h k =
         let z = written-report p e in
         let g = range-good m (z .none-applies) in
-        let same : (o : ℤ) → coveredIn (take n out-left) o b x ≡ coveredIn (m .calendar) (m .offset) b x =
-        λ o. ap (λ (c : List ℕ). coveredIn c o b x) (z .its-bytes) ∙ read-covers m g (stamp-good m (z .none-applies)) o b u x h k in
-        let reads = covered-reads (m .calendar) (m .offset) b x (let l : x ≤ 4102444799 = omega (arith, range-limit (m .start) (m .end) g) in l) in
+        let same : (o : ℤ) → coveredIn (take n out-left) o b x ≡ coveredIn (m .terms .calendar) (m .terms .offset) b x =
+        λ o. ap (λ (c : List ℕ). coveredIn c o b x) (z .its-bytes) ∙ read-covers (m .terms) g (stamp-good m (z .none-applies)) o b u x h k in
+        let reads = covered-reads (m .terms .calendar) (m .terms .offset) b x (let l : x ≤ 4102444799 = omega (arith, range-limit (m .terms .start) (m .terms .end) g) in l) in
         (λ f. reads .0 (sym (same (pos 0)) ∙ f (pos 0) zero-good), λ c o q. same o ∙ reads .1 c)

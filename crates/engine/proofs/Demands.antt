@@ -16,20 +16,20 @@ use Rattle.query_check.proofs.WellFormed.{queryGood-iff}
 use Rattle.filter.proofs.FilterRules.{query-iff}
 use Rattle.filter.specs.FilterRules.{QueryPasses}
 use Rattle.filter.specs.Tests.{queryHolds}
-use Rattle.refusals.specs.Refusals.{lowest, Rising, ends, sizeRows}
+use Rattle.refusals.specs.Refusals.{NoneApplies, lowest, NumbersRise, ends, sizeRows}
 use Rattle.refusals.specs.Offsets.{offsetGood, contextOf}
 use Rattle.refusals.proofs.Refusals.{none-iff, lowest-iff}
 use Rattle.refusals.proofs.Stages.{rises, sizes-rising, calendar-rising}
 use Rattle.engine.specs.Answers.{verdict, unlessRefused}
 use Rattle.engine.specs.Matching.{MatchCall, queryRows, matchRows, verdictBy, verdictOf, matchOutcome, Matched}
-use Rattle.engine.specs.Demands.{NoneApplies, AnswersOrRefuses, MatchesWhen}
+use Rattle.engine.specs.Demands.{AnswersOrRefuses, MatchesWhen}
 use Rattle.engine.specs.declared.Answer.{Answer}
 use Rattle.engine.proofs.MatchingLaws.{query-rising}
 use Rattle.engine.proofs.MatchStages.{refused, let-through, verdict-apart, refusal-found, answer-found}
 
 -- ---- the table of a match call
 
-pub match-rising : (m : MatchCall) → Rising 0 (matchRows m)
+pub match-rising : (m : MatchCall) → NumbersRise 0 (matchRows m)
 unfolding matchRows
 match-rising m =
     rises 0 1 refl (omega arith)
@@ -58,7 +58,7 @@ holds : (t : Bool) → (not t ≡ true → ⊥) → t ≡ true
 holds true f = refl
 holds false f = absurd (f refl)
 
-module _ (m : MatchCall) (h : NoneApplies m) where
+module _ (m : MatchCall) (h : NoneApplies (matchRows m)) where
   -- rows 1 and 4 do not apply
   pub none-offset : offsetGood (m .offset) ≡ true
   unfolding NoneApplies matchRows
@@ -100,7 +100,7 @@ module _ {m : MatchCall} {a : Answer} {left : List ℕ} (p : Matched m a left) w
         matched-when = (
           λ e.
               let v = verdict-found (verdictOf m) (lowest (matchRows m)) (sym (p .answered) ∙ e) in
-              let h : NoneApplies m = none-iff (matchRows m) .0 (v .0) in
+              let h : NoneApplies (matchRows m) = none-iff (matchRows m) .0 (v .0) in
               let w = queryGood-iff (m .query) .0 (none-query m h) in
               (h, w, verdict-iff m h w .0 (v .1)),
           λ x.

@@ -11,12 +11,11 @@ use Rattle.nesting.specs.Passing.{treeIn}
 use Rattle.calendar.specs.declared.Fault.{Fault}
 use Rattle.query_check.specs.QueryRules.{WellFormedQuery}
 use Rattle.filter.specs.FilterRules.{QueryPasses}
-use Rattle.refusals.specs.Refusals.{lowest}
+use Rattle.refusals.specs.Refusals.{NoneApplies, lowest}
 use Rattle.refusals.specs.Offsets.{contextOf}
 use Rattle.refusals.specs.Stages.{earlyFault}
 use Rattle.engine.specs.Answers.{verdict, report, Outcome, outcomeOf, refusalIn, unlessRefused}
 use Rattle.engine.specs.Matching.{MatchCall, matchRows, verdictOf, matchOutcome, Matched}
-use Rattle.engine.specs.Demands.{NoneApplies}
 use Rattle.engine.specs.declared.Answer.{Answer}
 use Rattle.engine.proofs.MatchStages.{left-by}
 use Rattle.engine.proofs.Demands.{answers-or-refuses, matches-when}
@@ -32,7 +31,7 @@ same-verdict e = cc
 
 module _ {m : MatchCall} {left : List ℕ} where
   -- a refusal where nothing refuses
-  pub refuses-everything : {n : ℕ} → NoneApplies m → Matched m (Answer.Refused n) left → ⊥
+  pub refuses-everything : {n : ℕ} → NoneApplies (matchRows m) → Matched m (Answer.Refused n) left → ⊥
   unfolding NoneApplies outcomeOf
   refuses-everything {n} h p = h n (answers-or-refuses p .refused-when n .0 refl .applies)
 
@@ -42,7 +41,7 @@ module _ {m : MatchCall} {left : List ℕ} where
   length-given {n} p = no-report (lowest (matchRows m)) (verdictOf m) n (p .answered)
 
   -- no, where nothing refuses and the query passes
-  pub always-no : NoneApplies m → (w : WellFormedQuery (m .query))
+  pub always-no : NoneApplies (matchRows m) → (w : WellFormedQuery (m .query))
       → QueryPasses (contextOf (m .offset)) (m .query) (w .sections) (treeIn (unfolded (m .calendar)))
       → Matched m (Answer.Verdict false) left
       → ⊥

@@ -14,7 +14,6 @@ use Rattle.values.specs.declared.times.Context.{Context}
 use Rattle.calendar.specs.declared.Fault.{Fault}
 use Rattle.query.specs.Sections.{sectionsOf}
 use Rattle.query.specs.declared.Sections.{Sections}
-use Rattle.query.specs.declared.SectionsRead.{SectionsRead}
 use Rattle.query_check.specs.WellFormed.{queryRead}
 use Rattle.query_check.specs.declared.QueryRead.{QueryRead}
 use Rattle.filter.specs.Tests.{queryHolds}
@@ -28,7 +27,7 @@ use Rattle.refusals.proofs.Refusals.{row-applies, row-passed}
 use Rattle.refusals.proofs.Stages.{sizes-early, sizes-passed, sizes-refused, calendar-lowest, calendar-late, work-by}
 use Rattle.engine.specs.Answers.{Outcome, verdict, report, refusal, outcomeOf, refusalIn, workAfter, unlessRefused}
 use Rattle.engine.specs.Matching.{MatchCall, queryRows, matchRows, verdictBy, verdictOf, matchOutcome, Matched}
-use Rattle.engine.specs.MatchStages.{Answered, calendarOutcome, holdsBy, queryOutcome}
+use Rattle.engine.specs.MatchStages.{Answered, calendarOutcome, queryOutcome}
 use Rattle.engine.specs.declared.Answer.{Answer}
 use Rattle.engine.proofs.MatchingLaws.{query-refused-4, query-refused-5, query-passed, query-sections}
 
@@ -107,7 +106,7 @@ module _ (cal work : List ℕ) where
     pub match-query-passed : {left : List ℕ} {a : Answer} (q : Sections) → queryRead s ≡ QueryRead.Of q
         → Answered (calendarOutcome c cal s q) cal work a left
         → Answered (queryOutcome c cal s) cal work a left
-    unfolding queryOutcome calendarOutcome holdsBy
+    unfolding queryOutcome calendarOutcome verdictBy
     match-query-passed q e a = rw (query-passed s (calendarRows c (unfolded cal) []) q e, query-sections s [] q e) a
 
 -- ---- the whole call
@@ -122,11 +121,6 @@ module _ (cal s : List ℕ) (o : ℤ) (work : List ℕ) where
         answered = a .answered ∙ e;
         work-left = a .work-left ∙ ap (λ (y : Outcome). workAfter y cal work) e;
       }
-
-  verdict-holds : (r : SectionsRead) → holdsBy (contextOf o) cal s r ≡ verdictBy call r
-  unfolding holdsBy verdictBy
-  verdict-holds (SectionsRead.Of q) = refl
-  verdict-holds SectionsRead.Bad = refl
 
   pub match-refused-1 : offsetRead o ≡ OffsetRead.Bad → Matched call (Answer.Refused 1) work
   unfolding matchOutcome matchRows
@@ -148,7 +142,7 @@ module _ (cal s : List ℕ) (o : ℤ) (work : List ℕ) where
     unfolding matchOutcome queryOutcome verdictOf
     outcome-left k =
         let rows = queryRows s (calendarRows (contextOf o) (unfolded cal) []) in
-        rw (rows-left ∙ sizes-passed cal work rows k) (ap (λ (t : Bool). unlessRefused (lowest rows) (verdict t)) (verdict-holds (sectionsOf s)))
+        rw (rows-left ∙ sizes-passed cal work rows k)
 
     pub match-sizes-passed : {a : Answer} {left : List ℕ} → sizeFault cal work ≡ Fault.None
         → Answered (queryOutcome (record { shift = x }) cal s) cal work a left

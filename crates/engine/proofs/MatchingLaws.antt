@@ -10,11 +10,11 @@ use Rattle.query.specs.declared.SectionsRead.{SectionsRead}
 use Rattle.query_check.specs.WellFormed.{queryRead, ReadSays}
 use Rattle.query_check.specs.declared.QueryRead.{QueryRead}
 use Rattle.query_check.proofs.Queries.{read-says}
-use Rattle.refusals.specs.Refusals.{Row, lowest, Rising}
+use Rattle.refusals.specs.Refusals.{Row, lowest, NumbersRise}
 use Rattle.refusals.proofs.Stages.{rises}
 use Rattle.engine.specs.Matching.{misplacedIn, queryRows}
 
-pub query-rising : (s : List ℕ) (rows : List Row) → Rising 5 rows → Rising 3 (queryRows s rows)
+pub query-rising : (s : List ℕ) (rows : List Row) → NumbersRise 5 rows → NumbersRise 3 (queryRows s rows)
 unfolding queryRows
 query-rising s rows g = rises 3 4 refl (omega arith) (rises 4 5 refl (omega arith) g)
 

@@ -11,9 +11,10 @@ use Rattle.periods.specs.declared.BusyType.{BusyType}
 use Rattle.table.proofs.Runs.{runs-same}
 use Rattle.report.specs.Bytes.{reportBytes}
 use Rattle.periods.specs.BusyTypes.{isBusy}
-use Rattle.collecting.specs.ReportCalls.{ReportCall, coveredIn, reportFor}
-use Rattle.engine.specs.Reporting.{Reported}
-use Rattle.engine.specs.Meanings.{NoRefusal, IsReport, SameRange, SameSeconds, OneMeaning}
+use Rattle.collecting.specs.CalendarTerms.{CalendarTerms, coveredIn, reportFor}
+use Rattle.refusals.specs.Refusals.{NoneApplies}
+use Rattle.engine.specs.Reporting.{reportRows, ReportCall, Reported}
+use Rattle.engine.specs.Meanings.{IsReport, SameRange, SameSeconds, OneMeaning}
 use Rattle.engine.specs.declared.Answer.{Answer}
 use Rattle.engine.proofs.ReportAnswers.{reports-or-refuses, written-report}
 use Rattle.engine.proofs.Reports.{range-good, stamp-good, equal-bytes}
@@ -25,7 +26,7 @@ use Rattle.engine.proofs.CoveredSeconds.{read-covers}
 before-end : (a e t : ℕ) → a ≤ t → t < a + (e - a) → t < e
 before-end a e t h k = omega arith
 
-module _ {x y : ReportCall} (r : SameRange x y) where
+module _ {x y : CalendarTerms} (r : SameRange x y) where
   pub same-periods : SameSeconds x y → (b : BusyType) → isBusy b ≡ true → reportFor x .periods b ≡ reportFor y .periods b
   unfolding SameSeconds reportFor
   same-periods s b u =
@@ -40,19 +41,19 @@ module _ {x y : ReportCall} (r : SameRange x y) where
 -- ---- same bytes, same seconds
 
 -- a second of both ranges is covered in both calendars or in neither, whatever else the calls are
-pub same-second : (x y : ReportCall) → NoRefusal x → NoRefusal y → reportBytes (reportFor x) ≡ reportBytes (reportFor y)
-    → (b : BusyType) → isBusy b ≡ true → (t : ℕ) → x .start ≤ t → t < x .end → y .start ≤ t → t < y .end
-    → coveredIn (x .calendar) (x .offset) b t ≡ coveredIn (y .calendar) (y .offset) b t
+pub same-second : (x y : ReportCall) → NoneApplies (reportRows x) → NoneApplies (reportRows y) → reportBytes (reportFor (x .terms)) ≡ reportBytes (reportFor (y .terms))
+    → (b : BusyType) → isBusy b ≡ true → (t : ℕ) → x .terms .start ≤ t → t < x .terms .end → y .terms .start ≤ t → t < y .terms .end
+    → coveredIn (x .terms .calendar) (x .terms .offset) b t ≡ coveredIn (y .terms .calendar) (y .terms .offset) b t
 same-second x y f g e b u t h k i j =
-    sym (read-covers x (range-good x f) (stamp-good x f) (pos 0) b u t h k)
+    sym (read-covers (x .terms) (range-good x f) (stamp-good x f) (pos 0) b u t h k)
     ∙ ap (λ (c : List ℕ). coveredIn c (pos 0) b t) e
-    ∙ read-covers y (range-good y g) (stamp-good y g) (pos 0) b u t i j
+    ∙ read-covers (y .terms) (range-good y g) (stamp-good y g) (pos 0) b u t i j
 
 -- ---- Demand 3
 
-module _ {x y : ReportCall} {a b : Answer} {work-x out-x work-y out-y : List ℕ} (r : SameRange x y) (p : Reported x a work-x out-x)
+module _ {x y : ReportCall} {a b : Answer} {work-x out-x work-y out-y : List ℕ} (r : SameRange (x .terms) (y .terms)) (p : Reported x a work-x out-x)
     (q : Reported y b work-y out-y) where
-  same-report : (n k : ℕ) → IsReport a n → IsReport b k → ((n ≡ k) × (take n out-x ≡ take k out-y)) ↔ SameSeconds x y
+  same-report : (n k : ℕ) → IsReport a n → IsReport b k → ((n ≡ k) × (take n out-x ≡ take k out-y)) ↔ SameSeconds (x .terms) (y .terms)
   unfolding SameSeconds
   same-report n k e f =
       let v = written-report p e in
@@ -69,7 +70,7 @@ module _ {x y : ReportCall} {a b : Answer} {work-x out-x work-y out-y : List ℕ
       record {
         both-report = (
           λ z. (written-report p (z .2 .0) .none-applies, written-report q (z .2 .1) .none-applies),
-          λ h. (length (reportBytes (reportFor x)), length (reportBytes (reportFor y)), (reports-or-refuses p .report-when (h .0), reports-or-refuses q .report-when (h .1))),
+          λ h. (length (reportBytes (reportFor (x .terms))), length (reportBytes (reportFor (y .terms))), (reports-or-refuses p .report-when (h .0), reports-or-refuses q .report-when (h .1))),
         );
         same-report = same-report;
       }

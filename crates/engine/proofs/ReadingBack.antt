@@ -20,7 +20,7 @@ use Rattle.calendar.specs.Meaning.{faultOf}
 use Rattle.calendar.specs.declared.Fault.{Fault}
 use Rattle.pieces.specs.Pieces.{busyPieces}
 use Rattle.pieces.proofs.Pieces.{Inside, piecesOf-same}
-use Rattle.refusals.specs.Refusals.{lowest, calendarRows}
+use Rattle.refusals.specs.Refusals.{NoneApplies, lowest, calendarRows}
 use Rattle.refusals.specs.Offsets.{offsetGood, contextOf}
 use Rattle.refusals.proofs.Refusals.{none-iff, row-passed}
 use Rattle.refusals.proofs.Stages.{sizes-good, sizes-passed, calendar-lowest, calendar-passed}
@@ -28,9 +28,9 @@ use Rattle.readback.specs.Reading.{reportPeriods, reportMeaning}
 use Rattle.readback.proofs.Lines.{report-unfolds}
 use Rattle.readback.proofs.Reading.{report-means}
 use Rattle.readback.proofs.Sizes.{report-short}
-use Rattle.collecting.specs.ReportCalls.{ReportCall, rangeGood, stampGood, coveredIn, piecesFor, reportFor, collectRows}
-use Rattle.engine.specs.Reporting.{reportRows, Reported}
-use Rattle.engine.specs.Meanings.{NoRefusal, IsReport, OnReport, ReadsBack}
+use Rattle.collecting.specs.CalendarTerms.{rangeGood, stampGood, coveredIn, piecesFor, reportFor, pieceRows, collectRows}
+use Rattle.engine.specs.Reporting.{ReportCall, reportRows, Reported}
+use Rattle.engine.specs.Meanings.{IsReport, OnReport, HasRoom, ReadsBack}
 use Rattle.engine.specs.ReportAnswers.{ReportWritten}
 use Rattle.engine.specs.declared.Answer.{Answer}
 use Rattle.engine.proofs.ReportAnswers.{reports-or-refuses, written-report}
@@ -85,19 +85,19 @@ unfolding lowest
 no-row = refl
 
 -- a table passes where each stage does
-pub none-refuses : (m : ReportCall) → (rangeGood (m .start) (m .end) && stampGood (m .stamp) && offsetGood (m .offset)) ≡ true
-    → length (m .calendar) ≤ 65536
-    → length (m .calendar) ≤ length (m .work)
-    → lowest (calendarRows (contextOf (m .offset)) (unfolded (m .calendar)) []) ≡ Fault.None
-    → length (piecesFor m) ≤ 512
-    → length (reportBytes (reportFor m)) ≤ length (m .output)
-    → NoRefusal m
-unfolding NoRefusal reportRows collectRows
+pub none-refuses : (m : ReportCall) → (rangeGood (m .terms .start) (m .terms .end) && stampGood (m .terms .stamp) && offsetGood (m .terms .offset)) ≡ true
+    → length (m .terms .calendar) ≤ 65536
+    → length (m .terms .calendar) ≤ length (m .terms .work)
+    → lowest (calendarRows (contextOf (m .terms .offset)) (unfolded (m .terms .calendar)) []) ≡ Fault.None
+    → length (piecesFor (m .terms)) ≤ 512
+    → length (reportBytes (reportFor (m .terms))) ≤ length (m .output)
+    → NoneApplies (reportRows m)
+unfolding NoneApplies reportRows collectRows pieceRows
 none-refuses m one two three six eleven twelve =
     none-iff (reportRows m) .0
     (row-passed _ _ (ap not one)
-    ∙ sizes-passed (m .calendar) (m .work) _ (sym (sizes-good (m .calendar) (m .work) two three))
-    ∙ calendar-passed (contextOf (m .offset)) (unfolded (m .calendar)) _ six
+    ∙ sizes-passed (m .terms .calendar) (m .terms .work) _ (sym (sizes-good (m .terms .calendar) (m .terms .work) two three))
+    ∙ calendar-passed (contextOf (m .terms .offset)) (unfolded (m .terms .calendar)) _ six
     ∙ row-passed _ _ (le-ltb 512 _ eleven)
     ∙ row-passed _ _ (le-ltb _ _ twelve)
     ∙ no-row)
@@ -111,63 +111,63 @@ pub record Canonical (r : Report) : Type 0 where
   pub few : periodCount r ≤ 512
 
 -- every call's report is one
-pub call-canonical : (m : ReportCall) → NoRefusal m → Canonical (reportFor m)
+pub call-canonical : (m : ReportCall) → NoneApplies (reportRows m) → Canonical (reportFor (m .terms))
 unfolding reportFor
 call-canonical m h =
-    record { range-fits = range-good m h; stamp-fits = stamp-good m h; rising = periods-rising m (range-good m h); few = few-periods m h }
+    record { range-fits = range-good m h; stamp-fits = stamp-good m h; rising = periods-rising (m .terms) (range-good m h); few = few-periods m h }
 
 -- a call on its bytes, over its range with its stamp, and with room
 pub record CallOn (r : Report) (m : ReportCall) : Type 0 where
-  pub its-bytes : m .calendar ≡ reportBytes r
-  pub its-start : m .start ≡ r .start
-  pub its-end : m .end ≡ r .end
-  pub its-stamp : m .stamp ≡ r .stamp
-  pub offset-good : offsetGood (m .offset) ≡ true
-  pub work-long : length (reportBytes r) ≤ length (m .work)
+  pub its-bytes : m .terms .calendar ≡ reportBytes r
+  pub its-start : m .terms .start ≡ r .start
+  pub its-end : m .terms .end ≡ r .end
+  pub its-stamp : m .terms .stamp ≡ r .stamp
+  pub offset-good : offsetGood (m .terms .offset) ≡ true
+  pub work-long : length (reportBytes r) ≤ length (m .terms .work)
   pub output-long : length (reportBytes r) ≤ length (m .output)
 
 module _ {r : Report} (c : Canonical r) {m : ReportCall} (k : CallOn r m) where
   can-write : Writable r
   can-write = rising-writable r (c .range-fits) (c .stamp-fits) (c .rising)
 
-  range-on : rangeGood (m .start) (m .end) ≡ true
+  range-on : rangeGood (m .terms .start) (m .terms .end) ≡ true
   range-on = rw (k .its-start, k .its-end) (c .range-fits)
 
   -- 1
-  first-on : (rangeGood (m .start) (m .end) && stampGood (m .stamp) && offsetGood (m .offset)) ≡ true
+  first-on : (rangeGood (m .terms .start) (m .terms .end) && stampGood (m .terms .stamp) && offsetGood (m .terms .offset)) ≡ true
   first-on = and-both (and-both range-on (rw (k .its-stamp) (c .stamp-fits))) (k .offset-good)
 
   -- 6 to 10
-  calendar-on : lowest (calendarRows (contextOf (m .offset)) (unfolded (m .calendar)) []) ≡ Fault.None
+  calendar-on : lowest (calendarRows (contextOf (m .terms .offset)) (unfolded (m .terms .calendar)) []) ≡ Fault.None
   unfolding reportMeaning faultOf
   calendar-on =
-      ap (λ (u : List ℕ). lowest (calendarRows (contextOf (m .offset)) u [])) (ap unfolded (k .its-bytes) ∙ report-unfolds r)
-      ∙ calendar-lowest (contextOf (m .offset)) (reportBytes r)
-      ∙ ap faultOf (report-means (contextOf (m .offset)) can-write)
+      ap (λ (u : List ℕ). lowest (calendarRows (contextOf (m .terms .offset)) u [])) (ap unfolded (k .its-bytes) ∙ report-unfolds r)
+      ∙ calendar-lowest (contextOf (m .terms .offset)) (reportBytes r)
+      ∙ ap faultOf (report-means (contextOf (m .terms .offset)) can-write)
 
   -- 11: its pieces are its own periods
-  pub pieces-on : piecesFor m ≡ reportPeriods r
+  pub pieces-on : piecesFor (m .terms) ≡ reportPeriods r
   unfolding piecesFor busyPieces
   pieces-on =
-      rw (k .its-start, k .its-end, k .its-bytes, read-periods (m .offset) can-write)
+      rw (k .its-start, k .its-end, k .its-bytes, read-periods (m .terms .offset) can-write)
       (piecesOf-same (r .start) (r .end) (reportPeriods r) (periods-inside r (c .rising)))
 
   -- the periods come back
-  pub periods-on : (b : BusyType) → isBusy b ≡ true → reportFor m .periods b ≡ r .periods b
+  pub periods-on : (b : BusyType) → isBusy b ≡ true → reportFor (m .terms) .periods b ≡ r .periods b
   unfolding reportFor
   periods-on b u =
-      sym (runs-only (coveredIn (m .calendar) (m .offset) b) (m .start) (m .end - m .start)
-      (rw (range-width (m .start) (m .end) range-on, k .its-start, k .its-end) (c .rising b))
-      (λ x h l. sym (ap (λ (s : List ℕ). coveredIn s (m .offset) b x) (k .its-bytes) ∙ read-covered (m .offset) can-write b u x)))
+      sym (runs-only (coveredIn (m .terms .calendar) (m .terms .offset) b) (m .terms .start) (m .terms .end - m .terms .start)
+      (rw (range-width (m .terms .start) (m .terms .end) range-on, k .its-start, k .its-end) (c .rising b))
+      (λ x h l. sym (ap (λ (s : List ℕ). coveredIn s (m .terms .offset) b x) (k .its-bytes) ∙ read-covered (m .terms .offset) can-write b u x)))
 
   -- and so do the bytes
-  pub bytes-on : reportBytes (reportFor m) ≡ reportBytes r
+  pub bytes-on : reportBytes (reportFor (m .terms)) ≡ reportBytes r
   unfolding reportFor
-  bytes-on = equal-bytes (reportFor m) r (k .its-start) (k .its-end) (k .its-stamp) periods-on
+  bytes-on = equal-bytes (reportFor (m .terms)) r (k .its-start) (k .its-end) (k .its-stamp) periods-on
 
-  pub none-on : NoRefusal m
+  pub none-on : NoneApplies (reportRows m)
   none-on =
-      let y : length (m .calendar) ≡ length (reportBytes r) = ap length (k .its-bytes) in
+      let y : length (m .terms .calendar) ≡ length (reportBytes r) = ap length (k .its-bytes) in
       none-refuses m first-on
       (omega (arith, y, report-short r (c .few)))
       (omega (arith, y, k .work-long))
@@ -177,17 +177,17 @@ module _ {r : Report} (c : Canonical r) {m : ReportCall} (k : CallOn r m) where
 
 -- ---- reading back
 
-call-on : {m again : ReportCall} {n : ℕ} {out-left : List ℕ} → ReportWritten m n out-left → OnReport m n out-left again → CallOn (reportFor m) again
+call-on : {m again : ReportCall} {n : ℕ} {out-left : List ℕ} → ReportWritten m n out-left → OnReport m n out-left again → HasRoom n again → CallOn (reportFor (m .terms)) again
 unfolding reportFor
-call-on z c =
+call-on z c h =
     record {
       its-bytes = c .its-bytes ∙ z .its-bytes;
-      its-start = c .same-start;
-      its-end = c .same-end;
-      its-stamp = c .same-stamp;
-      offset-good = c .offset-good;
-      work-long = rw (← z .its-length) (c .work-long);
-      output-long = rw (← z .its-length) (c .output-long);
+      its-start = c .same-range .same-start;
+      its-end = c .same-range .same-end;
+      its-stamp = c .same-range .same-stamp;
+      offset-good = h .offset-good;
+      work-long = rw (← z .its-length) (h .work-long);
+      output-long = rw (← z .its-length) (h .output-long);
     }
 
 pub reads-back : {m again : ReportCall} {a b : Answer} {work-left out-left work-again out-again : List ℕ}
@@ -195,11 +195,11 @@ pub reads-back : {m again : ReportCall} {a b : Answer} {work-left out-left work-
     → ReadsBack m a out-left again b out-again
 reads-back {m} {again} {a} {b} {out-left = out-left} {out-again = out-again} p q = record { same-bytes = back }
   where
-    back : (n : ℕ) → IsReport a n → OnReport m n out-left again → IsReport b n × (take n out-again ≡ take n out-left)
-    back n i c =
+    back : (n : ℕ) → IsReport a n → OnReport m n out-left again → HasRoom n again → IsReport b n × (take n out-again ≡ take n out-left)
+    back n i c h =
         let z = written-report p i in
         let r = call-canonical m (z .none-applies) in
-        let k = call-on z c in
+        let k = call-on z c h in
         let y = bytes-on r k in
         let j : IsReport b n = subst (IsReport b) (ap length y ∙ sym (z .its-length)) (reports-or-refuses q .report-when (none-on r k)) in
         (j, written-report q j .its-bytes ∙ y ∙ sym (z .its-bytes))
@@ -209,12 +209,7 @@ reads-back {m} {again} {a} {b} {out-left = out-left} {out-again = out-again} p q
 abbrev pub callOn : Report → ReportCall
 callOn r =
     record {
-      calendar = reportBytes r;
-      start = r .start;
-      end = r .end;
-      offset = pos 0;
-      stamp = r .stamp;
-      work = reportBytes r;
+      terms = record { calendar = reportBytes r; start = r .start; end = r .end; offset = pos 0; stamp = r .stamp; work = reportBytes r };
       output = reportBytes r;
     }
 
@@ -231,5 +226,5 @@ on-itself r =
       output-long = omega arith;
     }
 
-pub some-call : {r : Report} → Canonical r → NoRefusal (callOn r) × (reportBytes (reportFor (callOn r)) ≡ reportBytes r)
+pub some-call : {r : Report} → Canonical r → NoneApplies (reportRows (callOn r)) × (reportBytes (reportFor (callOn r .terms)) ≡ reportBytes r)
 some-call {r} c = (none-on c (on-itself r), bytes-on c (on-itself r))

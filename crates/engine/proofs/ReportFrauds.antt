@@ -13,11 +13,11 @@ use Rattle.report.specs.Bytes.{Report, reportBytes, reportLength}
 use Rattle.report.proofs.Bytes.{report-length}
 use Rattle.periods.specs.BusyTypes.{reportPlace, isBusy}
 use Rattle.calendar.specs.declared.Fault.{Fault}
-use Rattle.refusals.specs.Refusals.{lowest}
-use Rattle.collecting.specs.ReportCalls.{ReportCall, coveredIn, reportFor}
+use Rattle.refusals.specs.Refusals.{NoneApplies, lowest}
+use Rattle.collecting.specs.CalendarTerms.{CalendarTerms, coveredIn, reportFor}
 use Rattle.engine.specs.Answers.{Outcome, verdict, report, outcomeOf, unlessRefused}
-use Rattle.engine.specs.Reporting.{reportRows, reportOutcome, outputAfter, Reported}
-use Rattle.engine.specs.Meanings.{NoRefusal, IsReport}
+use Rattle.engine.specs.Reporting.{ReportCall, reportRows, reportOutcome, outputAfter, Reported}
+use Rattle.engine.specs.Meanings.{IsReport}
 use Rattle.engine.specs.declared.Answer.{Answer}
 use Rattle.engine.proofs.ReportAnswers.{reports-or-refuses, written-report}
 use Rattle.engine.proofs.Reports.{range-good, periods-cover}
@@ -26,14 +26,14 @@ use Rattle.engine.proofs.Meanings.{same-second}
 -- ---- one report for calendars that differ
 
 -- a second of a call's range, covered under a type or not
-pub record SecondIs (m : ReportCall) (b : BusyType) (t : ℕ) (c : Bool) : Type 0 where
+pub record SecondIs (m : CalendarTerms) (b : BusyType) (t : ℕ) (c : Bool) : Type 0 where
   pub from : m .start ≤ t
   pub to : t < m .end
   pub is-covered : coveredIn (m .calendar) (m .offset) b t ≡ c
 
 -- two calls that differ in a covered second have not the same report
-pub reports-differ : (x y : ReportCall) → NoRefusal x → NoRefusal y → (b : BusyType) → isBusy b ≡ true → (t : ℕ) → SecondIs x b t true → SecondIs y b t false
-    → reportBytes (reportFor x) ≡ reportBytes (reportFor y)
+pub reports-differ : (x y : ReportCall) → NoneApplies (reportRows x) → NoneApplies (reportRows y) → (b : BusyType) → isBusy b ≡ true → (t : ℕ) → SecondIs (x .terms) b t true → SecondIs (y .terms) b t false
+    → reportBytes (reportFor (x .terms)) ≡ reportBytes (reportFor (y .terms))
     → ⊥
 reports-differ x y f g b u t h k e =
     clash (sym (same-second x y f g e b u t (h .from) (h .to) (k .from) (k .to)) ∙ h .is-covered) (k .is-covered)
@@ -41,7 +41,7 @@ reports-differ x y f g b u t h k e =
 -- a report that stays the same
 pub constant-report : {x y : ReportCall} {a c : Answer} {work-x out-x work-y out-y : List ℕ} → Reported x a work-x out-x → Reported y c work-y out-y
     → (n k : ℕ) → IsReport a n → IsReport c k → take n out-x ≡ take k out-y
-    → (b : BusyType) → isBusy b ≡ true → (t : ℕ) → SecondIs x b t true → SecondIs y b t false
+    → (b : BusyType) → isBusy b ≡ true → (t : ℕ) → SecondIs (x .terms) b t true → SecondIs (y .terms) b t false
     → ⊥
 constant-report {x} {y} p q n k i j e b u t h l =
     let v = written-report p i in
@@ -64,13 +64,13 @@ empty-periods r e BusyType.Unavailable u = omega (arith, report-length r)
 empty-periods r e BusyType.Free u = clash u refl
 
 pub empty-report : {m : ReportCall} {work-left out-left : List ℕ} → Reported m (Answer.Length 190) work-left out-left
-    → (b : BusyType) → isBusy b ≡ true → (t : ℕ) → SecondIs m b t true
+    → (b : BusyType) → isBusy b ≡ true → (t : ℕ) → SecondIs (m .terms) b t true
     → ⊥
 unfolding IsReport outcomeOf
 empty-report {m} p b u t h =
     let z = written-report p refl in
-    clash (periods-cover m (range-good m (z .none-applies)) b t (h .from) (h .to) ∙ h .is-covered)
-    (none-cover (reportFor m .periods b) t (empty-periods (reportFor m) (sym (z .its-length)) b u))
+    clash (periods-cover (m .terms) (range-good m (z .none-applies)) b t (h .from) (h .to) ∙ h .is-covered)
+    (none-cover (reportFor (m .terms) .periods b) t (empty-periods (reportFor (m .terms)) (sym (z .its-length)) b u))
 
 -- ---- other answers
 
@@ -81,27 +81,27 @@ no-verdict (Fault.At k i) t n e = let z : _≡_ {A = ℕ} 0 1 = cc in absurd (om
 
 module _ {m : ReportCall} {work-left out-left : List ℕ} where
   -- a refusal where nothing refuses
-  pub refuses-report : {n : ℕ} → NoRefusal m → Reported m (Answer.Refused n) work-left out-left → ⊥
-  unfolding NoRefusal outcomeOf
+  pub refuses-report : {n : ℕ} → NoneApplies (reportRows m) → Reported m (Answer.Refused n) work-left out-left → ⊥
+  unfolding NoneApplies outcomeOf
   refuses-report {n} h p = h n (reports-or-refuses p .refused-when n .0 refl .applies)
 
   -- a length that is not the report's
-  pub made-up-length : {n : ℕ} → (n ≡ length (reportBytes (reportFor m)) → ⊥) → Reported m (Answer.Length n) work-left out-left → ⊥
+  pub made-up-length : {n : ℕ} → (n ≡ length (reportBytes (reportFor (m .terms))) → ⊥) → Reported m (Answer.Length n) work-left out-left → ⊥
   unfolding IsReport outcomeOf
   made-up-length h p = h (written-report p refl .its-length)
 
   -- a verdict for a report
   pub verdict-given : {t : Bool} → Reported m (Answer.Verdict t) work-left out-left → ⊥
   unfolding reportOutcome outcomeOf
-  verdict-given {t} p = no-verdict (lowest (reportRows m)) t (length (reportBytes (reportFor m))) (p .answered)
+  verdict-given {t} p = no-verdict (lowest (reportRows m)) t (length (reportBytes (reportFor (m .terms)))) (p .answered)
 
   -- any refusal leaves the output as it was
   pub output-kept : {n : ℕ} → Reported m (Answer.Refused n) work-left out-left → out-left ≡ m .output
   unfolding outcomeOf outputAfter
-  output-kept p = p .output-left-is ∙ ap (λ (o : Outcome). outputAfter o (reportBytes (reportFor m)) (m .output)) (sym (p .answered))
+  output-kept p = p .output-left-is ∙ ap (λ (o : Outcome). outputAfter o (reportBytes (reportFor (m .terms))) (m .output)) (sym (p .answered))
 
 -- an output left as it was: only where the report stood in it before
 pub output-unwritten : {m : ReportCall} {n : ℕ} {work-left : List ℕ} → Reported m (Answer.Length n) work-left (m .output)
-    → take n (m .output) ≡ reportBytes (reportFor m)
+    → take n (m .output) ≡ reportBytes (reportFor (m .terms))
 unfolding IsReport outcomeOf
 output-unwritten p = written-report p refl .its-bytes

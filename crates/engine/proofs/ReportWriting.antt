@@ -15,10 +15,11 @@ use Rattle.report.specs.Writing.{reportOf, Put}
 use Rattle.report.proofs.Bytes.{tables-length}
 use Rattle.refusals.specs.Refusals.{lowest}
 use Rattle.refusals.specs.Stages.{earlyFault}
-use Rattle.engine.specs.Answers.{Outcome, report, refusal, outcomeOf, refusalIn, unlessRefused}
+use Rattle.calendar.specs.declared.Fault.{Fault}
+use Rattle.engine.specs.Answers.{Outcome, report, outcomeOf, answerBy, lengthIn, refusalIn, unlessRefused}
 use Rattle.engine.specs.Reporting.{outputAfter}
-use Rattle.engine.specs.ReportWriting.{writeOutcome, Wrote}
-use Rattle.engine.specs.declared.Answer.{Answer}
+use Rattle.engine.specs.ReportWriting.{writeRows, writeOutcome, Wrote}
+use Rattle.engine.specs.declared.reporting.Written.{Written}
 
 module _ (a b s : ℕ) (x y z : Table) (g : Sound x × Sound y × Sound z) {n : ℕ} (e : n ≡ reportLength (x .count) (y .count) (z .count)) where
   -- the length that is counted is the report's
@@ -28,34 +29,50 @@ module _ (a b s : ℕ) (x y z : Table) (g : Sound x × Sound y × Sound z) {n : 
   pub counted-room : {l : ℕ} → n ≤ l → length (reportBytes (reportOf a b s x y z)) ≤ l
   counted-room h = omega (arith, counted)
 
-module _ (bytes out : List ℕ) where
-  outcome-short : length out < length bytes → writeOutcome bytes out ≡ refusal 12
-  unfolding writeOutcome unlessRefused lowest
-  outcome-short h = rw (lt-ltb (length out) (length bytes) h)
+-- an answer by its refusal and length has the outcome that they make
+pub answer-by : (f : Fault) (n : ℕ) → outcomeOf (answerBy f (lengthIn (unlessRefused f (report n)))) ≡ unlessRefused f (report n)
+unfolding outcomeOf answerBy lengthIn unlessRefused
+answer-by Fault.None n = refl
+answer-by (Fault.At k i) n = refl
 
-  outcome-room : length bytes ≤ length out → writeOutcome bytes out ≡ report (length bytes)
-  unfolding writeOutcome unlessRefused lowest
-  outcome-room h = rw (le-ltb (length out) (length bytes) h)
+module _ (bytes out : List ℕ) where
+  rows-short : length out < length bytes → lowest (writeRows bytes out) ≡ Fault.At 12 0
+  unfolding writeRows lowest
+  rows-short h = rw (lt-ltb (length out) (length bytes) h)
+
+  rows-room : length bytes ≤ length out → lowest (writeRows bytes out) ≡ Fault.None
+  unfolding writeRows lowest
+  rows-room h = rw (le-ltb (length out) (length bytes) h)
+
+  outcome-by : {f : Fault} → lowest (writeRows bytes out) ≡ f → writeOutcome bytes out ≡ unlessRefused f (report (length bytes))
+  unfolding writeOutcome
+  outcome-by e = ap (λ (f : Fault). unlessRefused f (report (length bytes))) e
 
   -- neither is a refusal by 1 to 5
   pub write-late : earlyFault (refusalIn (writeOutcome bytes out)) ≡ false
-  unfolding refusalIn earlyFault
+  unfolding refusalIn earlyFault unlessRefused
   write-late = go (ltb (length out) (length bytes)) refl
     where
       go : (t : Bool) → ltb (length out) (length bytes) ≡ t → earlyFault (refusalIn (writeOutcome bytes out)) ≡ false
-      go true e = ap (λ (x : Outcome). earlyFault (refusalIn x)) (outcome-short (ltb-true _ _ e))
-      go false e = ap (λ (x : Outcome). earlyFault (refusalIn x)) (outcome-room (ltb-false _ _ e))
+      go true e = ap (λ (x : Outcome). earlyFault (refusalIn x)) (outcome-by (rows-short (ltb-true _ _ e)))
+      go false e = ap (λ (x : Outcome). earlyFault (refusalIn x)) (outcome-by (rows-room (ltb-false _ _ e)))
 
-  wrote : {a : Answer} {left : List ℕ} {o : Outcome} → writeOutcome bytes out ≡ o → outcomeOf a ≡ o → left ≡ outputAfter o bytes out → Wrote bytes out a left
-  wrote e f g = record { answered = f ∙ sym e; output-left-is = g ∙ ap (λ (o : Outcome). outputAfter o bytes out) (sym e) }
+  wrote : {w : Written} {left : List ℕ} {f : Fault} → lowest (writeRows bytes out) ≡ f → w .fault ≡ f → w .length ≡ lengthIn (unlessRefused f (report (length bytes)))
+      → left ≡ outputAfter (unlessRefused f (report (length bytes))) bytes out → Wrote bytes out w left
+  wrote e f g h =
+      record {
+        fault-is = f ∙ sym e;
+        length-is = g ∙ ap lengthIn (sym (outcome-by e));
+        output-left-is = h ∙ ap (λ (o : Outcome). outputAfter o bytes out) (sym (outcome-by e));
+      }
 
   module _ {n : ℕ} (e : n ≡ length bytes) where
-    pub write-refused : length out < n → Wrote bytes out (Answer.Refused 12) out
-    unfolding outcomeOf outputAfter
-    write-refused h = wrote (outcome-short (omega arith)) refl refl
+    pub write-refused : length out < n → Wrote bytes out (record { fault = Fault.At 12 0; length = 0 }) out
+    unfolding lengthIn outputAfter unlessRefused
+    write-refused h = wrote (rows-short (omega arith)) refl refl refl
 
-    pub write-done : {left : List ℕ} {r : ℕ} → n ≤ length out → Put out 0 bytes left r → Wrote bytes out (Answer.Length n) left
-    unfolding outcomeOf outputAfter
+    pub write-done : {left : List ℕ} {r : ℕ} → n ≤ length out → Put out 0 bytes left r → Wrote bytes out (record { fault = Fault.None; length = n }) left
+    unfolding lengthIn outputAfter unlessRefused
     write-done h p =
-        wrote (outcome-room (omega arith)) (ap report e)
+        wrote (rows-room (omega arith)) refl e
         (p .bytes ∙ sets-eq bytes out 0 (omega arith) ∙ ap (λ (k : ℕ). bytes ++ drop k out) (let z : 0 + length bytes ≡ length bytes = omega arith in z))

@@ -24,28 +24,27 @@ use Rattle.pieces.specs.BusyPeriods.{busyPeriods}
 use Rattle.pieces.specs.Covered.{ofType, coveredBy, covered}
 use Rattle.pieces.specs.Pieces.{busyPieces}
 use Rattle.pieces.proofs.Pieces.{clipped-covers, pieces-inside, pieces-count}
-use Rattle.refusals.specs.Refusals.{sizeRows, calendarRows, contentsRows}
+use Rattle.refusals.specs.Refusals.{NoneApplies, sizeRows, calendarRows, contentsRows}
 use Rattle.refusals.specs.Offsets.{offsetGood}
-use Rattle.collecting.specs.ReportCalls.{ReportCall, rangeGood, stampGood, entriesIn, coveredIn, piecesFor, reportFor, collectRows}
-use Rattle.engine.specs.Reporting.{reportRows}
-use Rattle.engine.specs.Meanings.{NoRefusal}
+use Rattle.collecting.specs.CalendarTerms.{CalendarTerms, rangeGood, stampGood, entriesIn, coveredIn, piecesFor, reportFor, pieceRows, collectRows}
+use Rattle.engine.specs.Reporting.{ReportCall, reportRows}
 use Rattle.engine.proofs.ReportAnswers.{not-applied}
 
 -- ---- what is known where nothing refuses
 
-module _ (m : ReportCall) (h : NoRefusal m) where
-  first-row : (rangeGood (m .start) (m .end) && stampGood (m .stamp) && offsetGood (m .offset)) ≡ true
+module _ (m : ReportCall) (h : NoneApplies (reportRows m)) where
+  first-row : (rangeGood (m .terms .start) (m .terms .end) && stampGood (m .terms .stamp) && offsetGood (m .terms .offset)) ≡ true
   unfolding reportRows collectRows
   first-row = not-false _ (not-applied m h (List·Memᴰ·head refl))
 
-  pub range-good : rangeGood (m .start) (m .end) ≡ true
-  range-good = and-left (rangeGood (m .start) (m .end)) _ (and-left (rangeGood (m .start) (m .end) && stampGood (m .stamp)) _ first-row)
+  pub range-good : rangeGood (m .terms .start) (m .terms .end) ≡ true
+  range-good = and-left (rangeGood (m .terms .start) (m .terms .end)) _ (and-left (rangeGood (m .terms .start) (m .terms .end) && stampGood (m .terms .stamp)) _ first-row)
 
-  pub stamp-good : stampGood (m .stamp) ≡ true
-  stamp-good = and-right (rangeGood (m .start) (m .end)) _ (and-left (rangeGood (m .start) (m .end) && stampGood (m .stamp)) _ first-row)
+  pub stamp-good : stampGood (m .terms .stamp) ≡ true
+  stamp-good = and-right (rangeGood (m .terms .start) (m .terms .end)) _ (and-left (rangeGood (m .terms .start) (m .terms .end) && stampGood (m .terms .stamp)) _ first-row)
 
-  pub few-pieces : length (piecesFor m) ≤ 512
-  unfolding reportRows collectRows sizeRows calendarRows contentsRows
+  pub few-pieces : length (piecesFor (m .terms)) ≤ 512
+  unfolding reportRows collectRows sizeRows calendarRows contentsRows pieceRows
   few-pieces =
       ltb-false _ _
       (not-applied m h
@@ -87,7 +86,7 @@ rising-writable r g s f =
       periods-good = λ b. good-rising (f b) (range-limit (r .start) (r .end) g);
     }
 
-module _ (m : ReportCall) (g : rangeGood (m .start) (m .end) ≡ true) where
+module _ (m : CalendarTerms) (g : rangeGood (m .start) (m .end) ≡ true) where
   -- its periods rise from the range's start to its end
   pub periods-rising : (b : BusyType) → Rising (m .start) (reportFor m .periods b) (m .end)
   unfolding reportFor
@@ -118,7 +117,7 @@ type-lies {lo} {hi} b (p ∷ ps) f q m = go (sameBusy b (p .busy)) m (type-lies 
     go true d k = ⊎-elim (λ e. subst (Lies lo hi) (sym e) (f p (List·Memᴰ·head refl))) k (List·Memᴰ·cases-cons d)
     go false d k = k d
 
-module _ (m : ReportCall) (g : rangeGood (m .start) (m .end) ≡ true) where
+module _ (m : CalendarTerms) (g : rangeGood (m .start) (m .end) ≡ true) where
   -- the pieces of a type cover what the calendar does inside the range
   pieces-cover : (b : BusyType) → isBusy b ≡ true → (x : ℕ) → m .start ≤ x → x < m .end
       → coveredIn (m .calendar) (m .offset) b x ≡ covers (ofType b (piecesFor m)) x
@@ -156,8 +155,8 @@ module _ (m : ReportCall) (g : rangeGood (m .start) (m .end) ≡ true) where
         pieces-count (m .start) (m .end) (busyPeriods (entriesIn (m .calendar) (m .offset))),
       )
 
-pub few-periods : (m : ReportCall) → NoRefusal m → periodCount (reportFor m) ≤ 512
-few-periods m h = omega (arith, periods-few m (range-good m h), few-pieces m h)
+pub few-periods : (m : ReportCall) → NoneApplies (reportRows m) → periodCount (reportFor (m .terms)) ≤ 512
+few-periods m h = omega (arith, periods-few (m .terms) (range-good m h), few-pieces m h)
 
 -- ---- equal periods, equal bytes
 

@@ -17,6 +17,17 @@ outcomeOf (Answer.Verdict b) = verdict b
 outcomeOf (Answer.Length n) = report n
 outcomeOf (Answer.Refused n) = refusal n
 
+-- an answer to a report call by its refusal or, where there is none, the report's length
+unfoldable pub answerBy : Fault → ℕ → Answer
+answerBy Fault.None n = Answer.Length n
+answerBy (Fault.At k i) n = Answer.Refused k
+
+-- the length of a report, 0 for any other outcome
+unfoldable pub lengthIn : Outcome → ℕ
+lengthIn (verdict b) = 0
+lengthIn (report n) = n
+lengthIn (refusal k) = 0
+
 -- the refusal of an outcome, if it is one; the line plays no part in the buffers
 unfoldable pub refusalIn : Outcome → Fault
 refusalIn (verdict b) = Fault.None

@@ -1,18 +1,16 @@
 -- The stages of a call: the refusals of each, what it leaves in the work buffer, and the outcome of the stages that follow.
 use Prim.Native.Nat.{ℕ}
 use mathlib.Core.Path.{_≡_}
-use mathlib.Core.Bool.{Bool, false}
 use mathlib.Core.List.{List, []}
 use Rattle.text.specs.Unfolding.{unfolded}
 use Rattle.nesting.specs.Passing.{treeIn}
 use Rattle.values.specs.declared.times.Context.{Context}
 use Rattle.query.specs.Sections.{sectionsOf}
 use Rattle.query.specs.declared.Sections.{Sections}
-use Rattle.query.specs.declared.SectionsRead.{SectionsRead}
 use Rattle.filter.specs.Tests.{queryHolds}
 use Rattle.refusals.specs.Refusals.{lowest, calendarRows}
 use Rattle.engine.specs.Answers.{Outcome, verdict, outcomeOf, workAfter, unlessRefused}
-use Rattle.engine.specs.Matching.{queryRows}
+use Rattle.engine.specs.Matching.{queryRows, verdictBy}
 use Rattle.engine.specs.declared.Answer.{Answer}
 
 -- an answer with this outcome, and the work buffer that goes with it
@@ -24,11 +22,7 @@ pub record Answered (o : Outcome) (cal work : List ℕ) (a : Answer) (left : Lis
 unfoldable pub calendarOutcome : Context → List ℕ → List ℕ → Sections → Outcome
 calendarOutcome c cal s q = unlessRefused (lowest (calendarRows c (unfolded cal) [])) (verdict (queryHolds c s q (treeIn (unfolded cal))))
 
-unfoldable pub holdsBy : Context → List ℕ → List ℕ → SectionsRead → Bool
-holdsBy c cal s (SectionsRead.Of q) = queryHolds c s q (treeIn (unfolded cal))
-holdsBy c cal s SectionsRead.Bad = false
-
 -- a match from the query's refusals on
 unfoldable pub queryOutcome : Context → List ℕ → List ℕ → Outcome
 queryOutcome c cal s =
-    unlessRefused (lowest (queryRows s (calendarRows c (unfolded cal) []))) (verdict (holdsBy c cal s (sectionsOf s)))
+    unlessRefused (lowest (queryRows s (calendarRows c (unfolded cal) []))) (verdict (verdictBy c cal s (sectionsOf s)))

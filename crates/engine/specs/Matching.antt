@@ -6,6 +6,7 @@ use mathlib.Core.List.{List, [], _∷_}
 use lib.IntN.{ℤ}
 use Rattle.text.specs.Unfolding.{unfolded}
 use Rattle.nesting.specs.Passing.{treeIn}
+use Rattle.values.specs.declared.times.Context.{Context}
 use Rattle.query.specs.Sections.{sectionsOf}
 use Rattle.query.specs.declared.SectionsRead.{SectionsRead}
 use Rattle.query_check.specs.WellFormed.{queryGood, rangeMisplaced}
@@ -37,12 +38,12 @@ matchRows m =
     ∷ sizeRows (m .calendar) (m .work) (queryRows (m .query) (calendarRows (contextOf (m .offset)) (unfolded (m .calendar)) []))
 
 -- the query on the component tree of the unfolded calendar
-unfoldable pub verdictBy : MatchCall → SectionsRead → Bool
-verdictBy m (SectionsRead.Of q) = queryHolds (contextOf (m .offset)) (m .query) q (treeIn (unfolded (m .calendar)))
-verdictBy m SectionsRead.Bad = false
+unfoldable pub verdictBy : Context → List ℕ → List ℕ → SectionsRead → Bool
+verdictBy c cal s (SectionsRead.Of q) = queryHolds c s q (treeIn (unfolded cal))
+verdictBy c cal s SectionsRead.Bad = false
 
 unfoldable pub verdictOf : MatchCall → Bool
-verdictOf m = verdictBy m (sectionsOf (m .query))
+verdictOf m = verdictBy (contextOf (m .offset)) (m .calendar) (m .query) (sectionsOf (m .query))
 
 -- the lowest refusal that applies, else the verdict
 unfoldable pub matchOutcome : MatchCall → Outcome

@@ -9,16 +9,12 @@ use lib.IntN.{ℤ}
 use Rattle.periods.specs.declared.BusyType.{BusyType}
 use Rattle.periods.specs.BusyTypes.{isBusy}
 use Rattle.pieces.specs.Covered.{Covers}
-use Rattle.refusals.specs.Refusals.{RowApplies}
+use Rattle.refusals.specs.Refusals.{NoneApplies}
 use Rattle.refusals.specs.Offsets.{offsetGood}
-use Rattle.collecting.specs.ReportCalls.{ReportCall, entriesIn, coveredIn}
+use Rattle.collecting.specs.CalendarTerms.{CalendarTerms, entriesIn, coveredIn}
 use Rattle.engine.specs.Answers.{report, outcomeOf}
-use Rattle.engine.specs.Reporting.{reportRows}
+use Rattle.engine.specs.Reporting.{ReportCall, reportRows}
 use Rattle.engine.specs.declared.Answer.{Answer}
-
--- no numbered refusal applies to the call
-unfoldable pub NoRefusal : ReportCall → Type 0
-NoRefusal m = (k : ℕ) → RowApplies (reportRows m) k → ⊥
 
 -- the call answered with a report of n bytes
 unfoldable pub IsReport : Answer → ℕ → Type 0
@@ -30,35 +26,36 @@ StandsUnder bytes b x = (o : ℤ) → offsetGood o ≡ true → coveredIn bytes 
 
 -- a second of the range stands there exactly when a non-free instance or period of that type covers it
 pub record SaysCovered (m : ReportCall) (a : Answer) (out-left : List ℕ) : Type 0 where
-  pub stands-when : (n : ℕ) → IsReport a n → (b : BusyType) → isBusy b ≡ true → (x : ℕ) → m .start ≤ x → x < m .end
-      → StandsUnder (take n out-left) b x ↔ Covers (entriesIn (m .calendar) (m .offset)) b x
+  pub stands-when : (n : ℕ) → IsReport a n → (b : BusyType) → isBusy b ≡ true → (x : ℕ) → m .terms .start ≤ x → x < m .terms .end
+      → StandsUnder (take n out-left) b x ↔ Covers (entriesIn (m .terms .calendar) (m .terms .offset)) b x
 
--- a call on the report that the first one left, over the same range with the same stamp
-pub record OnReport (m : ReportCall) (n : ℕ) (out-left : List ℕ) (again : ReportCall) : Type 0 where
-  pub its-bytes : again .calendar ≡ take n out-left
-  pub same-start : again .start ≡ m .start
-  pub same-end : again .end ≡ m .end
-  pub same-stamp : again .stamp ≡ m .stamp
-  pub offset-good : offsetGood (again .offset) ≡ true
-  pub work-long : n ≤ length (again .work)
-  pub output-long : n ≤ length (again .output)
-
--- the report read back yields its own bytes
-pub record ReadsBack (m : ReportCall) (a : Answer) (out-left : List ℕ) (again : ReportCall) (b : Answer) (out-again : List ℕ) : Type 0 where
-  pub same-bytes : (n : ℕ) → IsReport a n → OnReport m n out-left again → IsReport b n × (take n out-again ≡ take n out-left)
-
--- Demand 3: two calls over one range with one stamp
-pub record SameRange (x y : ReportCall) : Type 0 where
+-- two calls over one range with one stamp
+pub record SameRange (x y : CalendarTerms) : Type 0 where
   pub same-start : x .start ≡ y .start
   pub same-end : x .end ≡ y .end
   pub same-stamp : x .stamp ≡ y .stamp
 
--- the covered seconds of the two calendars are the same seconds, for each of the three busy types
-unfoldable pub SameSeconds : ReportCall → ReportCall → Type 0
+-- a call on the report that the first one left, over the same range with the same stamp
+pub record OnReport (m : ReportCall) (n : ℕ) (out-left : List ℕ) (again : ReportCall) : Type 0 where
+  pub its-bytes : again .terms .calendar ≡ take n out-left
+  pub same-range : SameRange (again .terms) (m .terms)
+
+-- with a permitted offset and buffers long enough
+pub record HasRoom (n : ℕ) (again : ReportCall) : Type 0 where
+  pub offset-good : offsetGood (again .terms .offset) ≡ true
+  pub work-long : n ≤ length (again .terms .work)
+  pub output-long : n ≤ length (again .output)
+
+-- the report read back yields its own bytes
+pub record ReadsBack (m : ReportCall) (a : Answer) (out-left : List ℕ) (again : ReportCall) (b : Answer) (out-again : List ℕ) : Type 0 where
+  pub same-bytes : (n : ℕ) → IsReport a n → OnReport m n out-left again → HasRoom n again → IsReport b n × (take n out-again ≡ take n out-left)
+
+-- Demand 3: the covered seconds of the two calendars are the same seconds, for each of the three busy types
+unfoldable pub SameSeconds : CalendarTerms → CalendarTerms → Type 0
 SameSeconds x y = (b : BusyType) → isBusy b ≡ true → (t : ℕ) → x .start ≤ t → t < x .end
     → coveredIn (x .calendar) (x .offset) b t ≡ coveredIn (y .calendar) (y .offset) b t
 
 -- both answer with a report exactly when no numbered refusal applies to either; where both do, same length and same bytes exactly when same seconds
 pub record OneMeaning (x : ReportCall) (a : Answer) (out-x : List ℕ) (y : ReportCall) (b : Answer) (out-y : List ℕ) : Type 0 where
-  pub both-report : ((n : ℕ) × (k : ℕ) × (IsReport a n × IsReport b k)) ↔ (NoRefusal x × NoRefusal y)
-  pub same-report : (n k : ℕ) → IsReport a n → IsReport b k → ((n ≡ k) × (take n out-x ≡ take k out-y)) ↔ SameSeconds x y
+  pub both-report : ((n : ℕ) × (k : ℕ) × (IsReport a n × IsReport b k)) ↔ (NoneApplies (reportRows x) × NoneApplies (reportRows y))
+  pub same-report : (n k : ℕ) → IsReport a n → IsReport b k → ((n ≡ k) × (take n out-x ≡ take k out-y)) ↔ SameSeconds (x .terms) (y .terms)

@@ -1,22 +1,33 @@
 -- The report call (document 01, Two questions): refusal 12, its answer, its work buffer and its output.
 use Prim.Native.Nat.{ℕ}
 use mathlib.Core.Path.{_≡_}
+use mathlib.Core.Bool.{true}
 use mathlib.Core.List.{List, [], _∷_, _++_}
 use lib.Dec.{ltb}
 use lib.ListN.{length, drop}
+use Rattle.periods.specs.declared.BusyType.{BusyType}
+use Rattle.periods.specs.BusyTypes.{isBusy}
 use Rattle.report.specs.Bytes.{reportBytes}
+use Rattle.report.specs.Writing.{byType}
 use Rattle.refusals.specs.Refusals.{Row, row, lowest}
-use Rattle.collecting.specs.ReportCalls.{ReportCall, reportFor, collectRows}
-use Rattle.engine.specs.Answers.{Outcome, verdict, report, refusal, outcomeOf, workAfter, unlessRefused}
+use Rattle.collecting.specs.CalendarTerms.{CalendarTerms, reportFor, collectRows}
+use Rattle.collecting.specs.Collecting.{periodsBy}
+use Rattle.engine.specs.Answers.{Outcome, verdict, report, refusal, outcomeOf, lengthIn, workAfter, unlessRefused}
 use Rattle.engine.specs.declared.Answer.{Answer}
+use Rattle.engine.specs.declared.ReportTables.{ReportTables}
+
+-- what is handed in: the calendar terms, and an output
+pub record ReportCall : Type 0 where
+  pub terms : CalendarTerms
+  pub output : List ℕ
 
 -- 12: output buffer shorter than the report
 unfoldable pub reportRows : ReportCall → List Row
-reportRows m = collectRows m (row 12 0 (ltb (length (m .output)) (length (reportBytes (reportFor m)))) ∷ [])
+reportRows m = collectRows (m .terms) (row 12 0 (ltb (length (m .output)) (length (reportBytes (reportFor (m .terms))))) ∷ [])
 
 -- the lowest refusal that applies, else the length of the report
 unfoldable pub reportOutcome : ReportCall → Outcome
-reportOutcome m = unlessRefused (lowest (reportRows m)) (report (length (reportBytes (reportFor m))))
+reportOutcome m = unlessRefused (lowest (reportRows m)) (report (length (reportBytes (reportFor (m .terms)))))
 
 -- the output afterwards: unchanged on any refusal; otherwise the report stands first and later bytes are unchanged
 unfoldable pub outputAfter : Outcome → List ℕ → List ℕ → List ℕ
@@ -27,5 +38,14 @@ outputAfter (refusal k) bytes out = out
 -- the whole promise of a report call: its answer, every byte of the work buffer and every byte of the output
 pub record Reported (m : ReportCall) (a : Answer) (work-left out-left : List ℕ) : Type 0 where
   pub answered : outcomeOf a ≡ reportOutcome m
-  pub work-left-is : work-left ≡ workAfter (reportOutcome m) (m .calendar) (m .work)
-  pub output-left-is : out-left ≡ outputAfter (reportOutcome m) (reportBytes (reportFor m)) (m .output)
+  pub work-left-is : work-left ≡ workAfter (reportOutcome m) (m .terms .calendar) (m .terms .work)
+  pub output-left-is : out-left ≡ outputAfter (reportOutcome m) (reportBytes (reportFor (m .terms))) (m .output)
+
+-- the same call, which hands out besides what its report was written from: the refusal or none with its line, the length, and the periods of each type
+pub record ReportedTables (m : ReportCall) (r : ReportTables) (work-left out-left : List ℕ) : Type 0 where
+  pub fault-is : r .fault ≡ lowest (reportRows m)
+  pub length-is : r .length ≡ lengthIn (reportOutcome m)
+  pub work-left-is : work-left ≡ workAfter (reportOutcome m) (m .terms .calendar) (m .terms .work)
+  pub output-left-is : out-left ≡ outputAfter (reportOutcome m) (reportBytes (reportFor (m .terms))) (m .output)
+  pub periods-are : (b : BusyType) → isBusy b ≡ true
+      → byType (r .busy) (r .tentative) (r .unavailable) b ≡ periodsBy (lowest (collectRows (m .terms) [])) (m .terms) b

@@ -4,10 +4,9 @@ use mathlib.Core.Path.{_≡_, refl, sym, ap, _∙_, subst}
 use mathlib.Core.Bool.{Bool}
 use mathlib.Core.List.{List}
 use lib.IntN.{ℤ}
-use Rattle.collecting.specs.ReportCalls.{ReportCall}
 use Rattle.engine.specs.Answers.{outcomeOf}
 use Rattle.engine.specs.Matching.{MatchCall, Matched}
-use Rattle.engine.specs.Reporting.{Reported}
+use Rattle.engine.specs.Reporting.{ReportCall, Reported}
 use Rattle.engine.specs.declared.Answer.{Answer}
 use Rattle.lokuwaine.specs.Spreading.{verdictValue, kindOf, valueOf, spreadOf, MatchSpread, ReportSpread}
 use Rattle.lokuwaine.specs.declared.Spread.{Spread}
@@ -55,10 +54,10 @@ module _ {a : Answer} where
       }
 
   pub report-spread : {cal work out w o : List ℕ} {b e t : ℕ} {z y : ℤ} {s : Spread} → z ≡ y
-      → Reported (record { calendar = cal; start = b; end = e; offset = z; stamp = t; work = work; output = out }) a w o → s ≡ spreadOf a
-      → ReportSpread (record { calendar = cal; start = b; end = e; offset = y; stamp = t; work = work; output = out }) (s .kind) (s .value) 0 w o
+      → Reported (record { terms = record { calendar = cal; start = b; end = e; offset = z; stamp = t; work = work }; output = out }) a w o → s ≡ spreadOf a
+      → ReportSpread (record { terms = record { calendar = cal; start = b; end = e; offset = y; stamp = t; work = work }; output = out }) (s .kind) (s .value) 0 w o
   report-spread {cal} {work} {out} {w} {o} {b} {e} {t} {z} {y} {s} q p d =
       subst
-      (λ (x : ℤ). ReportSpread (record { calendar = cal; start = b; end = e; offset = x; stamp = t; work = work; output = out }) (s .kind) (s .value) 0 w o)
+      (λ (x : ℤ). ReportSpread (record { terms = record { calendar = cal; start = b; end = e; offset = x; stamp = t; work = work }; output = out }) (s .kind) (s .value) 0 w o)
       q
       (report-spread-of p d)

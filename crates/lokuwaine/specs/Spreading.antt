@@ -4,10 +4,10 @@ use mathlib.Core.Path.{_≡_}
 use mathlib.Core.Bool.{Bool, true, false}
 use mathlib.Core.List.{List}
 use Rattle.report.specs.Bytes.{reportBytes}
-use Rattle.collecting.specs.ReportCalls.{ReportCall, reportFor}
+use Rattle.collecting.specs.CalendarTerms.{reportFor}
 use Rattle.engine.specs.Answers.{Outcome, verdict, report, refusal, outcomeOf, workAfter}
 use Rattle.engine.specs.Matching.{MatchCall, matchOutcome}
-use Rattle.engine.specs.Reporting.{reportOutcome, outputAfter}
+use Rattle.engine.specs.Reporting.{ReportCall, reportOutcome, outputAfter}
 use Rattle.engine.specs.declared.Answer.{Answer}
 use Rattle.lokuwaine.specs.declared.Spread.{Spread}
 
@@ -43,5 +43,5 @@ pub record ReportSpread (m : ReportCall) (kind value line : ℕ) (work-left out-
   pub kind-is : kind ≡ kindOf (reportOutcome m)
   pub value-is : value ≡ valueOf (reportOutcome m)
   pub line-is : line ≡ 0
-  pub work-left-is : work-left ≡ workAfter (reportOutcome m) (m .calendar) (m .work)
-  pub output-left-is : out-left ≡ outputAfter (reportOutcome m) (reportBytes (reportFor m)) (m .output)
+  pub work-left-is : work-left ≡ workAfter (reportOutcome m) (m .terms .calendar) (m .terms .work)
+  pub output-left-is : out-left ≡ outputAfter (reportOutcome m) (reportBytes (reportFor (m .terms))) (m .output)

@@ -67,7 +67,7 @@ pub extern "C" fn lokuwaine_report(
     value: &mut u64,
     line: &mut u64,
 ) -> u64
-    ensures { λ r. ⌜ ReportSpread (record { calendar = now (cal .entry); start = start; end = end; offset = offset; stamp = stamp; work = now (work .entry); output = now (out .entry) }) r (now (value .exit)) (now (line .exit)) (now (work .exit)) (now (out .exit)) ⌝ }
+    ensures { λ r. ⌜ ReportSpread (record { terms = record { calendar = now (cal .entry); start = start; end = end; offset = offset; stamp = stamp; work = now (work .entry) }; output = now (out .entry) }) r (now (value .exit)) (now (line .exit)) (now (work .exit)) (now (out .exit)) ⌝ }
 {
     let s = spread_of(engine::report(cal, start, end, offset, stamp, work, out));
     *value = s.value;

@@ -9,7 +9,7 @@ use lib.Dec.{ltb}
 use borrow.Author.Tests.{ltb-true, ltb-false}
 use Rattle.ascii.proofs.Bools.{clash}
 use Rattle.calendar.specs.declared.Fault.{Fault}
-use Rattle.refusals.specs.Refusals.{Row, lowest, RowApplies, Lowest, Rising, goes-on}
+use Rattle.refusals.specs.Refusals.{Row, lowest, RowApplies, NoneApplies, Lowest, NumbersRise, goes-on}
 
 -- a fault and none are apart; one fault has one number
 pub no-fault-here : {A : Type 0} {f : Fault} {n i : ℕ} → f ≡ Fault.At n i → f ≡ Fault.None → A
@@ -86,7 +86,8 @@ found-applies {k} {i} (r ∷ rs) e = go (r .applies) refl (found-applies rs)
     go true h ih = rw (same-number e (row-applies r rs h)) (applies-here r rs h)
     go false h ih = applies-later r rs k (ih (sym (row-passed r rs h) ∙ e))
 
-pub none-iff : (rows : List Row) → (lowest rows ≡ Fault.None) ↔ ((k : ℕ) → RowApplies rows k → ⊥)
+pub none-iff : (rows : List Row) → (lowest rows ≡ Fault.None) ↔ NoneApplies rows
+unfolding NoneApplies
 none-iff rows = (none-applies rows, λ h. go h (lowest rows) refl)
   where
     go : ((k : ℕ) → RowApplies rows k → ⊥) → (f : Fault) → lowest rows ≡ f → lowest rows ≡ Fault.None
@@ -95,14 +96,14 @@ none-iff rows = (none-applies rows, λ h. go h (lowest rows) refl)
 
 -- ---- rising numbers
 
-rising-first : {n : ℕ} {r : Row} {rs : List Row} → Rising n (r ∷ rs) → n < r .number
+rising-first : {n : ℕ} {r : Row} {rs : List Row} → NumbersRise n (r ∷ rs) → n < r .number
 rising-first (goes-on h g) = h
 
-rising-rest : {n : ℕ} {r : Row} {rs : List Row} → Rising n (r ∷ rs) → Rising (r .number) rs
+rising-rest : {n : ℕ} {r : Row} {rs : List Row} → NumbersRise n (r ∷ rs) → NumbersRise (r .number) rs
 rising-rest (goes-on h g) = g
 
 -- every number that applies is above
-pub rising-above : {n k : ℕ} (rows : List Row) → Rising n rows → RowApplies rows k → n < k
+pub rising-above : {n k : ℕ} (rows : List Row) → NumbersRise n rows → RowApplies rows k → n < k
 rising-above [] g a = absurd (List·Memᴰ·not-nil (a .listed))
 rising-above {n} {k} (r ∷ rs) g a =
     ⊎-elim
@@ -110,10 +111,10 @@ rising-above {n} {k} (r ∷ rs) g a =
     (λ x. omega (arith, rising-first g, rising-above rs (rising-rest g) x))
     (applies-cases r rs k a)
 
-pub lowest-above : {n k i : ℕ} (rows : List Row) → Rising n rows → lowest rows ≡ Fault.At k i → n < k
+pub lowest-above : {n k i : ℕ} (rows : List Row) → NumbersRise n rows → lowest rows ≡ Fault.At k i → n < k
 lowest-above rows g e = rising-above rows g (found-applies rows e)
 
-none-lower : {n k i : ℕ} (rows : List Row) → Rising n rows → lowest rows ≡ Fault.At k i → (j : ℕ) → j < k → RowApplies rows j → ⊥
+none-lower : {n k i : ℕ} (rows : List Row) → NumbersRise n rows → lowest rows ≡ Fault.At k i → (j : ℕ) → j < k → RowApplies rows j → ⊥
 none-lower [] g e j h a = List·Memᴰ·not-nil (a .listed)
 none-lower {n} {k} {i} (r ∷ rs) g e j h a = go (r .applies) refl (λ m. none-lower rs (rising-rest g) m j h)
   where
@@ -126,7 +127,7 @@ none-lower {n} {k} {i} (r ∷ rs) g e j h a = go (r .applies) refl (λ m. none-l
         (applies-cases r rs j a)
     go false m ih = ⊎-elim (λ x. clash (x .1) m) (ih (sym (row-passed r rs m) ∙ e)) (applies-cases r rs j a)
 
-pub lowest-at : {n k i : ℕ} (rows : List Row) → Rising n rows → lowest rows ≡ Fault.At k i → Lowest rows k
+pub lowest-at : {n k i : ℕ} (rows : List Row) → NumbersRise n rows → lowest rows ≡ Fault.At k i → Lowest rows k
 lowest-at rows g e = record { applies = found-applies rows e; none-lower = none-lower rows g e }
 
 -- two lowest numbers are one
@@ -139,7 +140,7 @@ one-lowest {j} {k} rows a b = go (ltb j k) refl (ltb k j) refl
     go false x false y = omega (arith, ltb-false j k x, ltb-false k j y)
 
 -- a number is found, with some line, exactly when it is the lowest that applies
-pub lowest-iff : {n : ℕ} (rows : List Row) (k : ℕ) → Rising n rows → ((i : ℕ) × (lowest rows ≡ Fault.At k i)) ↔ Lowest rows k
+pub lowest-iff : {n : ℕ} (rows : List Row) (k : ℕ) → NumbersRise n rows → ((i : ℕ) × (lowest rows ≡ Fault.At k i)) ↔ Lowest rows k
 lowest-iff rows k g = (λ x. lowest-at rows g (x .1), λ l. go l (lowest rows) refl)
   where
     go : Lowest rows k → (f : Fault) → lowest rows ≡ f → (i : ℕ) × (lowest rows ≡ Fault.At k i)

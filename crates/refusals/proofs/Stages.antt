@@ -20,17 +20,17 @@ use Rattle.calendar.specs.Meaning.{calendar, byRules, byValues, byNesting, byLi
 use Rattle.calendar.specs.declared.ValueCheck.{ValueCheck}
 use Rattle.calendar.specs.declared.RuleCheck.{RuleCheck}
 use Rattle.calendar.specs.declared.Fault.{Fault}
-use Rattle.refusals.specs.Refusals.{Row, lowest, Rising, ends, goes-on, sizeRows, lineRow, nestingRow, unsupportedRow, badValueRow, ruleRow, calendarRows, contentsRows}
+use Rattle.refusals.specs.Refusals.{Row, lowest, NumbersRise, ends, goes-on, sizeRows, lineRow, nestingRow, unsupportedRow, badValueRow, ruleRow, calendarRows, contentsRows}
 use Rattle.refusals.specs.Stages.{sizeFault, CalendarRead, earlyFault, workBy}
 use Rattle.refusals.proofs.Refusals.{no-fault-here, same-number, stage-passed, stage-refused, lowest-above}
 
 -- ---- numbers that rise from stage to stage
 
 -- a row numbered m above n, before rows above m
-pub rises : {r : Row} {rs : List Row} (n m : ℕ) → r .number ≡ m → n < m → Rising m rs → Rising n (r ∷ rs)
-rises {r} {rs} n m e h g = let k : n < r .number = omega arith in goes-on k (subst (λ (k : ℕ). Rising k rs) (sym e) g)
+pub rises : {r : Row} {rs : List Row} (n m : ℕ) → r .number ≡ m → n < m → NumbersRise m rs → NumbersRise n (r ∷ rs)
+rises {r} {rs} n m e h g = let k : n < r .number = omega arith in goes-on k (subst (λ (k : ℕ). NumbersRise k rs) (sym e) g)
 
-pub sizes-rising : (cal work : List ℕ) (rows : List Row) → Rising 3 rows → Rising 1 (sizeRows cal work rows)
+pub sizes-rising : (cal work : List ℕ) (rows : List Row) → NumbersRise 3 rows → NumbersRise 1 (sizeRows cal work rows)
 unfolding sizeRows
 sizes-rising cal work rows g = rises 1 2 refl (omega arith) (rises 2 3 refl (omega arith) g)
 
@@ -133,7 +133,7 @@ module _ (c : Context) (u : List ℕ) where
   calendar-lowest =
       rows-fault (lineCheck u) (nestingOf (fileLines u)) (valueFault c (componentsOf u)) (ruleFault c (componentsOf u)) (entriesOf c (componentsOf u))
 
-  pub calendar-rising : (rows : List Row) → Rising 10 rows → Rising 5 (calendarRows c u rows)
+  pub calendar-rising : (rows : List Row) → NumbersRise 10 rows → NumbersRise 5 (calendarRows c u rows)
   unfolding calendarRows contentsRows
   calendar-rising rows g =
       rises 5 6 (line-numbered _) (omega arith)

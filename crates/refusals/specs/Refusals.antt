@@ -36,15 +36,19 @@ pub record RowApplies (rows : List Row) (k : ℕ) : Type 0 where
   pub numbered : which .number ≡ k
   pub applies : which .applies ≡ true
 
+-- no row applies: no numbered refusal is given
+unfoldable pub NoneApplies : List Row → Type 0
+NoneApplies rows = (k : ℕ) → RowApplies rows k → ⊥
+
 -- row k applies and no lower one does
 pub record Lowest (rows : List Row) (k : ℕ) : Type 0 where
   pub applies : RowApplies rows k
   pub none-lower : (j : ℕ) → j < k → RowApplies rows j → ⊥
 
 -- the numbers rise down the table
-pub data Rising : ℕ → List Row → Type 0 where
-  ends : {n : ℕ} → Rising n []
-  goes-on : {n : ℕ} {r : Row} {rs : List Row} → n < r .number → Rising (r .number) rs → Rising n (r ∷ rs)
+pub data NumbersRise : ℕ → List Row → Type 0 where
+  ends : {n : ℕ} → NumbersRise n []
+  goes-on : {n : ℕ} {r : Row} {rs : List Row} → n < r .number → NumbersRise (r .number) rs → NumbersRise n (r ∷ rs)
 
 -- ---- the rows of sizes
 

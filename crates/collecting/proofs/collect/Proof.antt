@@ -49,19 +49,19 @@ collect-calendar-requires : tie.Need-collect-calendar-requires
 collect-calendar-requires c κs = let h = call-bounds _ _ _ _ (call-passes (c .before .before .before .before .before)) in (sizes-room _ _ (sizes-pass (c .before)), (h .0, (h .1, h .2)))
 
 returns : tie.Need-returns
-returns c = λ out. collect-refused-1 _ _ _ _ _ _ out (call-given _ _ _ (toZ-ofZ w64 (c .before .before .before .before .before .before .args .offset) (c .before .before .before .before .before .before .fits .offset)) (c .before .before .before .read-call .ensures) (c .before .enum-told .given .1)) (c .refused .ensures)
+returns c = collect-refused-1 _ _ _ _ _ _ (call-given _ _ _ (toZ-ofZ w64 (c .before .before .before .before .before .before .args .offset) (c .before .before .before .before .before .before .fits .offset)) (c .before .before .before .read-call .ensures) (c .before .enum-told .given .1)) (c .refused .ensures)
 
 same-length : tie.Need-same-length
 same-length c = search needs
 
 returns-2 : tie.Need-returns-2
-returns-2 c = λ out. collect-refused-sizes _ _ _ _ _ _ out (call-passes (c .before .before .before .before .before .before)) (sym (c .before .before .before .before .check-sizes .ensures) ∙ c .before .before .n .given .1) (c .refused2 .ensures)
+returns-2 c = collect-refused-sizes _ _ _ _ _ _ (call-passes (c .before .before .before .before .before .before)) (sym (c .before .before .before .before .check-sizes .ensures) ∙ c .before .before .n .given .1) (c .refused2 .ensures)
 
 same-length-2 : tie.Need-same-length-2
 same-length-2 c = search needs
 
 returns-3 : tie.Need-returns-3
-returns-3 c = λ out. collect-sizes-passed _ _ _ _ _ _ out (call-passes (c .before .before .before .before .before .before .before .before)) (sizes-pass (c .before .before .before .before)) (c .before .before .collect-calendar .ensures)
+returns-3 c = collect-sizes-passed _ _ _ _ _ _ (call-passes (c .before .before .before .before .before .before .before .before)) (sizes-pass (c .before .before .before .before)) (c .before .before .collect-calendar .ensures)
 
 pub collect-spec : {M : Type 1} → statement M
 collect-spec =

@@ -1,7 +1,7 @@
 -- Range and stamp are tested at once, and then the offset is read.
 use mir.Syntax.{w64}
 use mir.ValLaws.{toZ-ofZ}
-use Rattle.collecting.specs.ReportCalls.{rangeGood, stampGood}
+use Rattle.collecting.specs.CalendarTerms.{rangeGood, stampGood}
 use Rattle.collecting.proofs.Collecting.{call-good, call-bad}
 use borrow.Author.Needs.{needs}
 use Rattle.collecting.proofs.read_call.Statement.{statement}

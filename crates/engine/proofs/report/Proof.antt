@@ -1,8 +1,8 @@
--- A refusal of the tables is handed on; otherwise the outcome is that of the writing.
-use mathlib.Core.List.{[]}
+-- A refusal of the tables is handed on; otherwise the answer is by the refusal and the length of the writing.
+use mathlib.Core.Path.{_≡_, sym}
 use mir.Syntax.{w64}
 use mir.ValLaws.{toZ-ofZ}
-use Rattle.engine.proofs.ReportingLaws.{told-writable, report-refused, report-written, reported-at}
+use Rattle.engine.proofs.ReportingLaws.{told-writable, tables-refused, tables-written, refused-answer, written-answer, reported-at}
 use borrow.Author.Needs.{needs}
 use Rattle.engine.proofs.report.Statement.{statement}
 use Rattle.engine.proofs.report.Tie as tie
@@ -17,13 +17,16 @@ enum-told : tie.Need-enum-told
 enum-told c = search needs
 
 write-report-requires : tie.Need-write-report-requires
-write-report-requires c κs = (told-writable (c .before .before .before .before .before .collect .ensures []) (c .before .enum-told .given .1), (c .before .before .before .before .before .collect .ensures [] .busy-sound, c .before .before .before .before .before .collect .ensures [] .tentative-sound, c .before .before .before .before .before .collect .ensures [] .unavailable-sound))
+write-report-requires c κs = let k = c .before .before .before .before .before .collect .ensures in (told-writable k (c .before .enum-told .given .1), (k .busy-sound, k .tentative-sound, k .unavailable-sound))
+
+answer-by-requires : tie.Need-answer-by-requires
+answer-by-requires c κs = search needs
 
 same-length : tie.Need-same-length
 same-length c = search needs
 
 returns : tie.Need-returns
-returns c = reported-at (toZ-ofZ w64 (c .before .before .before .before .before .before .before .before .before .before .args .offset) (c .before .before .before .before .before .before .before .before .before .before .fits .offset)) (report-refused (c .before .before .before .before .before .collect .ensures _) (c .before .f .given .1))
+returns c = reported-at (toZ-ofZ w64 (c .before .before .before .before .before .before .before .before .before .before .args .offset) (c .before .before .before .before .before .before .before .before .before .before .fits .offset)) (refused-answer (tables-refused (c .before .before .before .before .before .collect .ensures) (c .before .f .given .1)))
 
 same-length-2 : tie.Need-same-length-2
 same-length-2 c = search needs
@@ -32,7 +35,7 @@ same-length-3 : tie.Need-same-length-3
 same-length-3 c = search needs
 
 returns-2 : tie.Need-returns-2
-returns-2 c = reported-at (toZ-ofZ w64 (c .before .before .before .before .before .before .before .before .before .before .before .before .before .args .offset) (c .before .before .before .before .before .before .before .before .before .before .before .before .before .fits .offset)) (report-written (c .before .before .before .before .before .before .before .before .collect .ensures _) (c .before .before .before .before .enum-told .given .1) (c .before .before .write-report .ensures))
+returns-2 c = reported-at (toZ-ofZ w64 (c .before .before .before .before .before .before .before .before .before .before .before .before .before .before .args .offset) (c .before .before .before .before .before .before .before .before .before .before .before .before .before .before .fits .offset)) (written-answer (c .answer-by .ensures) (tables-written (c .before .before .before .before .before .before .before .before .before .collect .ensures) (c .before .before .before .before .before .enum-told .given .1) (c .before .before .before .write-report .ensures)))
 
 pub report-spec : {M : Type 1} → statement M
 report-spec =
@@ -42,6 +45,7 @@ report-spec =
     enum-known-f
     enum-told
     write-report-requires
+    answer-by-requires
     same-length
     returns
     same-length-2

@@ -1,4 +1,4 @@
--- A call for a report (document 01, Two questions): what is handed in, what its report says, and refusals 1 to 3 and 6 to 11.
+-- The calendar terms of a call (document 01, Two questions): calendar, range, offset, stamp and work buffer; what they report, and refusals 1 to 3 and 6 to 11.
 use Prim.Native.Nat.{ℕ, _-_}
 use mathlib.Core.Bool.{Bool, not, _&&_}
 use mathlib.Core.List.{List, _∷_}
@@ -17,15 +17,14 @@ use Rattle.pieces.specs.Pieces.{busyPieces}
 use Rattle.refusals.specs.Refusals.{Row, row, sizeRows, calendarRows}
 use Rattle.refusals.specs.Offsets.{offsetGood, contextOf}
 
--- what is handed in
-pub record ReportCall : Type 0 where
+-- what every call about busy time is handed; a call adds its own to them, as a report its output
+pub record CalendarTerms : Type 0 where
   pub calendar : List ℕ
   pub start : ℕ
   pub end : ℕ
   pub offset : ℤ
   pub stamp : ℕ
   pub work : List ℕ
-  pub output : List ℕ
 
 -- a range: start before end, both within the limits; a stamp within the limits
 unfoldable pub rangeGood : ℕ → ℕ → Bool
@@ -42,12 +41,12 @@ entriesIn cal o = entriesOf (contextOf o) (componentsOf (unfolded cal))
 unfoldable pub coveredIn : List ℕ → ℤ → BusyType → ℕ → Bool
 coveredIn cal o b x = covered b (entriesIn cal o) x
 
--- the busy pieces of a call
-unfoldable pub piecesFor : ReportCall → List BusyPeriod
+-- the busy pieces of the terms
+unfoldable pub piecesFor : CalendarTerms → List BusyPeriod
 piecesFor m = busyPieces (m .start) (m .end) (entriesIn (m .calendar) (m .offset))
 
--- what its report says: for each type the covered seconds of the range as the fewest periods
-unfoldable pub reportFor : ReportCall → Report
+-- what their report says: for each type the covered seconds of the range as the fewest periods
+unfoldable pub reportFor : CalendarTerms → Report
 reportFor m =
     record {
       start = m .start;
@@ -56,9 +55,13 @@ reportFor m =
       periods = λ b. runs (coveredIn (m .calendar) (m .offset) b) (m .start) (m .end - m .start);
     }
 
--- 1: range, stamp or offset; 11: more than 512 busy pieces
-unfoldable pub collectRows : ReportCall → List Row → List Row
+-- 11: more than 512 busy pieces
+unfoldable pub pieceRows : List BusyPeriod → List Row → List Row
+pieceRows ps rows = row 11 0 (ltb 512 (length ps)) ∷ rows
+
+-- 1: range, stamp or offset; then the rows of sizes, calendar and pieces
+unfoldable pub collectRows : CalendarTerms → List Row → List Row
 collectRows m rows =
     row 1 0 (not (rangeGood (m .start) (m .end) && stampGood (m .stamp) && offsetGood (m .offset)))
     ∷ sizeRows (m .calendar) (m .work)
-    (calendarRows (contextOf (m .offset)) (unfolded (m .calendar)) (row 11 0 (ltb 512 (length (piecesFor m))) ∷ rows))
+    (calendarRows (contextOf (m .offset)) (unfolded (m .calendar)) (pieceRows (piecesFor m) rows))
