@@ -13,6 +13,7 @@ ghost use mathlib.Core.Bool.{true};
 ghost use mathlib.Core.Path.{_≡_};
 ghost use Prim.Native.Nat.{_+_, _≤_};
 ghost use lib.ListN.{length};
+ghost use Rattle.values.specs.Times.{ContextGood};
 ghost use Rattle.property.specs.declared.PropertyValue.{PropertyValue};
 ghost use Rattle.calendar.specs.Meaning.{faultOr};
 ghost use Rattle.calendar.specs.Places.{ReadsComponent, faultElse};
@@ -75,7 +76,7 @@ pub fn read_component(
     c: Context,
     scope: Scope,
 ) -> ComponentRead
-    requires { ⌜ (c .shift ≤ 100800) × (from ≤ length (now s)) × (first ≤ from + 1) ⌝ }
+    requires { ⌜ (ContextGood c) × (from ≤ length (now s)) × (first ≤ from + 1) ⌝ }
     ensures { λ r. ⌜ ReadsComponent c scope (now (s .entry)) from first r ⌝ }
 {
     let mut fault = ValueCheck::Good;

@@ -17,6 +17,7 @@ ghost use mathlib.Core.Path.{_≡_};
 ghost use mathlib.Core.List.{[]};
 ghost use Prim.Native.Nat.{_+_, _≤_};
 ghost use lib.ListN.{length};
+ghost use Rattle.values.specs.Times.{ContextGood};
 ghost use Rattle.calendar.specs.Checks.{brokenBy, ruleElse, firstBroken};
 ghost use Rattle.calendar.specs.declared.RuleCheck.{RuleCheck};
 ghost use Rattle.calendar.specs.Meaning.{eventBroken, blockBroken, byRules, byValues, faultOf};
@@ -86,7 +87,7 @@ pub fn first_broken(
 
 // The components that stand side by side from here on.
 pub fn check_from(s: &[u8], from: usize, first: usize, c: Context) -> ContentsCheck
-    requires { ⌜ (c .shift ≤ 100800) × (from ≤ length (now s)) × (first ≤ from + 1) ⌝ }
+    requires { ⌜ (ContextGood c) × (from ≤ length (now s)) × (first ≤ from + 1) ⌝ }
     ensures { λ r. ⌜ ChecksFrom c (now (s .entry)) from first r ⌝ }
 {
     let mut rules = RuleCheck::Good;

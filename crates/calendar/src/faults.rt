@@ -7,7 +7,7 @@ use crate::places::Below;
 use nesting::Structure;
 use values::times::Context;
 ghost use mathlib.Core.Path.{_≡_};
-ghost use Prim.Native.Nat.{_≤_};
+ghost use Rattle.values.specs.Times.{ContextGood};
 ghost use Rattle.calendar.specs.Meaning.{contentsOf, meaningOf, faultOf, structureFault};
 
 // Refusals 6 and 7.
@@ -23,7 +23,7 @@ pub fn check_structure(s: &[u8]) -> Fault
 
 // Refusals 8, 9 and 10.
 pub fn check_contents(s: &[u8], c: Context) -> Fault
-    requires { ⌜ c .shift ≤ 100800 ⌝ }
+    requires { ⌜ ContextGood c ⌝ }
     ensures { λ r. ⌜ r ≡ faultOf (contentsOf c (now (s .entry))) ⌝ }
 {
     match places::items_below(s) {
@@ -39,7 +39,7 @@ pub fn check_contents(s: &[u8], c: Context) -> Fault
 
 // Refusals 6 to 10, of the unfolded bytes.
 pub fn check_calendar(s: &[u8], c: Context) -> Fault
-    requires { ⌜ c .shift ≤ 100800 ⌝ }
+    requires { ⌜ ContextGood c ⌝ }
     ensures { λ r. ⌜ r ≡ faultOf (meaningOf c (now (s .entry))) ⌝ }
 {
     match check_structure(s) {

@@ -11,6 +11,7 @@ use property::Scope;
 use values::times::Context;
 ghost use mathlib.Core.Path.{_≡_};
 ghost use Prim.Native.Nat.{_+_, _≤_};
+ghost use Rattle.values.specs.Times.{ContextGood};
 ghost use Rattle.calendar.specs.Meaning.{scopeOf};
 ghost use Rattle.calendar.specs.Places.{componentPropertiesAt, eventAt, blockAt, BelowIs};
 
@@ -41,7 +42,7 @@ pub fn component_properties_at(
     c: Context,
     scope: Scope,
 ) -> ComponentProperties
-    requires { ⌜ c .shift ≤ 100800 ⌝ }
+    requires { ⌜ ContextGood c ⌝ }
     ensures { λ r. ⌜ r ≡ componentPropertiesAt c scope (now (s .entry)) from ⌝ }
 {
     let mut g = properties::no_properties();
@@ -63,7 +64,7 @@ pub fn component_properties_at(
 
 // The event of the component whose items begin here.
 pub fn event_at(s: &[u8], at: usize, c: Context) -> EventRead
-    requires { ⌜ c .shift ≤ 100800 ⌝ }
+    requires { ⌜ ContextGood c ⌝ }
     ensures { λ r. ⌜ r ≡ eventAt c (now (s .entry)) at ⌝ }
 {
     rules::event_by(component_properties_at(s, at, c, Scope::Event))
@@ -71,7 +72,7 @@ pub fn event_at(s: &[u8], at: usize, c: Context) -> EventRead
 
 // The block of the component whose items begin here.
 pub fn block_at(s: &[u8], at: usize, c: Context) -> BlockRead
-    requires { ⌜ c .shift ≤ 100800 ⌝ }
+    requires { ⌜ ContextGood c ⌝ }
     ensures { λ r. ⌜ r ≡ blockAt c (now (s .entry)) at ⌝ }
 {
     rules::block_by(component_properties_at(s, at, c, Scope::FreeBusy))

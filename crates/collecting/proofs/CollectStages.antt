@@ -23,7 +23,7 @@ use Rattle.events.specs.Events.{Entry}
 use Rattle.calendar.specs.Meaning.{entriesOf, componentsOf}
 use Rattle.calendar.specs.declared.Fault.{Fault}
 use Rattle.pieces.specs.BusyPeriods.{busyPeriods}
-use Rattle.pieces.specs.Columns.{flat, stored, Stored}
+use Rattle.pieces.specs.Columns.{flat, stored, Stored, Room}
 use Rattle.pieces.specs.Covered.{coveredBy, covered}
 use Rattle.pieces.specs.Pieces.{busyPieces}
 use Rattle.pieces.proofs.Columns.{stored-all}
@@ -138,7 +138,7 @@ module _ (a e : ℕ) (es : List Entry) where
       unfolding pieceRows lowest
       few-stored = row-passed (row 11 0 (ltb 512 (length (busyPieces a e es)))) [] (le-ltb 512 (length (busyPieces a e es)) (omega (arith, stored-count)))
 
-      tabled-stored : {r : Collected} → length o ≡ 1539 → a < e → Typed o′ n r → Tabled (pieceRows (busyPieces a e es) []) (fewestPeriods a e es) r
+      tabled-stored : {r : Collected} → Room o → a < e → Typed o′ n r → Tabled (pieceRows (busyPieces a e es) []) (fewestPeriods a e es) r
       unfolding unlessFault
       tabled-stored l w t =
           record {
@@ -166,5 +166,5 @@ module _ {c : Context} {u : List ℕ} {a e : ℕ} {o o′ : List ℕ} {x : Conte
     pub contents-many : 512 < x .count → Refuses (Fault.At 11 0) r → ContentsTabled c u a e r
     contents-many m w = contents-pass (tabled-refused (stored-many a e _ (k .stored q) m) w)
 
-    pub contents-few : x .count ≤ 512 → length o ≡ 1539 → a < e → Typed o′ (x .count) r → ContentsTabled c u a e r
+    pub contents-few : x .count ≤ 512 → Room o → a < e → Typed o′ (x .count) r → ContentsTabled c u a e r
     contents-few m l w t = contents-pass (tabled-stored a e _ (k .stored q) m l w t)

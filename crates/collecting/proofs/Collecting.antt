@@ -8,6 +8,7 @@ use lib.Dec.{ltb, leb}
 use lib.IntN.{ℤ}
 use lib.ListN.{length, take, drop}
 use borrow.Author.Tests.{ltb-true, leb-true, lt-leb}
+use Rattle.time.specs.Limits.{lastSecond, rangeGood}
 use Rattle.ascii.proofs.Bools.{and-left, and-right}
 use Rattle.text.specs.Unfolding.{unfolded, Unfolded}
 use Rattle.text.proofs.Unfolding.{unfolded-front}
@@ -23,7 +24,7 @@ use Rattle.refusals.specs.declared.OffsetRead.{OffsetRead}
 use Rattle.refusals.proofs.Offsets.{read-good, read-out, shift-bound, offset-given}
 use Rattle.refusals.proofs.Refusals.{row-applies, row-passed, lowest-above}
 use Rattle.refusals.proofs.Stages.{rises, sizes-early, sizes-passed, sizes-refused, structure-passed, structure-refused, calendar-rising, work-by}
-use Rattle.collecting.specs.CalendarTerms.{CalendarTerms, rangeGood, stampGood, entriesIn, coveredIn, piecesFor, reportFor, pieceRows, collectRows}
+use Rattle.collecting.specs.CalendarTerms.{CalendarTerms, stampGood, entriesIn, coveredIn, piecesFor, reportFor, pieceRows, collectRows}
 use Rattle.collecting.specs.Collecting.{periodsBy, Collects}
 use Rattle.collecting.specs.CollectStages.{callRead, Refuses, unlessFault, Tabled, fewestPeriods, ContentsTabled, CollectedAs, laterRows, laterPeriods}
 use Rattle.collecting.specs.declared.Collected.{Collected}
@@ -67,11 +68,11 @@ module _ (a e t : ℕ) where
   call-given q k h = ap (λ (y : ℤ). callRead a e y t) (sym q) ∙ sym k ∙ h
 
   -- what later stages are promised of the call
-  pub call-bounds : {s : ℕ} (o : ℤ) → callRead a e o t ≡ OffsetRead.Of s → (s ≤ 100800) × (a < e) × (e ≤ 4102444799)
+  pub call-bounds : {s : ℕ} (o : ℤ) → callRead a e o t ≡ OffsetRead.Of s → (s ≤ 100800) × (a < e) × (e ≤ lastSecond)
   unfolding rangeGood
   call-bounds o q =
       let h = read-call-good o q in
-      (shift-bound o (h .2), ltb-true a e (and-left (ltb a e) _ (h .0)), leb-true e 4102444799 (and-right (ltb a e) _ (h .0)))
+      (shift-bound o (h .2), ltb-true a e (and-left (ltb a e) _ (h .0)), leb-true e lastSecond (and-right (ltb a e) _ (h .0)))
 
 -- ---- the work buffer
 

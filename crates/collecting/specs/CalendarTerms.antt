@@ -5,6 +5,7 @@ use mathlib.Core.List.{List, _∷_}
 use lib.Dec.{ltb, leb}
 use lib.ListN.{length}
 use lib.IntN.{ℤ}
+use Rattle.time.specs.Limits.{lastSecond, rangeGood}
 use Rattle.text.specs.Unfolding.{unfolded}
 use Rattle.periods.specs.declared.BusyType.{BusyType}
 use Rattle.table.specs.Runs.{runs}
@@ -26,12 +27,9 @@ pub record CalendarTerms : Type 0 where
   pub stamp : ℕ
   pub work : List ℕ
 
--- a range: start before end, both within the limits; a stamp within the limits
-unfoldable pub rangeGood : ℕ → ℕ → Bool
-rangeGood a b = ltb a b && leb b 4102444799
-
+-- a stamp within the limits
 unfoldable pub stampGood : ℕ → Bool
-stampGood t = leb t 4102444799
+stampGood t = leb t lastSecond
 
 -- the events and blocks of a calendar, by its bytes and its offset alone
 unfoldable pub entriesIn : List ℕ → ℤ → List Entry

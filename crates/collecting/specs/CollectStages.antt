@@ -6,6 +6,7 @@ use mathlib.Core.List.{List, [], _∷_}
 use lib.Dec.{ltb}
 use lib.ListN.{length}
 use lib.IntN.{ℤ}
+use Rattle.time.specs.Limits.{rangeGood}
 use Rattle.text.specs.Unfolding.{unfolded}
 use Rattle.periods.specs.declared.Period.{Period}
 use Rattle.values.specs.declared.times.Context.{Context}
@@ -24,7 +25,7 @@ use Rattle.refusals.specs.Offsets.{offsetRead}
 use Rattle.refusals.specs.declared.OffsetRead.{OffsetRead}
 use Rattle.refusals.specs.Stages.{workBy}
 use Rattle.tables.specs.Building.{Built}
-use Rattle.collecting.specs.CalendarTerms.{rangeGood, stampGood, pieceRows}
+use Rattle.collecting.specs.CalendarTerms.{stampGood, pieceRows}
 use Rattle.collecting.specs.declared.Collected.{Collected}
 
 -- refusal 1: the offset once it is read, where range and stamp are good

@@ -3,11 +3,15 @@
 use calendar::Fault;
 use refusals::OffsetRead;
 use table::Table;
+use time::limits;
 use values::times::Context;
 ghost use mathlib.Core.Path.{_≡_};
 ghost use mathlib.Core.List.{List};
 ghost use Prim.Native.Nat.{ℕ, _*_, _≤_, _<_};
 ghost use lib.ListN.{length};
+ghost use Rattle.pieces.specs.Columns.{Room};
+ghost use Rattle.values.specs.Times.{ContextGood};
+ghost use Rattle.time.specs.Limits.{lastSecond};
 ghost use Rattle.collecting.specs.Collecting.{Collects};
 ghost use Rattle.collecting.specs.CollectStages.{callRead, Refuses, Typed, ContentsTabled, CollectedAs, laterRows, laterPeriods};
 
@@ -35,7 +39,7 @@ fn refused(fault: Fault) -> Collected
 fn read_call(start: u64, end: u64, offset: i64, stamp: u64) -> OffsetRead
     ensures { λ r. ⌜ r ≡ callRead start end offset stamp ⌝ }
 {
-    let good = (start < end) & (end <= 4102444799) & (stamp <= 4102444799);
+    let good = (start < end) & (end <= limits::LAST_SECOND) & (stamp <= limits::LAST_SECOND);
     if good {
         return refusals::read_offset(offset);
     }
@@ -58,10 +62,10 @@ fn tables_of(column: &[u32], n: usize) -> Collected
 
 // Refusals 8 to 11, then the tables: the pieces are noted in the column.
 fn collect_stored(column: &mut [u32], s: &[u8], c: Context, start: u64, end: u64) -> Collected
-    requires { ⌜ length (now column) ≡ 1539 ⌝ }
-    requires { ⌜ c .shift ≤ 100800 ⌝ }
+    requires { ⌜ Room (now column) ⌝ }
+    requires { ⌜ ContextGood c ⌝ }
     requires { ⌜ start < end ⌝ }
-    requires { ⌜ end ≤ 4102444799 ⌝ }
+    requires { ⌜ end ≤ lastSecond ⌝ }
     ensures { λ r. ⌜ ContentsTabled c (now (s .entry)) start end r ⌝ }
 {
     let stored = walk::store_contents(column, s, c, start, end);
@@ -80,9 +84,9 @@ fn collect_stored(column: &mut [u32], s: &[u8], c: Context, start: u64, end: u64
 
 // The same with a column of its own: room for 513 pieces, three numbers each.
 fn collect_contents(s: &[u8], c: Context, start: u64, end: u64) -> Collected
-    requires { ⌜ c .shift ≤ 100800 ⌝ }
+    requires { ⌜ ContextGood c ⌝ }
     requires { ⌜ start < end ⌝ }
-    requires { ⌜ end ≤ 4102444799 ⌝ }
+    requires { ⌜ end ≤ lastSecond ⌝ }
     ensures { λ r. ⌜ ContentsTabled c (now (s .entry)) start end r ⌝ }
 {
     let mut column = [0u32; 1539];
@@ -92,9 +96,9 @@ fn collect_contents(s: &[u8], c: Context, start: u64, end: u64) -> Collected
 // Unfolds the calendar to the front of the work buffer; then refusals 6 to 11, then the tables.
 fn collect_calendar(work: &mut [u8], cal: &[u8], c: Context, start: u64, end: u64) -> Collected
     requires { ⌜ length (now cal) ≤ length (now work) ⌝ }
-    requires { ⌜ c .shift ≤ 100800 ⌝ }
+    requires { ⌜ ContextGood c ⌝ }
     requires { ⌜ start < end ⌝ }
-    requires { ⌜ end ≤ 4102444799 ⌝ }
+    requires { ⌜ end ≤ lastSecond ⌝ }
     ensures { λ r. ⌜ CollectedAs (laterRows c (now (cal .entry)) start end) (laterPeriods c (now (cal .entry)) start end) (now (cal .entry)) (now (work .entry)) r (now (work .exit)) ⌝ }
 {
     let n = text::unfold_into(work, cal);

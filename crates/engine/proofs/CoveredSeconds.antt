@@ -7,6 +7,7 @@ use mathlib.Core.Logic.{_↔_}
 use native.Mathlib.Omega.{arith}
 use lib.IntN.{ℤ, pos}
 use lib.ListN.{take}
+use Rattle.time.specs.Limits.{lastSecond, rangeGood}
 use Rattle.text.specs.Unfolding.{unfolded}
 use Rattle.periods.specs.declared.Period.{Period}
 use Rattle.periods.specs.declared.BusyType.{BusyType}
@@ -24,7 +25,7 @@ use Rattle.readback.specs.Reading.{reportPeriods}
 use Rattle.readback.proofs.Lines.{report-unfolds}
 use Rattle.readback.proofs.Reading.{reportBlock, report-entries}
 use Rattle.readback.proofs.BusyTypes.{report-types}
-use Rattle.collecting.specs.CalendarTerms.{CalendarTerms, rangeGood, stampGood, entriesIn, coveredIn, reportFor}
+use Rattle.collecting.specs.CalendarTerms.{CalendarTerms, stampGood, entriesIn, coveredIn, reportFor}
 use Rattle.engine.specs.Reporting.{ReportCall, Reported}
 use Rattle.engine.specs.Meanings.{IsReport, StandsUnder, SaysCovered}
 use Rattle.engine.specs.declared.Answer.{Answer}
@@ -61,7 +62,7 @@ module _ (m : CalendarTerms) (g : rangeGood (m .start) (m .end) ≡ true) (s : s
 -- ---- Demand 2
 
 -- a covered second is covered by an instance or a period, for the reader
-pub covered-reads : (cal : List ℕ) (o : ℤ) (b : BusyType) (x : ℕ) → x ≤ 4102444799 → (coveredIn cal o b x ≡ true) ↔ Covers (entriesIn cal o) b x
+pub covered-reads : (cal : List ℕ) (o : ℤ) (b : BusyType) (x : ℕ) → x ≤ lastSecond → (coveredIn cal o b x ≡ true) ↔ Covers (entriesIn cal o) b x
 unfolding coveredIn entriesIn
 covered-reads cal o b x l =
     covered-iff b (entriesIn cal o) x l (entries-small (contextOf o) (componentsOf (unfolded cal)))
@@ -82,5 +83,5 @@ says-covered {m} {a} {out-left = out-left} p = record { stands-when = stands }
         let g = range-good m (z .none-applies) in
         let same : (o : ℤ) → coveredIn (take n out-left) o b x ≡ coveredIn (m .terms .calendar) (m .terms .offset) b x =
         λ o. ap (λ (c : List ℕ). coveredIn c o b x) (z .its-bytes) ∙ read-covers (m .terms) g (stamp-good m (z .none-applies)) o b u x h k in
-        let reads = covered-reads (m .terms .calendar) (m .terms .offset) b x (let l : x ≤ 4102444799 = omega (arith, range-limit (m .terms .start) (m .terms .end) g) in l) in
+        let reads = covered-reads (m .terms .calendar) (m .terms .offset) b x (let l : x ≤ lastSecond = omega (arith, range-limit (m .terms .start) (m .terms .end) g) in l) in
         (λ f. reads .0 (sym (same (pos 0)) ∙ f (pos 0) zero-good), λ c o q. same o ∙ reads .1 c)

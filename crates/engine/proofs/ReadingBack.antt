@@ -8,6 +8,7 @@ use native.Mathlib.Omega.{arith}
 use lib.IntN.{pos}
 use lib.ListN.{length, take, length-append}
 use borrow.Author.Tests.{le-ltb}
+use Rattle.time.specs.Limits.{rangeGood}
 use Rattle.ascii.proofs.Bools.{and-both}
 use Rattle.text.specs.Unfolding.{unfolded}
 use Rattle.periods.specs.declared.Period.{Period}
@@ -28,7 +29,7 @@ use Rattle.readback.specs.Reading.{reportPeriods, reportMeaning}
 use Rattle.readback.proofs.Lines.{report-unfolds}
 use Rattle.readback.proofs.Reading.{report-means}
 use Rattle.readback.proofs.Sizes.{report-short}
-use Rattle.collecting.specs.CalendarTerms.{rangeGood, stampGood, coveredIn, piecesFor, reportFor, pieceRows, collectRows}
+use Rattle.collecting.specs.CalendarTerms.{stampGood, coveredIn, piecesFor, reportFor, pieceRows, collectRows}
 use Rattle.engine.specs.Reporting.{ReportCall, reportRows, Reported}
 use Rattle.engine.specs.Meanings.{IsReport, OnReport, HasRoom, ReadsBack}
 use Rattle.engine.specs.ReportAnswers.{ReportWritten}

@@ -6,6 +6,7 @@ use mathlib.Core.List.{List, [], List·Memᴰ·head}
 use lib.IntN.{ℤ}
 use lib.ListN.{length}
 use borrow.Author.Tests.{not-false}
+use Rattle.time.specs.Limits.{rangeGood}
 use Rattle.ascii.proofs.Bools.{and-left, and-right, not-so}
 use Rattle.periods.specs.declared.BusyType.{BusyType}
 use Rattle.table.specs.declared.Table.{Table}
@@ -17,7 +18,7 @@ use Rattle.refusals.specs.Refusals.{NoneApplies, Row, lowest, sizeRows, calenda
 use Rattle.refusals.specs.Offsets.{offsetGood}
 use Rattle.refusals.proofs.Refusals.{none-iff, stage-passed, stage-refused}
 use Rattle.refusals.specs.Stages.{earlyFault, workBy}
-use Rattle.collecting.specs.CalendarTerms.{CalendarTerms, rangeGood, stampGood, reportFor, pieceRows, collectRows}
+use Rattle.collecting.specs.CalendarTerms.{CalendarTerms, stampGood, reportFor, pieceRows, collectRows}
 use Rattle.collecting.specs.Collecting.{periodsBy, Collects}
 use Rattle.collecting.specs.declared.Collected.{Collected}
 use Rattle.engine.specs.Answers.{Outcome, report, refusal, outcomeOf, answerBy, lengthIn, refusalIn, workAfter, unlessRefused}

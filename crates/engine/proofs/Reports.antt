@@ -9,6 +9,7 @@ use native.Mathlib.Omega.{arith}
 use lib.Dec.{ltb}
 use lib.ListN.{length}
 use borrow.Author.Tests.{ltb-true, ltb-false, leb-true, not-false}
+use Rattle.time.specs.Limits.{lastSecond, rangeGood}
 use Rattle.ascii.proofs.Bools.{and-left, and-right}
 use Rattle.periods.specs.declared.Period.{Period}
 use Rattle.periods.specs.declared.BusyType.{BusyType}
@@ -26,7 +27,7 @@ use Rattle.pieces.specs.Pieces.{busyPieces}
 use Rattle.pieces.proofs.Pieces.{clipped-covers, pieces-inside, pieces-count}
 use Rattle.refusals.specs.Refusals.{NoneApplies, sizeRows, calendarRows, contentsRows}
 use Rattle.refusals.specs.Offsets.{offsetGood}
-use Rattle.collecting.specs.CalendarTerms.{CalendarTerms, rangeGood, stampGood, entriesIn, coveredIn, piecesFor, reportFor, pieceRows, collectRows}
+use Rattle.collecting.specs.CalendarTerms.{CalendarTerms, stampGood, entriesIn, coveredIn, piecesFor, reportFor, pieceRows, collectRows}
 use Rattle.engine.specs.Reporting.{ReportCall, reportRows}
 use Rattle.engine.proofs.ReportAnswers.{not-applied}
 
@@ -59,9 +60,9 @@ pub range-rising : (a e : ℕ) → rangeGood a e ≡ true → a < e
 unfolding rangeGood
 range-rising a e g = ltb-true a e (and-left (ltb a e) _ g)
 
-pub range-limit : (a e : ℕ) → rangeGood a e ≡ true → e ≤ 4102444799
+pub range-limit : (a e : ℕ) → rangeGood a e ≡ true → e ≤ lastSecond
 unfolding rangeGood
-range-limit a e g = leb-true e 4102444799 (and-right (ltb a e) _ g)
+range-limit a e g = leb-true e lastSecond (and-right (ltb a e) _ g)
 
 -- its seconds, counted from its start, reach its end
 pub range-width : (a e : ℕ) → rangeGood a e ≡ true → a + (e - a) ≡ e
@@ -69,9 +70,9 @@ range-width a e g = add-sub-of-le (let z : a ≤ e = omega (arith, range-rising 
 
 -- ---- it can be written
 
-good-rising : {lo hi : ℕ} {ps : List Period} → Rising lo ps hi → hi ≤ 4102444799 → GoodPeriods ps
+good-rising : {lo hi : ℕ} {ps : List Period} → Rising lo ps hi → hi ≤ lastSecond → GoodPeriods ps
 good-rising none l = GoodPeriods.none
-good-rising {hi = hi} (then {p = p} x y z r) l = let k : p .end ≤ 4102444799 = omega arith in GoodPeriods.then y k (good-rising r l)
+good-rising {hi = hi} (then {p = p} x y z r) l = let k : p .end ≤ lastSecond = omega arith in GoodPeriods.then y k (good-rising r l)
 
 -- a report over a good range, with a good stamp, whose periods rise inside the range, keeps the limits
 pub rising-writable : (r : Report) → rangeGood (r .start) (r .end) ≡ true → stampGood (r .stamp) ≡ true
@@ -82,7 +83,7 @@ rising-writable r g s f =
     record {
       start-first = range-rising (r .start) (r .end) g;
       end-limit = range-limit (r .start) (r .end) g;
-      stamp-limit = leb-true (r .stamp) 4102444799 s;
+      stamp-limit = leb-true (r .stamp) lastSecond s;
       periods-good = λ b. good-rising (f b) (range-limit (r .start) (r .end) g);
     }
 

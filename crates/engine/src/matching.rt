@@ -9,6 +9,7 @@ ghost use mathlib.Core.Path.{_≡_};
 ghost use mathlib.Core.Bool.{true};
 ghost use Prim.Native.Nat.{_≤_};
 ghost use lib.ListN.{length};
+ghost use Rattle.values.specs.Times.{ContextGood};
 ghost use Rattle.query.specs.Fits.{Fits};
 ghost use Rattle.query_check.specs.WellFormed.{recordsGood};
 ghost use Rattle.engine.specs.MatchStages.{Answered, queryOutcome, calendarOutcome};
@@ -18,7 +19,7 @@ fn match_calendar(work: &mut [u8], cal: &[u8], paper: &[u8], q: Sections, c: Con
     requires { ⌜ length (now cal) ≤ length (now work) ⌝ }
     requires { ⌜ Fits (now paper) q ⌝ }
     requires { ⌜ recordsGood (now paper) q ≡ true ⌝ }
-    requires { ⌜ c .shift ≤ 100800 ⌝ }
+    requires { ⌜ ContextGood c ⌝ }
     ensures { λ r. ⌜ Answered (calendarOutcome c (now (cal .entry)) (now (paper .entry)) q) (now (cal .entry)) (now (work .entry)) r (now (work .exit)) ⌝ }
 {
     let read = refusals::read_calendar(work, cal, c);
@@ -36,7 +37,7 @@ fn match_calendar(work: &mut [u8], cal: &[u8], paper: &[u8], q: Sections, c: Con
 // Refusals 4 and 5, then the calendar.
 pub fn match_query(work: &mut [u8], cal: &[u8], paper: &[u8], c: Context) -> Answer
     requires { ⌜ length (now cal) ≤ length (now work) ⌝ }
-    requires { ⌜ c .shift ≤ 100800 ⌝ }
+    requires { ⌜ ContextGood c ⌝ }
     ensures { λ r. ⌜ Answered (queryOutcome c (now (cal .entry)) (now (paper .entry))) (now (cal .entry)) (now (work .entry)) r (now (work .exit)) ⌝ }
 {
     match query_check::read_query(paper) {

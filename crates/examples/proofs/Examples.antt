@@ -183,5 +183,5 @@ all-hold (c ∷ cs) h = (sound c (and-left (test c) (tests cs) h), all-hold cs (
 
 -- document 01, Examples at the edges: every row holds
 pub edges : All table
-unfolding table eventFrom busy blockWith lineValue lineFault tests test meets isUtc isRefusal samePeriod samePeriods isDigit upper sameName firstOutside before after pieces headOf valueOf nameOf parameterTexts lineOf parametersNamed someList hasParameter hasTwice hasList digitPair pairAt joined yearAt checkedDay three dateAt checkedTime timeAt clockOf clockAt readDateTime isLeap yearDays daysBeforeYear monthLengths lengthIn beforeIn monthDays daysBeforeMonth dayNumber isDay timeStart nextStage weightOf blank withDigit fitting unitTo withUnit step textRuns finish durationText durationSeconds withinLimit limited readDuration epoch lastSecond since utcSecond timesOr eventProperty propertyOf timeIn startBy unlessZoned durationBy valueAs propertyValueOf atSecond timeBy readTime formOf timeOf reportPlace sameBusy faultOr byValues faultOf secondIn covers lead leadIf runs firstAt spanOf startsBefore stepOf startOf repeats isInstance occurs defaultLength lengthBy endOf overlaps instanceIn entryPeriods busyPeriods ofType coveredBy covered
+unfolding table eventFrom busy blockWith lineValue lineFault tests test meets isUtc isRefusal samePeriod samePeriods isDigit upper sameName firstOutside before after pieces headOf valueOf nameOf parameterTexts lineOf parametersNamed someList hasParameter hasTwice hasList digitPair pairAt joined yearAt checkedDay three dateAt checkedTime timeAt clockOf clockAt readDateTime isLeap yearDays daysBeforeYear monthLengths lengthIn beforeIn monthDays daysBeforeMonth dayNumber isDay timeStart nextStage weightOf blank withDigit fitting unitTo withUnit step textRuns finish durationText durationSeconds withinLimit limited readDuration epoch since utcSecond timesOr eventProperty propertyOf timeIn startBy unlessZoned durationBy valueAs propertyValueOf atSecond timeBy readTime formOf timeOf reportPlace sameBusy faultOr byValues faultOf secondIn covers lead leadIf runs firstAt spanOf startsBefore stepOf startOf repeats isInstance occurs defaultLength lengthBy endOf overlaps instanceIn entryPeriods busyPeriods ofType coveredBy covered
 edges = all-hold table refl

@@ -7,6 +7,7 @@ use mathlib.Core.Logic.{_↔_}
 use native.Mathlib.Omega.{arith}
 use lib.Dec.{eqb}
 use borrow.Author.Tests.{eqb-true, eqb-false, eq-eqb, ne-eqb, not-true}
+use Rattle.time.specs.Limits.{lastSecond}
 use Rattle.ascii.specs.Names.{sameName}
 use Rattle.ascii.proofs.Bools.{and-left, and-right, and-both, clash, not-so}
 use Rattle.text.specs.TextMatch.{contains}
@@ -26,7 +27,7 @@ use Rattle.nesting.specs.Components.{Numbered, Items, Component, componentsIn, 
 use Rattle.property_tests.specs.PropertyTests.{collationOf, textHolds, someValue, parameterHolds, parameterPasses, parametersHold, someNamed, lineHolds, someLine, propertyHolds, propertyPasses, propertiesHold}
 use Rattle.property_tests.proofs.Lines.{SomeOf}
 use Rattle.property_tests.proofs.PropertyTests.{named-lines, holding-lines}
-use Rattle.periods.specs.BusyTypes.{BusyPeriod}
+use Rattle.periods.specs.BusyTypes.{BusyPeriod, periodsOf}
 use Rattle.events.specs.declared.Event.{Event}
 use Rattle.events.specs.declared.EventRead.{EventRead}
 use Rattle.events.specs.declared.Bound.{Bound}
@@ -37,7 +38,6 @@ use Rattle.calendar.proofs.Sizes.{eventOf-small}
 use Rattle.recurrence.specs.TimeRange.{EventIn, betweenIn, periodsOverlap, boundsIn, blockIn, Decides}
 use Rattle.recurrence.proofs.Blocks.{periods-iff}
 use Rattle.recurrence.proofs.Candidates.{search-finds, decided-once}
-use Rattle.recurrence.proofs.EventSizes.{event-sizes}
 use Rattle.recurrence.specs.Instances.{instancesAtMost}
 use Rattle.filter.specs.Tests.{eventIn, blockRangeIn, componentIn, rangeHolds, someComponentNamed, someComponent, componentHolds, childrenHold, componentTest, queryHolds}
 use Rattle.filter.specs.FilterRules.{ValuePasses, ParameterPasses, LinePasses, PropertyPasses, ComponentIn, RangePasses, ComponentPasses, QueryPasses}
@@ -237,7 +237,7 @@ no-bound e = let z : _≡_ {A = ℕ} 0 1 = cc in absurd (omega arith)
 
 module _ (a b : ℕ) (ps : List BusyPeriod) where
   -- without both ends the periods decide
-  by-periods : (u v : Bound) → ((s t : ℕ) → u ≡ Bound.At s → v ≡ Bound.At t → ⊥) → boundsIn a b u v ps ≡ periodsOverlap a b ps
+  by-periods : (u v : Bound) → ((s t : ℕ) → u ≡ Bound.At s → v ≡ Bound.At t → ⊥) → boundsIn a b u v ps ≡ periodsOverlap a b (periodsOf ps)
   unfolding boundsIn
   by-periods (Bound.At s) (Bound.At t) h = absurd (h s t refl refl)
   by-periods (Bound.At s) Bound.None h = refl
@@ -245,7 +245,7 @@ module _ (a b : ℕ) (ps : List BusyPeriod) where
   by-periods Bound.None Bound.None h = refl
 
   by-ends : {P : Type 0} (u v : Bound) → ((s t : ℕ) → u ≡ Bound.At s → v ≡ Bound.At t → betweenIn a b s t ≡ true → P)
-      → (((s t : ℕ) → u ≡ Bound.At s → v ≡ Bound.At t → ⊥) → periodsOverlap a b ps ≡ true → P) → boundsIn a b u v ps ≡ true → P
+      → (((s t : ℕ) → u ≡ Bound.At s → v ≡ Bound.At t → ⊥) → periodsOverlap a b (periodsOf ps) ≡ true → P) → boundsIn a b u v ps ≡ true → P
   unfolding boundsIn
   by-ends (Bound.At s) (Bound.At t) both other h = both s t refl refl h
   by-ends (Bound.At s) Bound.None both other h = other (λ x y d e. no-bound e) h
@@ -286,12 +286,12 @@ module _ (c : Context) (k : Component) (a b : ℕ) where
   unfolding componentIn blockRangeIn
   as-block o x e h = ap (λ (w : Scope). componentIn c w k a b) o ∙ ap (λ (w : BlockRead). blockRangeIn c k w a b) e ∙ h
 
-  in-event : b ≤ 4102444799 → (e : Event) → eventOf c k ≡ EventRead.Of e → EventIn e a b → eventIn (EventRead.Of e) a b ≡ true
+  in-event : b ≤ lastSecond → (e : Event) → eventOf c k ≡ EventRead.Of e → EventIn e a b → eventIn (EventRead.Of e) a b ≡ true
   unfolding eventIn
   in-event l e x i =
-      sym (decided-once true _ (search-finds (i .number) (i .passes)) (some-decides a b (event-sizes (eventOf-small c k e x)) l))
+      sym (decided-once true _ (search-finds (i .number) (i .passes)) (some-decides a b (eventOf-small c k e x) l))
 
-  scope-holds : b ≤ 4102444799 → ComponentIn c k a b → componentIn c (componentScope k) k a b ≡ true
+  scope-holds : b ≤ lastSecond → ComponentIn c k a b → componentIn c (componentScope k) k a b ≡ true
   unfolding blockIn
   scope-holds l (ComponentIn.event-in e o x i) =
       as-event o (EventRead.Of e) x (in-event l e x i)
@@ -299,7 +299,7 @@ module _ (c : Context) (k : Component) (a b : ℕ) where
   scope-holds l (ComponentIn.block-period x o e y i) =
       as-block o x e (by-periods a b busyPeriods (x .start) (x .end) y ∙ periods-iff a b busyPeriods .1 i)
 
-  pub component-in-iff : b ≤ 4102444799 → (componentIn c (componentScope k) k a b ≡ true) ↔ ComponentIn c k a b
+  pub component-in-iff : b ≤ lastSecond → (componentIn c (componentScope k) k a b ≡ true) ↔ ComponentIn c k a b
   component-in-iff l = (scope-says (componentScope k) refl, scope-holds l)
 
 module _ (c : Context) (p : List ℕ) (q : Sections) (g : recordsGood p q ≡ true) where

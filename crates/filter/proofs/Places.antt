@@ -4,6 +4,8 @@ use mathlib.Core.Path.{_≡_, refl, sym, ap, _∙_}
 use mathlib.Core.Bool.{Bool, true, false, _||_, or-false}
 use mathlib.Core.List.{List, [], _∷_}
 use native.Mathlib.Omega.{arith}
+use Rattle.periods.proofs.BusyTypes.{periodsOf-typed, periodsOf-append}
+use Rattle.time.specs.Limits.{lastSecond}
 use Rattle.ascii.proofs.Bools.{clash}
 use Rattle.query.specs.Counting.{someBelow}
 use Rattle.query.proofs.Counting.{none-at}
@@ -20,7 +22,7 @@ use Rattle.nesting.specs.Components.{Numbered, Items, Component, itemsOf, prope
 use Rattle.nesting.specs.Passing.{linesFrom}
 use Rattle.property_tests.specs.PropertyTests.{propertiesAt}
 use Rattle.property_tests.proofs.Lines.{SomeOf}
-use Rattle.periods.specs.BusyTypes.{BusyPeriod, typed}
+use Rattle.periods.specs.BusyTypes.{BusyPeriod, typed, periodsOf}
 use Rattle.events.specs.declared.Event.{Event}
 use Rattle.events.specs.declared.Block.{Block}
 use Rattle.events.specs.declared.BlockRead.{BlockRead}
@@ -29,49 +31,43 @@ use Rattle.calendar.specs.Meaning.{periodsBy, blockPeriods}
 use Rattle.calendar.specs.Periods.{periodsFrom, NextPeriod, NoPeriod}
 use Rattle.calendar.proofs.Listed.{periods-all}
 use Rattle.calendar.proofs.Steps.{periods-number}
-use Rattle.recurrence.specs.Sizes.{Small}
+use Rattle.events.specs.Sizes.{EventSmall}
 use Rattle.recurrence.specs.TimeRange.{overlaps, instanceIn, EventIn, betweenIn, periodsOverlap, boundsIn, blockIn, Decides}
 use Rattle.recurrence.proofs.Candidates.{few-before}
 use Rattle.recurrence.proofs.Instances.{in-range-starts}
 use Rattle.recurrence.proofs.Blocks.{periods-append}
 use Rattle.recurrence.specs.Instances.{instancesAtMost}
 use Rattle.filter.specs.Tests.{blockRangeIn}
-use Rattle.filter.specs.Places.{somePeriodIn, givesPeriods, lineIn, linesIn, blockLinesIn}
+use Rattle.filter.specs.Places.{givesPeriods, lineIn, linesIn, blockLinesIn}
 
--- ---- the periods of a value: none before `at` touches the range
+-- ---- the periods of a value: none before `at` overlaps the range
 
 pub record Overlapping (a b : ℕ) (v : List ℕ) (at : ℕ) : Type 0 where
-  pub rest : somePeriodIn a b (periodsFrom v at) ≡ somePeriodIn a b (periodsFrom v 0)
+  pub rest : periodsOverlap a b (periodsFrom v at) ≡ periodsOverlap a b (periodsFrom v 0)
 
 pub overlapping-start : (a b : ℕ) (v : List ℕ) → Overlapping a b v 0
 overlapping-start a b v = record { rest = refl }
 
 module _ {a b : ℕ} {v : List ℕ} {at : ℕ} (r : Overlapping a b v at) where
   module _ {p : Period} {next : ℕ} {t : Bool} (h : NextPeriod v at p next) (q : t ≡ overlaps a b (p .start) (p .end)) where
-    overlapping-here : (t || somePeriodIn a b (periodsFrom v next)) ≡ somePeriodIn a b (periodsFrom v 0)
-    unfolding somePeriodIn
-    overlapping-here = ap (λ (x : Bool). x || somePeriodIn a b (periodsFrom v next)) q ∙ ap (somePeriodIn a b) (sym (h .periods)) ∙ r .rest
+    overlapping-here : (t || periodsOverlap a b (periodsFrom v next)) ≡ periodsOverlap a b (periodsFrom v 0)
+    unfolding periodsOverlap
+    overlapping-here = ap (λ (x : Bool). x || periodsOverlap a b (periodsFrom v next)) q ∙ ap (periodsOverlap a b) (sym (h .periods)) ∙ r .rest
 
     pub overlapping-next : t ≡ false → Overlapping a b v next
-    overlapping-next z = record { rest = ap (λ (x : Bool). x || somePeriodIn a b (periodsFrom v next)) (sym z) ∙ overlapping-here }
+    overlapping-next z = record { rest = ap (λ (x : Bool). x || periodsOverlap a b (periodsFrom v next)) (sym z) ∙ overlapping-here }
 
-    pub overlapping-found : t ≡ true → true ≡ somePeriodIn a b (periodsFrom v 0)
-    overlapping-found z = ap (λ (x : Bool). x || somePeriodIn a b (periodsFrom v next)) (sym z) ∙ overlapping-here
+    pub overlapping-found : t ≡ true → true ≡ periodsOverlap a b (periodsFrom v 0)
+    overlapping-found z = ap (λ (x : Bool). x || periodsOverlap a b (periodsFrom v next)) (sym z) ∙ overlapping-here
 
-  pub overlapping-end : NoPeriod v at → false ≡ somePeriodIn a b (periodsFrom v 0)
-  unfolding somePeriodIn
-  overlapping-end h = ap (somePeriodIn a b) (sym (h .periods)) ∙ r .rest
-
--- the type of a period plays no part
-typed-overlap : (a b : ℕ) (t : BusyType) (ps : List Period) → somePeriodIn a b ps ≡ periodsOverlap a b (typed t ps)
-unfolding somePeriodIn periodsOverlap
-typed-overlap a b t [] = refl
-typed-overlap a b t (p ∷ ps) = ap (λ (x : Bool). overlaps a b (p .start) (p .end) || x) (typed-overlap a b t ps)
+  pub overlapping-end : NoPeriod v at → false ≡ periodsOverlap a b (periodsFrom v 0)
+  unfolding periodsOverlap
+  overlapping-end h = ap (periodsOverlap a b) (sym (h .periods)) ∙ r .rest
 
 -- ---- one line
 
 given-overlap : (a b : ℕ) (o : PropertyValue) (x : ContentLine) → givesPeriods o ≡ true
-    → somePeriodIn a b (goodPeriods (periodItems (x .value))) ≡ periodsOverlap a b (periodsBy o x)
+    → periodsOverlap a b (goodPeriods (periodItems (x .value))) ≡ periodsOverlap a b (periodsOf (periodsBy o x))
 unfolding givesPeriods periodsBy
 given-overlap a b PropertyValue.Nothing x h = clash h refl
 given-overlap a b PropertyValue.Unsupported x h = clash h refl
@@ -82,9 +78,9 @@ given-overlap a b (PropertyValue.Lasts d) x h = clash h refl
 given-overlap a b (PropertyValue.Repeats r) x h = clash h refl
 given-overlap a b (PropertyValue.HasStatus s) x h = clash h refl
 given-overlap a b (PropertyValue.Transparent t) x h = clash h refl
-given-overlap a b (PropertyValue.HasPeriods t) x h = typed-overlap a b t (goodPeriods (periodItems (x .value)))
+given-overlap a b (PropertyValue.HasPeriods t) x h = ap (periodsOverlap a b) (sym (periodsOf-typed t (goodPeriods (periodItems (x .value)))))
 
-ungiven-overlap : (a b : ℕ) (o : PropertyValue) (x : ContentLine) → givesPeriods o ≡ false → false ≡ periodsOverlap a b (periodsBy o x)
+ungiven-overlap : (a b : ℕ) (o : PropertyValue) (x : ContentLine) → givesPeriods o ≡ false → false ≡ periodsOverlap a b (periodsOf (periodsBy o x))
 unfolding givesPeriods periodsBy periodsOverlap
 ungiven-overlap a b PropertyValue.Nothing x h = refl
 ungiven-overlap a b PropertyValue.Unsupported x h = refl
@@ -99,12 +95,12 @@ ungiven-overlap a b (PropertyValue.HasPeriods t) x h = clash refl h
 
 module _ (c : Context) (a b : ℕ) where
   module _ (l : List ℕ) {o : PropertyValue} {t : Bool} (e : o ≡ propertyValueOf c Scope.FreeBusy (lineOf l)) (q : t ≡ givesPeriods o) where
-    pub line-overlaps : {v : List ℕ} {r : Bool} → t ≡ true → v ≡ valueOf l → r ≡ somePeriodIn a b (periodsFrom v 0) → r ≡ lineIn c a b (lineOf l)
+    pub line-overlaps : {v : List ℕ} {r : Bool} → t ≡ true → v ≡ valueOf l → r ≡ periodsOverlap a b (periodsFrom v 0) → r ≡ lineIn c a b (lineOf l)
     unfolding lineIn lineOf
     line-overlaps z x y =
         y
-        ∙ ap (λ (w : List ℕ). somePeriodIn a b (periodsFrom w 0)) x
-        ∙ ap (somePeriodIn a b) (periods-all (valueOf l))
+        ∙ ap (λ (w : List ℕ). periodsOverlap a b (periodsFrom w 0)) x
+        ∙ ap (periodsOverlap a b) (periods-all (valueOf l))
         ∙ given-overlap a b (propertyValueOf c Scope.FreeBusy (lineOf l)) (lineOf l) (sym (q ∙ ap givesPeriods e) ∙ z)
 
     pub line-gives-none : t ≡ false → false ≡ lineIn c a b (lineOf l)
@@ -114,7 +110,12 @@ module _ (c : Context) (a b : ℕ) where
   pub period-lines : SomeOf (linesIn c a b) (lineIn c a b)
   unfolding linesIn lineIn blockPeriods periodsOverlap
   period-lines =
-      record { no-line = refl; a-line = λ x xs. periods-append a b (periodsBy (propertyValueOf c Scope.FreeBusy (x .line)) (x .line)) (blockPeriods c xs) }
+      record {
+        no-line = refl;
+        a-line = λ x xs.
+            let ps = periodsBy (propertyValueOf c Scope.FreeBusy (x .line)) (x .line) in
+            ap (periodsOverlap a b) (periodsOf-append ps (blockPeriods c xs)) ∙ periods-append a b (periodsOf ps) (periodsOf (blockPeriods c xs));
+      }
 
   -- ---- a block
 
@@ -129,7 +130,7 @@ module _ (c : Context) (a b : ℕ) where
     no-end x p q e =
         e ∙ sym (ap (λ (w : Bound). boundsIn a b w (k .end) (blockPeriods c xs)) p ∙ ap (λ (w : Bound). boundsIn a b (Bound.At x) w (blockPeriods c xs)) q)
 
-    none-first : (w : Bound) → periodsOverlap a b (blockPeriods c xs) ≡ boundsIn a b Bound.None w (blockPeriods c xs)
+    none-first : (w : Bound) → periodsOverlap a b (periodsOf (blockPeriods c xs)) ≡ boundsIn a b Bound.None w (blockPeriods c xs)
     unfolding boundsIn
     none-first (Bound.At y) = refl
     none-first Bound.None = refl
@@ -160,7 +161,7 @@ some-at e a b (suc n) h = go (instanceIn e a b n) refl (some-at e a b n)
         below (sym (ap (λ (t : Bool). someBelow n (instanceIn e a b) || t) q ∙ or-false (someBelow n (instanceIn e a b))) ∙ h)
 
 -- so few instances decide
-pub some-decides : {e : Event} (a b : ℕ) → Small e → b ≤ 4102444799 → Decides (someBelow instancesAtMost (instanceIn e a b)) (EventIn e a b)
+pub some-decides : {e : Event} (a b : ℕ) → EventSmall e → b ≤ lastSecond → Decides (someBelow instancesAtMost (instanceIn e a b)) (EventIn e a b)
 some-decides {e} a b h p = go (someBelow instancesAtMost (instanceIn e a b)) refl
   where
     few : (k : ℕ) → instanceIn e a b k ≡ true → k < instancesAtMost

@@ -7,6 +7,7 @@ use native.Mathlib.Omega.{arith}
 use lib.Dec.{eqb}
 use borrow.Author.Count.{below-more}
 use borrow.Author.Tests.{eqb-true, eqb-false}
+use Rattle.time.specs.Limits.{lastSecond}
 use Rattle.query.specs.Records.{rangeStart, rangeEnd}
 use Rattle.query.specs.declared.Sections.{Sections}
 use Rattle.query_check.specs.WellFormed.{recordsGood}
@@ -23,9 +24,8 @@ use Rattle.calendar.specs.Meaning.{componentScope}
 use Rattle.calendar.specs.Places.{eventAt, blockAt}
 use Rattle.calendar.proofs.Sizes.{eventAt-small}
 use Rattle.calendar.proofs.Steps.{eventOf-at, blockOf-at}
-use Rattle.recurrence.specs.Sizes.{Small}
+use Rattle.events.specs.Sizes.{EventSmall}
 use Rattle.recurrence.specs.Candidates.{FirstCandidate}
-use Rattle.recurrence.proofs.EventSizes.{event-sizes}
 use Rattle.recurrence.proofs.Candidates.{search-finds, search-ends, decided-once, few-before}
 use Rattle.filter.specs.Tests.{eventIn, blockRangeIn, componentIn, rangeHolds}
 use Rattle.filter.specs.Places.{blockLinesIn}
@@ -35,14 +35,14 @@ use Rattle.filter.proofs.Places.{some-decides, range-at}
 
 -- ---- a trial is small
 
-event-trial-small : (y : EventRead) (a b : ℕ) → ((e : Event) → y ≡ EventRead.Of e → Small e) → a < b → b ≤ 4102444799 → SmallTrial (eventTrial y a b)
+event-trial-small : (y : EventRead) (a b : ℕ) → ((e : Event) → y ≡ EventRead.Of e → EventSmall e) → a < b → b ≤ lastSecond → SmallTrial (eventTrial y a b)
 unfolding eventTrial
 event-trial-small (EventRead.Of e) a b h p q = (h e refl, p, q)
 event-trial-small EventRead.Broken a b h p q = tt
 
-trial-in-small : (c : Context) (o : Scope) (s : List ℕ) (at a b : ℕ) → a < b → b ≤ 4102444799 → SmallTrial (trialIn c o s at a b)
+trial-in-small : (c : Context) (o : Scope) (s : List ℕ) (at a b : ℕ) → a < b → b ≤ lastSecond → SmallTrial (trialIn c o s at a b)
 unfolding trialIn
-trial-in-small c Scope.Event s at a b p q = event-trial-small (eventAt c s at) a b (λ e h. event-sizes (eventAt-small c s at e h)) p q
+trial-in-small c Scope.Event s at a b p q = event-trial-small (eventAt c s at) a b (λ e h. eventAt-small c s at e h) p q
 trial-in-small c Scope.FreeBusy s at a b p q = tt
 trial-in-small c Scope.Other s at a b p q = tt
 
@@ -103,7 +103,7 @@ module _ (c : Context) (p : List ℕ) (q : Sections) (o : Scope) (s : List ℕ) 
 
 module _ {t : Trial} where
   module _ (e : Event) (a b : ℕ) (q : t ≡ Trial.Instances e a b) where
-    pub instances-small : SmallTrial t → Small e × (a < b) × (b ≤ 4102444799)
+    pub instances-small : SmallTrial t → EventSmall e × (a < b) × (b ≤ lastSecond)
     instances-small h = subst (λ (x : Trial). SmallTrial x) q h
 
     pub instances-tried : (k : ℕ) → FirstCandidate e a k → Tried t k

@@ -2,21 +2,16 @@
 use Prim.Native.Nat.{ℕ}
 use mathlib.Core.Bool.{Bool, true, false, _||_}
 use mathlib.Core.List.{List, [], _∷_}
+use Rattle.periods.specs.BusyTypes.{periodsOf}
 use Rattle.line.specs.Grammar.{ContentLine}
 use Rattle.values.specs.declared.times.Context.{Context}
-use Rattle.periods.specs.declared.Period.{Period}
 use Rattle.property.specs.Properties.{propertyValueOf}
 use Rattle.property.specs.declared.Scope.{Scope}
 use Rattle.property.specs.declared.PropertyValue.{PropertyValue}
 use Rattle.nesting.specs.Components.{Numbered}
 use Rattle.events.specs.declared.BlockRead.{BlockRead}
 use Rattle.calendar.specs.Meaning.{periodsBy, blockPeriods}
-use Rattle.recurrence.specs.TimeRange.{overlaps, periodsOverlap, blockIn}
-
--- some period of a value touches the range
-unfoldable pub somePeriodIn : ℕ → ℕ → List Period → Bool
-somePeriodIn a b [] = false
-somePeriodIn a b (p ∷ ps) = overlaps a b (p .start) (p .end) || somePeriodIn a b ps
+use Rattle.recurrence.specs.TimeRange.{periodsOverlap, blockIn}
 
 -- a line that gives periods
 unfoldable pub givesPeriods : PropertyValue → Bool
@@ -31,13 +26,13 @@ givesPeriods (PropertyValue.HasStatus s) = false
 givesPeriods (PropertyValue.Transparent t) = false
 givesPeriods (PropertyValue.HasPeriods b) = true
 
--- some period of a line touches the range
+-- some period of a line overlaps the range
 unfoldable pub lineIn : Context → ℕ → ℕ → ContentLine → Bool
-lineIn c a b x = periodsOverlap a b (periodsBy (propertyValueOf c Scope.FreeBusy x) x)
+lineIn c a b x = periodsOverlap a b (periodsOf (periodsBy (propertyValueOf c Scope.FreeBusy x) x))
 
 -- some period of these lines does
 unfoldable pub linesIn : Context → ℕ → ℕ → List Numbered → Bool
-linesIn c a b xs = periodsOverlap a b (blockPeriods c xs)
+linesIn c a b xs = periodsOverlap a b (periodsOf (blockPeriods c xs))
 
 -- is a block of these lines in the range?
 unfoldable pub blockLinesIn : Context → BlockRead → List Numbered → ℕ → ℕ → Bool

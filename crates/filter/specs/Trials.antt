@@ -4,6 +4,7 @@ use mathlib.Core.Path.{_≡_}
 use mathlib.Core.Bool.{Bool, true, false, _&&_}
 use mathlib.Core.List.{List}
 use lib.Dec.{eqb}
+use Rattle.time.specs.Limits.{lastSecond}
 use Rattle.ascii.specs.Names.{sameName}
 use Rattle.query.specs.Records.{rangeStart, rangeEnd, textOf, componentAt}
 use Rattle.query.specs.Counting.{someBelow}
@@ -16,7 +17,7 @@ use Rattle.property_tests.specs.PropertyTests.{propertiesHold, propertiesAt}
 use Rattle.events.specs.declared.EventRead.{EventRead}
 use Rattle.calendar.specs.Meaning.{scopeOf}
 use Rattle.calendar.specs.Places.{eventAt, blockAt}
-use Rattle.recurrence.specs.Sizes.{Small}
+use Rattle.events.specs.Sizes.{EventSmall}
 use Rattle.recurrence.specs.TimeRange.{instanceIn}
 use Rattle.recurrence.specs.Candidates.{startsBefore}
 use Rattle.recurrence.specs.Instances.{instancesAtMost}
@@ -77,5 +78,5 @@ pub record Tried (t : Trial) (k : ℕ) : Type 0 where
 
 -- the sizes that the sums and products of a trial want
 abbrev pub SmallTrial : Trial → Type 0
-SmallTrial (Trial.Instances e a b) = Small e × (a < b) × (b ≤ 4102444799)
+SmallTrial (Trial.Instances e a b) = EventSmall e × (a < b) × (b ≤ lastSecond)
 SmallTrial (Trial.Once t) = Unit {0}

@@ -13,6 +13,7 @@ ghost use mathlib.Core.Path.{_≡_};
 ghost use mathlib.Core.Bool.{true};
 ghost use Prim.Native.Nat.{_+_, _-_, _≤_, _<_};
 ghost use lib.ListN.{length};
+ghost use Rattle.values.specs.Times.{ContextGood};
 ghost use Rattle.nesting.specs.Components.{itemsOf};
 ghost use Rattle.nesting.specs.Passing.{linesFrom, treeIn};
 ghost use Rattle.calendar.specs.Places.{componentsFrom};
@@ -60,7 +61,7 @@ pub fn component_holds(
     requires { ⌜ Fits (now paper) q ⌝ }
     requires { ⌜ recordsGood (now paper) q ≡ true ⌝ }
     requires { ⌜ j < q .components .count ⌝ }
-    requires { ⌜ c .shift ≤ 100800 ⌝ }
+    requires { ⌜ ContextGood c ⌝ }
     requires { ⌜ (from ≤ length (now s)) × (first ≤ from + 1) ⌝ }
     ensures { λ t. ⌜ t ≡ componentTest c (now (paper .entry)) q j (itemsOf 0 (linesFrom (now (s .entry)) from first)) ⌝ }
 {
@@ -110,7 +111,7 @@ fn trial_here(
     requires { ⌜ Fits (now paper) q ⌝ }
     requires { ⌜ recordsGood (now paper) q ≡ true ⌝ }
     requires { ⌜ j < q .components .count ⌝ }
-    requires { ⌜ c .shift ≤ 100800 ⌝ }
+    requires { ⌜ ContextGood c ⌝ }
     requires { ⌜ (at ≤ length (now s)) × (first ≤ at + 1) ⌝ }
     ensures { λ t. ⌜ t ≡ trialHere c (now (paper .entry)) q j (now (name .entry)) (now (s .entry)) at first ⌝ }
 {
@@ -137,7 +138,7 @@ fn children_hold(
     requires { ⌜ Fits (now paper) q ⌝ }
     requires { ⌜ recordsGood (now paper) q ≡ true ⌝ }
     requires { ⌜ from ≤ q .components .count ⌝ }
-    requires { ⌜ c .shift ≤ 100800 ⌝ }
+    requires { ⌜ ContextGood c ⌝ }
     requires { ⌜ (at ≤ length (now s)) × (first ≤ at + 1) ⌝ }
     ensures { λ t. ⌜ t ≡ childrenHold c (now (paper .entry)) q (q .components .count - from) parent (itemsOf 0 (linesFrom (now (s .entry)) at first)) ⌝ }
 {
@@ -176,7 +177,7 @@ fn alone_holds(paper: &[u8], q: Sections, j: usize, name: &[u8], s: &[u8], at: u
 pub fn query_holds(paper: &[u8], q: Sections, s: &[u8], c: Context) -> bool
     requires { ⌜ Fits (now paper) q ⌝ }
     requires { ⌜ recordsGood (now paper) q ≡ true ⌝ }
-    requires { ⌜ c .shift ≤ 100800 ⌝ }
+    requires { ⌜ ContextGood c ⌝ }
     ensures { λ t. ⌜ t ≡ queryHolds c (now (paper .entry)) q (treeIn (now (s .entry))) ⌝ }
 {
     component_holds(paper, q, 0, s, 0, 1, c)

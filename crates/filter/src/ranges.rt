@@ -14,18 +14,18 @@ use property::Scope;
 use recurrence::time_range;
 use values::times::Context;
 ghost use mathlib.Core.Path.{_≡_};
-ghost use Prim.Native.Nat.{_≤_};
+ghost use Rattle.values.specs.Times.{ContextGood};
 ghost use Rattle.line.specs.Reading.{lineOf};
 ghost use Rattle.property_tests.specs.PropertyTests.{propertiesAt};
 ghost use Rattle.calendar.specs.Meaning.{blockPeriods};
 ghost use Rattle.calendar.specs.Periods.{periodsFrom};
 ghost use Rattle.calendar.specs.Places.{blockAt};
-ghost use Rattle.recurrence.specs.TimeRange.{blockIn};
-ghost use Rattle.filter.specs.Places.{somePeriodIn, givesPeriods, lineIn, linesIn, blockLinesIn};
+ghost use Rattle.recurrence.specs.TimeRange.{periodsOverlap, blockIn};
+ghost use Rattle.filter.specs.Places.{givesPeriods, lineIn, linesIn, blockLinesIn};
 
-// Does some period of a value touch the range?
+// Does some period of a value overlap the range?
 fn value_in(v: &[u8], a: u64, b: u64) -> bool
-    ensures { λ r. ⌜ r ≡ somePeriodIn a b (periodsFrom (now (v .entry)) 0) ⌝ }
+    ensures { λ r. ⌜ r ≡ periodsOverlap a b (periodsFrom (now (v .entry)) 0) ⌝ }
 {
     let mut at: usize = 0;
     loop {
@@ -42,10 +42,10 @@ fn value_in(v: &[u8], a: u64, b: u64) -> bool
 }
 
 // Does a line give periods?
-fn says_periods(said: PropertyValue) -> bool
-    ensures { λ r. ⌜ r ≡ givesPeriods said ⌝ }
+fn gives_periods(value: PropertyValue) -> bool
+    ensures { λ r. ⌜ r ≡ givesPeriods value ⌝ }
 {
-    match said {
+    match value {
         PropertyValue::Nothing => false,
         PropertyValue::Unsupported => false,
         PropertyValue::Bad => false,
@@ -59,21 +59,21 @@ fn says_periods(said: PropertyValue) -> bool
     }
 }
 
-// Does some period of a line touch the range?
+// Does some period of a line overlap the range?
 fn line_in(line: &[u8], c: Context, a: u64, b: u64) -> bool
-    requires { ⌜ c .shift ≤ 100800 ⌝ }
+    requires { ⌜ ContextGood c ⌝ }
     ensures { λ r. ⌜ r ≡ lineIn c a b (lineOf (now (line .entry))) ⌝ }
 {
-    if says_periods(property::property_value_of(c, Scope::FreeBusy, line)) {
+    if gives_periods(property::property_value_of(c, Scope::FreeBusy, line)) {
         value_in(read::value(line), a, b)
     } else {
         false
     }
 }
 
-// Does some period of the component's own lines touch the range?
+// Does some period of the component's own lines overlap the range?
 fn lines_in(s: &[u8], from: usize, c: Context, a: u64, b: u64) -> bool
-    requires { ⌜ c .shift ≤ 100800 ⌝ }
+    requires { ⌜ ContextGood c ⌝ }
     ensures { λ r. ⌜ r ≡ linesIn c a b (propertiesAt (now (s .entry)) from) ⌝ }
 {
     let mut at = from;
@@ -96,7 +96,7 @@ fn lines_in(s: &[u8], from: usize, c: Context, a: u64, b: u64) -> bool
 
 // A block with both ends goes by them, any other by its periods.
 fn bounds_in(k: Block, s: &[u8], at: usize, c: Context, a: u64, b: u64) -> bool
-    requires { ⌜ c .shift ≤ 100800 ⌝ }
+    requires { ⌜ ContextGood c ⌝ }
     ensures { λ r. ⌜ r ≡ blockIn k (blockPeriods c (propertiesAt (now (s .entry)) at)) a b ⌝ }
 {
     let start = k.start;
@@ -112,7 +112,7 @@ fn bounds_in(k: Block, s: &[u8], at: usize, c: Context, a: u64, b: u64) -> bool
 
 // Is the block whose items begin here in the range?
 pub fn block_in_at(s: &[u8], at: usize, c: Context, a: u64, b: u64) -> bool
-    requires { ⌜ c .shift ≤ 100800 ⌝ }
+    requires { ⌜ ContextGood c ⌝ }
     ensures { λ r. ⌜ r ≡ blockLinesIn c (blockAt c (now (s .entry)) at) (propertiesAt (now (s .entry)) at) a b ⌝ }
 {
     match places::block_at(s, at, c) {

@@ -12,6 +12,7 @@ use values::times::Context;
 ghost use mathlib.Core.Path.{_≡_};
 ghost use mathlib.Core.Bool.{true};
 ghost use Prim.Native.Nat.{_≤_};
+ghost use Rattle.values.specs.Times.{ContextGood};
 ghost use Rattle.query.specs.Fits.{Fits};
 ghost use Rattle.query_check.specs.WellFormed.{recordsGood};
 ghost use Rattle.filter.specs.Trials.{trialIn, trialOf, trialGoesOn, trialPasses, Tried, SmallTrial};
@@ -26,7 +27,7 @@ pub enum Trial {
 
 // The trial of the component of this scope, whose items begin here, against a range.
 fn trial_in(s: &[u8], at: usize, c: Context, scope: Scope, a: u64, b: u64) -> Trial
-    requires { ⌜ c .shift ≤ 100800 ⌝ }
+    requires { ⌜ ContextGood c ⌝ }
     ensures { λ t. ⌜ t ≡ trialIn c scope (now (s .entry)) at a b ⌝ }
 {
     match scope {
@@ -52,7 +53,7 @@ pub fn trial_of(
     requires { ⌜ Fits (now paper) q ⌝ }
     requires { ⌜ recordsGood (now paper) q ≡ true ⌝ }
     requires { ⌜ r ≤ q .ranges .count ⌝ }
-    requires { ⌜ c .shift ≤ 100800 ⌝ }
+    requires { ⌜ ContextGood c ⌝ }
     ensures { λ t. ⌜ t ≡ trialOf c (now (paper .entry)) q r scope (now (s .entry)) at ⌝ }
 {
     if r == 0 {

@@ -1,11 +1,13 @@
--- Busy types are told apart by their places.
+-- Busy types are told apart by their places; periods with and without their types.
 use Prim.Native.Nat.{ℕ, zero, suc}
 use mathlib.Core.Path.{_≡_, refl, sym, ap, _∙_}
 use mathlib.Core.Bool.{true}
+use mathlib.Core.List.{List, [], _∷_, _++_}
 use mathlib.Core.Logic.{_↔_}
 use borrow.Author.Tests.{eqb-true, eq-eqb}
+use Rattle.periods.specs.declared.Period.{Period}
 use Rattle.periods.specs.declared.BusyType.{BusyType}
-use Rattle.periods.specs.BusyTypes.{reportPlace, sameBusy}
+use Rattle.periods.specs.BusyTypes.{reportPlace, sameBusy, BusyPeriod, typed, periodsOf}
 
 -- the busy type that stands at a place
 typeAt : ℕ → BusyType
@@ -26,3 +28,12 @@ pub sameBusy-iff : (a b : BusyType) → (sameBusy a b ≡ true) ↔ (a ≡ b)
 unfolding sameBusy
 sameBusy-iff a b =
     (λ e. sym (type-there a) ∙ ap typeAt (eqb-true (reportPlace a) (reportPlace b) e) ∙ type-there b, λ e. eq-eqb (reportPlace a) (reportPlace b) (ap reportPlace e))
+
+-- a type given and left out again
+pub periodsOf-typed : (b : BusyType) (ps : List Period) → periodsOf (typed b ps) ≡ ps
+periodsOf-typed b [] = refl
+periodsOf-typed b (p ∷ ps) = ap (λ (qs : List Period). p ∷ qs) (periodsOf-typed b ps)
+
+pub periodsOf-append : (ps qs : List BusyPeriod) → periodsOf (ps ++ qs) ≡ (periodsOf ps ++ periodsOf qs)
+periodsOf-append [] qs = refl
+periodsOf-append (p ∷ ps) qs = ap (λ (rs : List Period). p .period ∷ rs) (periodsOf-append ps qs)

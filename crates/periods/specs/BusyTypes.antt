@@ -29,3 +29,8 @@ pub record BusyPeriod : Type 0 where
 abbrev pub typed : BusyType → List Period → List BusyPeriod
 typed b [] = []
 typed b (p ∷ ps) = record { busy = b; period = p } ∷ typed b ps
+
+-- the periods without their types
+abbrev pub periodsOf : List BusyPeriod → List Period
+periodsOf [] = []
+periodsOf (p ∷ ps) = p .period ∷ periodsOf ps

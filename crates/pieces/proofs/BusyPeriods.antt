@@ -8,12 +8,13 @@ use lib.Dec.{eqb, leb, ltb}
 use lib.ListN.{length}
 use lib.Seq.{sets}
 use borrow.Author.Tests.{ltb-true, ltb-false, lt-ltb, eqb-true}
+use Rattle.time.specs.Limits.{lastSecond}
 use Rattle.ascii.proofs.Bools.{and-left, and-right, and-both, clash, not-so}
 use Rattle.periods.specs.declared.BusyType.{BusyType}
 use Rattle.periods.specs.BusyTypes.{reportPlace, isBusy, BusyPeriod}
 use Rattle.events.specs.declared.Event.{Event}
 use Rattle.recurrence.specs.Instances.{startOf, endOf, occurs, lengthBy, instancesAtMost}
-use Rattle.recurrence.specs.Sizes.{Small}
+use Rattle.events.specs.Sizes.{EventSmall}
 use Rattle.recurrence.specs.TimeRange.{overlaps, instanceIn}
 use Rattle.recurrence.specs.Candidates.{FirstCandidate, startsBefore}
 use Rattle.recurrence.proofs.Candidates.{few-before}
@@ -61,12 +62,12 @@ module _ {place from to : ℕ} (busy : BusyType) (start end a b : ℕ) (e : plac
         go false q k = stored-full o n _ (ltb-false n 513 q)
 
 -- the numbers of a piece are small
-pub piece-small : {to : ℕ} (place from n b end : ℕ) → to ≡ min b end → b ≤ 4102444799 → (ltb n 513 && ltb place 3 && ltb from to) ≡ true
-    → (n < 513) × (from ≤ 4102444799) × (to ≤ 4102444799) × (place ≤ 3)
+pub piece-small : {to : ℕ} (place from n b end : ℕ) → to ≡ min b end → b ≤ lastSecond → (ltb n 513 && ltb place 3 && ltb from to) ≡ true
+    → (n < 513) × (from ≤ lastSecond) × (to ≤ lastSecond) × (place ≤ 3)
 piece-small {to} place from n b end t l h =
     let m = and-left (ltb n 513 && ltb place 3) _ h in
     let r = ltb-true from to (and-right (ltb n 513 && ltb place 3) _ h) in
-    let s : to ≤ 4102444799 = omega (arith) in
+    let s : to ≤ lastSecond = omega (arith) in
     (ltb-true n 513 (and-left (ltb n 513) _ m), omega arith, s, omega (arith, ltb-true place 3 (and-right (ltb n 513) _ m)))
 
 -- ---- one instance
@@ -189,5 +190,5 @@ module _ {e : Event} {a b : ℕ} {o₀ : List ℕ} {first : ℕ} {o : List ℕ} 
   walked-long = stored-long (w .so-far)
 
 -- an instance that starts before b is one of those up to 2099
-pub walked-days : {e : Event} {b k : ℕ} {t : Bool} (n : ℕ) → Small e → b ≤ 4102444799 → t ≡ startsBefore e b k → (ltb n 513 && t) ≡ true → k ≤ 47482
+pub walked-days : {e : Event} {b k : ℕ} {t : Bool} (n : ℕ) → EventSmall e → b ≤ lastSecond → t ≡ startsBefore e b k → (ltb n 513 && t) ≡ true → k ≤ 47482
 walked-days n h p q m = few-before h p (sym q ∙ and-right (ltb n 513) _ m)

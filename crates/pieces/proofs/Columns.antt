@@ -7,7 +7,7 @@ use lib.ListN.{length, take, set, length-append}
 use lib.Seq.{sets, length-sets, lt-length-set, sets-eq, take-nil, take-all, take-at}
 use Rattle.time.proofs.Stores.{sets-append}
 use Rattle.periods.specs.BusyTypes.{reportPlace, BusyPeriod}
-use Rattle.pieces.specs.Columns.{flat, stored, Stored}
+use Rattle.pieces.specs.Columns.{flat, stored, Stored, Room}
 
 flat-append : (ps qs : List BusyPeriod) → flat (ps ++ qs) ≡ flat ps ++ flat qs
 unfolding flat
@@ -132,7 +132,7 @@ pub stored-twice : (o : List ℕ) (i x j y : ℕ) {k : ℕ} → k < length o →
 stored-twice o i x j y h = lt-length-set (set o i x) j y (lt-length-set o i x h)
 
 -- what is noted from the front on is read from the front on
-pub stored-front : {o o′ : List ℕ} {r : ℕ} {ps : List BusyPeriod} → length o ≡ 1539 → Stored o 0 ps o′ r
+pub stored-front : {o o′ : List ℕ} {r : ℕ} {ps : List BusyPeriod} → Room o → Stored o 0 ps o′ r
     → (r ≡ length (stored 0 ps)) × (r ≤ 513) × (take (3 * r) o′ ≡ flat (stored 0 ps))
 stored-front {o} {o′} {r} {ps} l h =
     let c : r ≡ length (stored 0 ps) = omega (arith, h .count) in

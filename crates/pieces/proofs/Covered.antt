@@ -7,6 +7,7 @@ use mathlib.Core.List.{List, [], _∷_, _++_, List·Memᴰ, List·Memᴰ·head, 
 use native.Mathlib.Omega.{arith}
 use lib.Dec.{ltb}
 use borrow.Author.Tests.{ltb-true, ltb-false}
+use Rattle.time.specs.Limits.{lastSecond}
 use Rattle.ascii.proofs.Bools.{and-left, and-right, and-both, clash}
 use Rattle.periods.specs.declared.BusyType.{BusyType}
 use Rattle.periods.proofs.Periods.{secondIn-ends, secondIn-true}
@@ -17,9 +18,7 @@ use Rattle.events.specs.declared.Event.{Event}
 use Rattle.events.specs.declared.Block.{Block}
 use Rattle.periods.proofs.BusyTypes.{sameBusy-iff}
 use Rattle.recurrence.specs.Instances.{startOf, endOf, occurs, instancesAtMost}
-use Rattle.recurrence.specs.Sizes.{Small}
 use Rattle.recurrence.proofs.Sizes.{starts-long}
-use Rattle.recurrence.proofs.EventSizes.{event-sizes}
 use Rattle.pieces.specs.BusyPeriods.{listBelow, instancePeriod, eventPeriods, entryPeriods, busyPeriods, busyPeriod}
 use Rattle.pieces.specs.Covered.{coveredBy, covered, Covers, by-instance, by-period}
 use Rattle.pieces.proofs.Pieces.{covers-none, hits, hits-first}
@@ -147,7 +146,7 @@ entry-listed {p} y (z ∷ es) d m = go (List·Memᴰ·cases-cons d) (λ i. entry
     go (inr i) r = Memᴰ·append-right (entryPeriods z) (r i)
 
 -- an instance that starts by the last second is one of those below the bound
-few-starts : {e : Event} (k x : ℕ) → Small e → startOf e k ≤ x → x ≤ 4102444799 → k < instancesAtMost
+few-starts : {e : Event} (k x : ℕ) → EventSmall e → startOf e k ≤ x → x ≤ lastSecond → k < instancesAtMost
 few-starts k x h p q = omega (arith, starts-long k h)
 
 instance-listed : (e : Event) (k : ℕ) → k < instancesAtMost → occurs e k ≡ true
@@ -162,14 +161,14 @@ unfolding entryPeriods
 block-listed k ps m = m
 
 module _ (b : BusyType) (es : List Entry) (x : ℕ) where
-  covers-covered : x ≤ 4102444799 → ((e : Event) → List·Memᴰ (event e) es → EventSmall e) → Covers es b x → covered b es x ≡ true
+  covers-covered : x ≤ lastSecond → ((e : Event) → List·Memᴰ (event e) es → EventSmall e) → Covers es b x → covered b es x ≡ true
   unfolding covered
   covers-covered l small (by-instance e d t k s f g) =
-      listed-covered b x (busyPeriods es) (entry-listed (event e) es d (instance-listed e k (few-starts k x (event-sizes (small e d)) f l) s)) t f g
+      listed-covered b x (busyPeriods es) (entry-listed (event e) es d (instance-listed e k (few-starts k x (small e d) f l) s)) t f g
   covers-covered l small (by-period k ps d p m t f g) =
       listed-covered b x (busyPeriods es) (entry-listed (block k ps) es d (block-listed k ps m)) t f g
 
-  pub covered-iff : x ≤ 4102444799 → ((e : Event) → List·Memᴰ (event e) es → EventSmall e) → (covered b es x ≡ true) ↔ Covers es b x
+  pub covered-iff : x ≤ lastSecond → ((e : Event) → List·Memᴰ (event e) es → EventSmall e) → (covered b es x ≡ true) ↔ Covers es b x
   unfolding covered
   covered-iff l small =
       (λ h. let i = covered-listed b x (busyPeriods es) h in entries-cover b x es (i .listed) (i .type) (i .from) (i .to), covers-covered l small)

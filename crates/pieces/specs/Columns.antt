@@ -6,6 +6,10 @@ use lib.ListN.{length, take}
 use lib.Seq.{sets}
 use Rattle.periods.specs.BusyTypes.{reportPlace, BusyPeriod}
 
+-- a column has room for 513 pieces
+abbrev pub Room : List ℕ → Type 0
+Room o = length o ≡ 1539
+
 -- start, end and the type's place in a report
 unfoldable pub flat : List BusyPeriod → List ℕ
 flat [] = []

@@ -10,10 +10,11 @@ ghost use mathlib.Core.List.{[], _∷_};
 ghost use Prim.Native.Nat.{_*_, _≤_, _<_, min, max};
 ghost use lib.ListN.{length};
 ghost use lib.Seq.{sets};
-ghost use Rattle.recurrence.specs.Sizes.{Small};
+ghost use Rattle.time.specs.Limits.{lastSecond};
+ghost use Rattle.events.specs.Sizes.{EventSmall};
 ghost use Rattle.pieces.specs.BusyPeriods.{instancePeriod, eventPeriods, busyPeriod};
 ghost use Rattle.pieces.specs.Pieces.{pieceOf, piecesOf};
-ghost use Rattle.pieces.specs.Columns.{Stored};
+ghost use Rattle.pieces.specs.Columns.{Stored, Room};
 
 fn greater(a: u64, s: u64) -> u64
     ensures { λ r. ⌜ r ≡ max a s ⌝ }
@@ -29,10 +30,10 @@ fn lesser(b: u64, t: u64) -> u64
 
 // Three numbers behind n pieces.
 fn put_piece(column: &mut [u32], n: usize, from: u64, to: u64, place: usize)
-    requires { ⌜ length (now column) ≡ 1539 ⌝ }
+    requires { ⌜ Room (now column) ⌝ }
     requires { ⌜ n < 513 ⌝ }
-    requires { ⌜ from ≤ 4102444799 ⌝ }
-    requires { ⌜ to ≤ 4102444799 ⌝ }
+    requires { ⌜ from ≤ lastSecond ⌝ }
+    requires { ⌜ to ≤ lastSecond ⌝ }
     requires { ⌜ place ≤ 3 ⌝ }
     ensures { λ _. ⌜ now (column .exit) ≡ sets (now (column .entry)) (3 * n) (from ∷ to ∷ place ∷ []) ⌝ }
 {
@@ -52,9 +53,9 @@ pub fn store_period(
     a: u64,
     b: u64,
 ) -> usize
-    requires { ⌜ length (now column) ≡ 1539 ⌝ }
+    requires { ⌜ Room (now column) ⌝ }
     requires { ⌜ n ≤ 513 ⌝ }
-    requires { ⌜ b ≤ 4102444799 ⌝ }
+    requires { ⌜ b ≤ lastSecond ⌝ }
     ensures { λ r. ⌜ Stored (now (column .entry)) n (pieceOf a b (busyPeriod busy start end)) (now (column .exit)) r ⌝ }
 {
     let place = periods::report_place(busy);
@@ -70,11 +71,11 @@ pub fn store_period(
 
 // The piece of instance k, where it stands.
 fn store_instance(column: &mut [u32], n: usize, e: Event, k: u64, a: u64, b: u64) -> usize
-    requires { ⌜ length (now column) ≡ 1539 ⌝ }
+    requires { ⌜ Room (now column) ⌝ }
     requires { ⌜ n ≤ 513 ⌝ }
-    requires { ⌜ Small e ⌝ }
+    requires { ⌜ EventSmall e ⌝ }
     requires { ⌜ k ≤ 100000 ⌝ }
-    requires { ⌜ b ≤ 4102444799 ⌝ }
+    requires { ⌜ b ≤ lastSecond ⌝ }
     ensures { λ r. ⌜ Stored (now (column .entry)) n (piecesOf a b (instancePeriod e k)) (now (column .exit)) r ⌝ }
 {
     if instance::occurs(e, k) {
@@ -88,11 +89,11 @@ fn store_instance(column: &mut [u32], n: usize, e: Event, k: u64, a: u64, b: u64
 
 // The pieces of an event: those before the first candidate, and those after the last start, have none.
 pub fn store_event(column: &mut [u32], first: usize, e: Event, a: u64, b: u64) -> usize
-    requires { ⌜ length (now column) ≡ 1539 ⌝ }
+    requires { ⌜ Room (now column) ⌝ }
     requires { ⌜ first ≤ 513 ⌝ }
-    requires { ⌜ Small e ⌝ }
+    requires { ⌜ EventSmall e ⌝ }
     requires { ⌜ a < b ⌝ }
-    requires { ⌜ b ≤ 4102444799 ⌝ }
+    requires { ⌜ b ≤ lastSecond ⌝ }
     ensures { λ r. ⌜ Stored (now (column .entry)) first (piecesOf a b (eventPeriods e)) (now (column .exit)) r ⌝ }
 {
     let mut n = first;

@@ -20,7 +20,7 @@ ghost use Prim.Native.Nat.{ℕ, _≤_};
 ghost use lib.ListN.{getD};
 ghost use Rattle.ascii.specs.Bytes.{upper};
 ghost use Rattle.line.specs.Reading.{valueOf, lineOf};
-ghost use Rattle.values.specs.Times.{readTime, timeOf};
+ghost use Rattle.values.specs.Times.{readTime, timeOf, ContextGood};
 ghost use Rattle.values.specs.Period.{periodItems, allPeriods};
 ghost use Rattle.property.specs.Properties.{propertyOf, timeIn, startBy, endBy, unlessZoned};
 ghost use Rattle.property.specs.Properties.{durationBy, ruleValue, statusNamed, busyNamed, busyOf, periodsValue, valueAs, propertyValueOf};
@@ -203,7 +203,7 @@ fn time_in(scope: Scope, r: TimeRead) -> TimeRead
 
 // The time of a line without parameters, whose value is v: a DATE-TIME.
 fn plain_time(c: Context, scope: Scope, v: &[u8]) -> TimeRead
-    requires { ⌜ c .shift ≤ 100800 ⌝ }
+    requires { ⌜ ContextGood c ⌝ }
     ensures { λ r. ⌜ r ≡ timeIn scope (readTime c Form.DateTime (now (v .entry))) ⌝ }
 {
     time_in(scope, times::read_time(c, Form::DateTime, v))
@@ -211,7 +211,7 @@ fn plain_time(c: Context, scope: Scope, v: &[u8]) -> TimeRead
 
 // The time of a line whose value is v, in the form that VALUE asks for.
 fn time_of(c: Context, scope: Scope, line: &[u8], v: &[u8]) -> TimeRead
-    requires { ⌜ c .shift ≤ 100800 ⌝ }
+    requires { ⌜ ContextGood c ⌝ }
     requires { ⌜ now v ≡ valueOf (now line) ⌝ }
     ensures { λ r. ⌜ r ≡ timeIn scope (timeOf c (lineOf (now (line .entry)))) ⌝ }
 {
@@ -321,7 +321,7 @@ fn periods_value(line: &[u8], v: &[u8]) -> PropertyValue
 
 // What a line says as the property. Its value is v.
 fn value_as(property: Property, c: Context, scope: Scope, line: &[u8], v: &[u8]) -> PropertyValue
-    requires { ⌜ c .shift ≤ 100800 ⌝ }
+    requires { ⌜ ContextGood c ⌝ }
     requires { ⌜ now v ≡ valueOf (now line) ⌝ }
     ensures { λ r. ⌜ r ≡ valueAs property c scope (lineOf (now (line .entry))) ⌝ }
 {
@@ -340,7 +340,7 @@ fn value_as(property: Property, c: Context, scope: Scope, line: &[u8], v: &[u8])
 
 // The same, where the value has not been looked for yet: a line that is not read needs none.
 fn value_if_read(property: Property, c: Context, scope: Scope, line: &[u8]) -> PropertyValue
-    requires { ⌜ c .shift ≤ 100800 ⌝ }
+    requires { ⌜ ContextGood c ⌝ }
     ensures { λ r. ⌜ r ≡ valueAs property c scope (lineOf (now (line .entry))) ⌝ }
 {
     match property {
@@ -368,7 +368,7 @@ fn plain_property(
     line: &[u8],
     v: &[u8],
 ) -> PropertyValue
-    requires { ⌜ c .shift ≤ 100800 ⌝ }
+    requires { ⌜ ContextGood c ⌝ }
     requires { ⌜ lineOf (now line) .parameters ≡ [] ⌝ }
     requires { ⌜ now v ≡ valueOf (now line) ⌝ }
     ensures { λ r. ⌜ r ≡ valueAs property c scope (lineOf (now (line .entry))) ⌝ }
@@ -383,7 +383,7 @@ fn plain_property(
 
 // What a line says by its name, whatever its first byte.
 pub fn property_value_named(c: Context, scope: Scope, line: &[u8]) -> PropertyValue
-    requires { ⌜ c .shift ≤ 100800 ⌝ }
+    requires { ⌜ ContextGood c ⌝ }
     ensures { λ r. ⌜ r ≡ propertyValueOf c scope (lineOf (now (line .entry))) ⌝ }
 {
     let name = line::read::name(line);
@@ -397,7 +397,7 @@ pub fn property_value_named(c: Context, scope: Scope, line: &[u8]) -> PropertyVa
 
 // What a line says, directly in the component. Only its first byte is asked here, so that this much can stand in the loops over lines.
 pub fn property_value_of(c: Context, scope: Scope, line: &[u8]) -> PropertyValue
-    requires { ⌜ c .shift ≤ 100800 ⌝ }
+    requires { ⌜ ContextGood c ⌝ }
     ensures { λ r. ⌜ r ≡ propertyValueOf c scope (lineOf (now (line .entry))) ⌝ }
 {
     if !may_be_read(scope, first_upper(line)) {

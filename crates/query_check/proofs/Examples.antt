@@ -5,6 +5,7 @@ use mathlib.Core.Bool.{Bool, true, _&&_}
 use mathlib.Core.List.{List, [], _∷_, _++_}
 use lib.Dec.{eqb}
 use borrow.Author.Tests.{eqb-true}
+use Rattle.time.specs.Limits.{rangeGood}
 use Rattle.ascii.specs.Bytes.{upper, isNameByte, isLetter, isDigit}
 use Rattle.ascii.specs.Names.{sameName, isName}
 use Rattle.ascii.specs.Words.{ascii}
@@ -91,5 +92,5 @@ table =
     ∷ []
 
 pub examples : AllHold table
-unfolding byteAt countFits placeWithin behindRecords behindText behindTexts behindTextSection sectionsOf number8 rangeStart rangeEnd textPlace textFrom textOf componentAt propertyAt parameterAt everyBelow someBelow rangeRecordGood nameGood hasChildComponent hasProperty hasParameterRecord parentGood componentGood propertyGood parameterGood rangesGood componentsGood propertiesGood parametersGood recordsGood sectionsGood queryGood componentMisplaced componentsMisplaced propertiesMisplaced rangeMisplaced placed queryRead upper isNameByte isLetter isDigit sameName isName
+unfolding byteAt countFits placeWithin behindRecords behindText behindTexts behindTextSection sectionsOf number8 rangeStart rangeEnd textPlace textFrom textOf componentAt propertyAt parameterAt everyBelow someBelow rangeRecordGood rangeGood nameGood hasChildComponent hasProperty hasParameterRecord parentGood componentGood propertyGood parameterGood rangesGood componentsGood propertiesGood parametersGood recordsGood sectionsGood queryGood componentMisplaced componentsMisplaced propertiesMisplaced rangeMisplaced placed queryRead upper isNameByte isLetter isDigit sameName isName
 examples = passed table refl

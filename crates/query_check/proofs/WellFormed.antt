@@ -9,6 +9,7 @@ use native.Mathlib.Omega.{arith}
 use lib.Dec.{eqb, ltb, leb}
 use lib.ListN.{length}
 use borrow.Author.Tests.{ltb-true, ltb-false, le-ltb, leb-true, eqb-true, lt-ltb, le-leb, eq-eqb, ne-eqb, not-true, not-false}
+use Rattle.time.specs.Limits.{lastSecond, rangeGood}
 use Rattle.ascii.specs.Names.{isName, sameName}
 use Rattle.ascii.specs.Words.{ascii}
 use Rattle.ascii.proofs.Bools.{and-left, and-right, and-both, clash, not-so}
@@ -64,15 +65,15 @@ flag-tests flag text g =
 
 module _ (s : List ℕ) (q : Sections) where
   range-says : (i : ℕ) → rangeRecordGood s q i ≡ true → GoodRange s q i
-  unfolding rangeRecordGood
+  unfolding rangeRecordGood rangeGood
   range-says i e =
       record {
-        start-first = ltb-true _ _ (and-left (ltb (rangeStart s q i) (rangeEnd s q i)) (leb (rangeEnd s q i) 4102444799) e);
-        end-limit = leb-true _ _ (and-right (ltb (rangeStart s q i) (rangeEnd s q i)) (leb (rangeEnd s q i) 4102444799) e);
+        start-first = ltb-true _ _ (and-left (ltb (rangeStart s q i) (rangeEnd s q i)) (leb (rangeEnd s q i) lastSecond) e);
+        end-limit = leb-true _ _ (and-right (ltb (rangeStart s q i) (rangeEnd s q i)) (leb (rangeEnd s q i) lastSecond) e);
       }
 
   range-tests : (i : ℕ) → GoodRange s q i → rangeRecordGood s q i ≡ true
-  unfolding rangeRecordGood
+  unfolding rangeRecordGood rangeGood
   range-tests i g = and-both (lt-ltb _ _ (g .start-first)) (le-leb _ _ (g .end-limit))
 
   name-says : (n : ℕ) → nameGood s q n ≡ true → GoodName s q n

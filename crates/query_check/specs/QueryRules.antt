@@ -5,6 +5,7 @@ use mathlib.Core.Bool.{true}
 use mathlib.Core.Logic.{_⊎_}
 use mathlib.Core.List.{List, map}
 use lib.ListN.{length}
+use Rattle.time.specs.Limits.{lastSecond}
 use Rattle.ascii.specs.Bytes.{upper}
 use Rattle.ascii.specs.Names.{isName}
 use Rattle.ascii.specs.Words.{ascii}
@@ -22,7 +23,7 @@ Spells t w = map upper t ≡ map upper w
 -- a range: start before end, both within the limits
 pub record GoodRange (s : List ℕ) (q : Sections) (i : ℕ) : Type 0 where
   pub start-first : rangeStart s q i < rangeEnd s q i
-  pub end-limit : rangeEnd s q i ≤ 4102444799
+  pub end-limit : rangeEnd s q i ≤ lastSecond
 
 -- a name: the number of a text of one or more name bytes
 pub record GoodName (s : List ℕ) (q : Sections) (n : ℕ) : Type 0 where

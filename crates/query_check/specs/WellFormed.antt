@@ -6,6 +6,7 @@ use mathlib.Core.Bool.{Bool, true, false, cond, not, _&&_, _||_}
 use mathlib.Core.List.{List}
 use lib.Dec.{eqb, ltb, leb}
 use lib.ListN.{length}
+use Rattle.time.specs.Limits.{rangeGood}
 use Rattle.ascii.specs.Names.{isName, sameName}
 use Rattle.ascii.specs.Words.{ascii}
 use Rattle.query.specs.Counting.{everyBelow, someBelow, implies}
@@ -21,7 +22,7 @@ use Rattle.query_check.specs.declared.QueryRead.{QueryRead}
 
 -- a range: start before end, both within the limits
 unfoldable pub rangeRecordGood : List ℕ → Sections → ℕ → Bool
-rangeRecordGood s q i = ltb (rangeStart s q i) (rangeEnd s q i) && leb (rangeEnd s q i) 4102444799
+rangeRecordGood s q i = rangeGood (rangeStart s q i) (rangeEnd s q i)
 
 -- a name: the number of a text of one or more name bytes
 unfoldable pub nameGood : List ℕ → Sections → ℕ → Bool

@@ -7,6 +7,7 @@ use query::Sections;
 use query::SectionsRead;
 use query::fields;
 use query::place;
+use time::limits;
 ghost use mathlib.Core.Path.{_≡_};
 ghost use mathlib.Core.Bool.{true};
 ghost use Prim.Native.Nat.{_<_};
@@ -31,7 +32,7 @@ fn range_record_good(s: &[u8], q: Sections, i: usize) -> bool
 {
     let start = fields::range_start(s, q, i);
     let end = fields::range_end(s, q, i);
-    (start < end) & (end <= 4102444799)
+    (start < end) & (end <= limits::LAST_SECOND)
 }
 
 // The number of a text of one or more name bytes.

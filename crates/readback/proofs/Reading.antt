@@ -49,11 +49,9 @@ between-rising s e h = rw (lt-ltb s e h)
 
 module _ (c : Context) {r : Report} (w : Writable r) where
   start-limit : r .start ≤ lastSecond
-  unfolding lastSecond
   start-limit = omega (arith, w .start-first, w .end-limit)
 
   end-limit : r .end ≤ lastSecond
-  unfolding lastSecond
   end-limit = w .end-limit
 
   lines-faultless : faultIn c Scope.FreeBusy (numberedFrom 5 (blockContent r)) ValueCheck.Good ≡ ValueCheck.Good

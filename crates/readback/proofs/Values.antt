@@ -123,7 +123,6 @@ module _ (c : Context) where
 -- ---- those of a report that can be written
 
 typed-good : (b : BusyType) {ps : List Period} → GoodPeriods ps → AllGood (typed b ps)
-unfolding lastSecond
 typed-good b Report.none = no-period
 typed-good b (Report.then h k g) = one-good (record { rising = h; within-limits = k }) (typed-good b g)
 

@@ -5,10 +5,11 @@ use mathlib.Core.Bool.{Bool, true, false}
 use native.Mathlib.Omega.{arith}
 use lib.Dec.{ltb}
 use borrow.Author.Tests.{ltb-true, ltb-false}
+use Rattle.time.specs.Limits.{lastSecond}
 use Rattle.ascii.proofs.Bools.{and-right, clash, not-so}
 use Rattle.events.specs.declared.Event.{Event}
 use Rattle.recurrence.specs.Instances.{stepOf, startOf, isInstance}
-use Rattle.recurrence.specs.Sizes.{Small}
+use Rattle.events.specs.Sizes.{EventSmall}
 use Rattle.recurrence.specs.TimeRange.{instanceIn, EventIn, Decides}
 use Rattle.recurrence.specs.Candidates.{spanOf, candidateOf, FirstCandidate, startsBefore}
 use Rattle.recurrence.proofs.Sizes.{step-long, starts-long, before-first, from-first, first-few}
@@ -20,12 +21,12 @@ unfolding startOf
 before-candidate e a g b j p =
     not-so _ (λ q. omega (arith, in-range-ends e a b j q, before-first j (e .start) (stepOf e) (spanOf e) a g p))
 
-ends-after-first : {e : Event} (a : ℕ) → Small e → a < startOf e (candidateOf e a) + spanOf e
+ends-after-first : {e : Event} (a : ℕ) → EventSmall e → a < startOf e (candidateOf e a) + spanOf e
 unfolding startOf
 ends-after-first {e} a h = from-first (e .start) (stepOf e) (spanOf e) a (omega (arith, step-long h))
 
 -- the division finds the first candidate
-pub first-is-candidate : {e : Event} {a : ℕ} → Small e → a ≤ 4102444799 → FirstCandidate e a (candidateOf e a)
+pub first-is-candidate : {e : Event} {a : ℕ} → EventSmall e → a ≤ lastSecond → FirstCandidate e a (candidateOf e a)
 first-is-candidate {e} {a} h p =
     record {
       none-before = before-candidate e a (omega (arith, step-long h));
@@ -34,7 +35,7 @@ first-is-candidate {e} {a} h p =
     }
 
 -- an instance that starts by 2099 is one of so many
-pub few-before : {e : Event} {b k : ℕ} → Small e → b ≤ 4102444799 → startsBefore e b k ≡ true → k ≤ 47482
+pub few-before : {e : Event} {b k : ℕ} → EventSmall e → b ≤ lastSecond → startsBefore e b k ≡ true → k ≤ 47482
 unfolding startsBefore
 few-before {e} {b} {k} h p q = omega (arith, starts-long k h, ltb-true (startOf e k) b (and-right (isInstance e k) _ q))
 

@@ -1,5 +1,4 @@
 pub mod Sizes
-pub mod EventSizes
 pub mod Instances
 pub mod Candidates
 pub mod Blocks

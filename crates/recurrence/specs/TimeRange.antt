@@ -4,7 +4,8 @@ use mathlib.Core.Path.{_≡_}
 use mathlib.Core.Bool.{Bool, true, false, cond, _&&_, _||_}
 use mathlib.Core.List.{List, [], _∷_}
 use lib.Dec.{eqb, ltb, leb}
-use Rattle.periods.specs.BusyTypes.{BusyPeriod}
+use Rattle.periods.specs.declared.Period.{Period}
+use Rattle.periods.specs.BusyTypes.{BusyPeriod, periodsOf}
 use Rattle.events.specs.declared.Event.{Event}
 use Rattle.events.specs.declared.Bound.{Bound}
 use Rattle.events.specs.declared.Block.{Block}
@@ -28,15 +29,15 @@ unfoldable pub betweenIn : ℕ → ℕ → ℕ → ℕ → Bool
 betweenIn a b s t = overlaps a b s t
 
 -- any other block goes by its periods, free ones too; without one it is in no range
-unfoldable pub periodsOverlap : ℕ → ℕ → List BusyPeriod → Bool
+unfoldable pub periodsOverlap : ℕ → ℕ → List Period → Bool
 periodsOverlap a b [] = false
-periodsOverlap a b (p ∷ ps) = overlaps a b (p .period .start) (p .period .end) || periodsOverlap a b ps
+periodsOverlap a b (p ∷ ps) = overlaps a b (p .start) (p .end) || periodsOverlap a b ps
 
 unfoldable pub boundsIn : ℕ → ℕ → Bound → Bound → List BusyPeriod → Bool
 boundsIn a b (Bound.At s) (Bound.At t) ps = betweenIn a b s t
-boundsIn a b (Bound.At s) Bound.None ps = periodsOverlap a b ps
-boundsIn a b Bound.None (Bound.At t) ps = periodsOverlap a b ps
-boundsIn a b Bound.None Bound.None ps = periodsOverlap a b ps
+boundsIn a b (Bound.At s) Bound.None ps = periodsOverlap a b (periodsOf ps)
+boundsIn a b Bound.None (Bound.At t) ps = periodsOverlap a b (periodsOf ps)
+boundsIn a b Bound.None Bound.None ps = periodsOverlap a b (periodsOf ps)
 
 unfoldable pub blockIn : Block → List BusyPeriod → ℕ → ℕ → Bool
 blockIn k ps a b = boundsIn a b (k .start) (k .end) ps

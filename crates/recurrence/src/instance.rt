@@ -8,11 +8,11 @@ use time::duration;
 ghost use mathlib.Core.Path.{_≡_};
 ghost use Prim.Native.Nat.{_≤_};
 ghost use Rattle.recurrence.specs.Instances.{stepOf, startOf, repeats, isInstance, occurs, defaultLength, lengthBy};
-ghost use Rattle.recurrence.specs.Sizes.{Small};
+ghost use Rattle.events.specs.Sizes.{EventSmall};
 
 // The seconds from one start to the next.
 pub fn step_of(e: Event) -> u64
-    requires { ⌜ Small e ⌝ }
+    requires { ⌜ EventSmall e ⌝ }
     ensures { λ r. ⌜ r ≡ stepOf e ⌝ }
 {
     e.days * e.interval * 86400
@@ -20,7 +20,7 @@ pub fn step_of(e: Event) -> u64
 
 // Instance k starts k steps after the first.
 pub fn start_of(e: Event, k: u64) -> u64
-    requires { ⌜ Small e ⌝ }
+    requires { ⌜ EventSmall e ⌝ }
     requires { ⌜ k ≤ 100000 ⌝ }
     ensures { λ r. ⌜ r ≡ startOf e k ⌝ }
 {
@@ -40,7 +40,7 @@ fn default_length(kind: Kind) -> u64
 
 // End minus start, or the duration, or the default.
 pub fn length_of(e: Event) -> u64
-    requires { ⌜ Small e ⌝ }
+    requires { ⌜ EventSmall e ⌝ }
     ensures { λ r. ⌜ r ≡ lengthBy e (e .ending) ⌝ }
 {
     let ending = e.ending;
@@ -68,7 +68,7 @@ fn repeats(rule: Repeat, s: u64, k: u64) -> bool
 
 // Is there an instance k by the rule?
 pub fn is_instance(e: Event, k: u64) -> bool
-    requires { ⌜ Small e ⌝ }
+    requires { ⌜ EventSmall e ⌝ }
     requires { ⌜ k ≤ 100000 ⌝ }
     ensures { λ r. ⌜ r ≡ isInstance e k ⌝ }
 {
@@ -78,7 +78,7 @@ pub fn is_instance(e: Event, k: u64) -> bool
 
 // Does instance k stand? Each of the rule's does.
 pub fn occurs(e: Event, k: u64) -> bool
-    requires { ⌜ Small e ⌝ }
+    requires { ⌜ EventSmall e ⌝ }
     requires { ⌜ k ≤ 100000 ⌝ }
     ensures { λ r. ⌜ r ≡ occurs e k ⌝ }
 {

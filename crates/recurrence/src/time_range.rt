@@ -4,7 +4,8 @@ use crate::instance;
 use events::Event;
 ghost use mathlib.Core.Path.{_≡_};
 ghost use Prim.Native.Nat.{_≤_};
-ghost use Rattle.recurrence.specs.Sizes.{Small};
+ghost use Rattle.time.specs.Limits.{lastSecond};
+ghost use Rattle.events.specs.Sizes.{EventSmall};
 ghost use Rattle.recurrence.specs.TimeRange.{overlaps, instanceIn, betweenIn};
 ghost use Rattle.recurrence.specs.Candidates.{firstAt, spanOf, FirstCandidate, startsBefore};
 
@@ -28,7 +29,7 @@ pub fn between_in(a: u64, b: u64, s: u64, t: u64) -> bool
 
 // Is instance k in range?
 pub fn instance_in(e: Event, a: u64, b: u64, k: u64) -> bool
-    requires { ⌜ Small e ⌝ }
+    requires { ⌜ EventSmall e ⌝ }
     requires { ⌜ k ≤ 100000 ⌝ }
     ensures { λ r. ⌜ r ≡ instanceIn e a b k ⌝ }
 {
@@ -50,7 +51,7 @@ pub fn first_at(s: u64, d: u64, span: u64, a: u64) -> u64
 
 // The length, and one second where there is none.
 fn span_of(e: Event) -> u64
-    requires { ⌜ Small e ⌝ }
+    requires { ⌜ EventSmall e ⌝ }
     ensures { λ r. ⌜ r ≡ spanOf e ⌝ }
 {
     let length = instance::length_of(e);
@@ -59,8 +60,8 @@ fn span_of(e: Event) -> u64
 
 // The first instance that ends after a, by one division.
 pub fn first_candidate(e: Event, a: u64) -> u64
-    requires { ⌜ Small e ⌝ }
-    requires { ⌜ a ≤ 4102444799 ⌝ }
+    requires { ⌜ EventSmall e ⌝ }
+    requires { ⌜ a ≤ lastSecond ⌝ }
     ensures { λ r. ⌜ FirstCandidate e a r ⌝ }
 {
     first_at(e.start, instance::step_of(e), span_of(e), a)
@@ -68,7 +69,7 @@ pub fn first_candidate(e: Event, a: u64) -> u64
 
 // Is instance k the rule's, and does it start before b?
 pub fn starts_before(e: Event, b: u64, k: u64) -> bool
-    requires { ⌜ Small e ⌝ }
+    requires { ⌜ EventSmall e ⌝ }
     requires { ⌜ k ≤ 100000 ⌝ }
     ensures { λ r. ⌜ r ≡ startsBefore e b k ⌝ }
 {

@@ -5,6 +5,7 @@ use values::times::Context;
 ghost use mathlib.Core.Path.{_≡_};
 ghost use Prim.Native.Nat.{_≤_};
 ghost use lib.ListN.{length};
+ghost use Rattle.values.specs.Times.{ContextGood};
 ghost use Rattle.refusals.specs.Offsets.{offsetRead};
 ghost use Rattle.refusals.specs.Stages.{sizeFault, CalendarRead};
 
@@ -49,7 +50,7 @@ pub fn check_sizes(cal: &[u8], work: &[u8]) -> Fault
 // Unfolds the calendar to the front of the work buffer; then refusals 6 to 10.
 pub fn read_calendar(work: &mut [u8], cal: &[u8], c: Context) -> Reading
     requires { ⌜ length (now cal) ≤ length (now work) ⌝ }
-    requires { ⌜ c .shift ≤ 100800 ⌝ }
+    requires { ⌜ ContextGood c ⌝ }
     ensures { λ r. ⌜ CalendarRead c (now (cal .entry)) (now (work .entry)) (now (work .exit)) r ⌝ }
 {
     let n = text::unfold_into(work, cal);

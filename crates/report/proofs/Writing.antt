@@ -102,7 +102,6 @@ record Within (p : Period) (ps : List Period) : Type 0 where
   rest : GoodPeriods ps
 
 within : {p : Period} {ps : List Period} → GoodPeriods (p ∷ ps) → Within p ps
-unfolding lastSecond
 within (then s e g) = record { from-limit = omega arith; to-limit = e; rest = g }
 
 -- one line, and those behind it
@@ -191,7 +190,7 @@ put-report f t s x y z {c = c} u v e =
 -- what the parts of a report ask for, where it can be written and there is room for it
 module _ (f t s : ℕ) (x y z : Table) (w : Writable (reportOf f t s x y z)) {n : ℕ} (room : length (reportBytes (reportOf f t s x y z)) ≤ n) where
   pub opening-asks : (160 ≤ n) × (f ≤ lastSecond) × (t ≤ lastSecond) × (s ≤ lastSecond)
-  unfolding reportOf lastSecond
+  unfolding reportOf
   opening-asks = (omega (arith, tables-parts f t s x y z), omega (arith, w .start-first, w .end-limit), w .end-limit, w .stamp-limit)
 
   pub types-good : GoodPeriods (listed x) × GoodPeriods (listed y) × GoodPeriods (listed z)

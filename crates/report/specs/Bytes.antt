@@ -2,6 +2,7 @@
 use Prim.Native.Nat.{ℕ, _+_, _*_, _≤_, _<_}
 use mathlib.Core.List.{List, [], _∷_, _++_}
 use lib.ListN.{length}
+use Rattle.time.specs.Limits.{lastSecond}
 use Rattle.ascii.specs.Words.{ascii}
 use Rattle.text.specs.Lines.{joined}
 use Rattle.time.specs.Writing.{utcText}
@@ -55,13 +56,13 @@ reportBytes r = joined (reportLines r)
 -- each period has a second at least, and ends within the limits
 pub data GoodPeriods : List Period → Type 0 where
   none : GoodPeriods []
-  then : {p : Period} {ps : List Period} → p .start < p .end → p .end ≤ 4102444799 → GoodPeriods ps → GoodPeriods (p ∷ ps)
+  then : {p : Period} {ps : List Period} → p .start < p .end → p .end ≤ lastSecond → GoodPeriods ps → GoodPeriods (p ∷ ps)
 
 -- a report that can be written and read back: range, stamp and periods within the limits
 pub record Writable (r : Report) : Type 0 where
   pub start-first : r .start < r .end
-  pub end-limit : r .end ≤ 4102444799
-  pub stamp-limit : r .stamp ≤ 4102444799
+  pub end-limit : r .end ≤ lastSecond
+  pub stamp-limit : r .stamp ≤ lastSecond
   pub periods-good : (b : BusyType) → GoodPeriods (r .periods b)
 
 -- how many periods it has

@@ -18,7 +18,7 @@ use Rattle.time.specs.declared.duration.Weight.{Weight}
 use Rattle.time.specs.declared.duration.Reading.{Reading}
 use Rattle.time.specs.declared.duration.Duration.{Duration}
 use Rattle.time.specs.declared.duration.DurationRead.{DurationRead}
-use Rattle.time.specs.Duration.{on, timeStart, nextStage, weightOf, blank, withDigit, fitting, unitTo, withUnit, step, runs, finish, durationText, durationSeconds, withinLimit, limited, readDuration, rank, Small}
+use Rattle.time.specs.Duration.{on, timeStart, nextStage, weightOf, blank, withDigit, fitting, unitTo, withUnit, step, runs, finish, durationText, durationSeconds, withinLimit, limited, readDuration, rank, EventSmall}
 use Rattle.time.proofs.DateTime.{digit-range}
 use Rattle.time.proofs.Below as tables
 
@@ -54,7 +54,7 @@ weight-small w s e = rw e (weightOf-small s)
 six-digits : (d : ℕ) → d ≤ 6 → 10 ^ d ≤ 1000000
 six-digits d h = leb-true _ _ (tables.below (λ d. leb (10 ^ d) 1000000) 7 refl d (omega arith))
 
-pub number-small : (r : Reading) → Small r → r .number ≤ 999999
+pub number-small : (r : Reading) → EventSmall r → r .number ≤ 999999
 number-small r h = omega (arith, six-digits (r .digits) (h .digits-small), h .number-small)
 
 rank-small : (s : Stage) → rank s ≤ 8
@@ -70,7 +70,7 @@ rank-small Minutes = omega arith
 rank-small Seconds = omega arith
 rank-small Wrong = omega arith
 
-pub sums-small : (r : Reading) → Small r → (r .days ≤ 55999944) × (r .seconds ≤ 28799971200)
+pub sums-small : (r : Reading) → EventSmall r → (r .days ≤ 55999944) × (r .seconds ≤ 28799971200)
 sums-small r h = omega (arith, rank-small (r .stage), h .days-small, h .seconds-small)
 
 -- one digit more, of at most six
@@ -88,7 +88,7 @@ pub product-small : (n w : ℕ) → n ≤ 999999 → w ≤ 3600 → n * w ≤ 35
 product-small n w h k = mul-le-mul h k
 
 -- what a letter adds, and what it is added to, fits
-pub unit-fits : (r : Reading) → Small r → (w : Weight) (s : Stage) → w ≡ weightOf s
+pub unit-fits : (r : Reading) → EventSmall r → (w : Weight) (s : Stage) → w ≡ weightOf s
     → (w .0 ≤ 7) × (w .1 ≤ 3600) × (r .number * w .0 ≤ 3599996400) × (r .number * w .1 ≤ 3599996400)
     × (r .days ≤ 55999944) × (r .seconds ≤ 28799971200)
 unit-fits r h w s e =
@@ -150,16 +150,16 @@ unfolding finish
 finish-bad r w e t = rw (← e, t)
 
 -- what was read stays small
-pub blank-small : (s : Stage) → Small (blank s)
+pub blank-small : (s : Stage) → EventSmall (blank s)
 unfolding blank
 blank-small s = record { digits-small = omega arith; number-small = omega arith; days-small = omega arith; seconds-small = omega arith }
 
-withDigit-small : (r : Reading) (b : ℕ) → Small r → 48 ≤ b → b ≤ 57 → Small (withDigit r b)
+withDigit-small : (r : Reading) (b : ℕ) → EventSmall r → 48 ≤ b → b ≤ 57 → EventSmall (withDigit r b)
 unfolding withDigit
 withDigit-small r b h p q = go (ltb (r .digits) 6) refl
   where
     go : (t : Bool) → ltb (r .digits) 6 ≡ t
-        → Small (cond t (record { stage = r .stage; digits = r .digits + 1; number = r .number * 10 + (b - 48); days = r .days; seconds = r .seconds; timed = r .timed }) (blank Wrong))
+        → EventSmall (cond t (record { stage = r .stage; digits = r .digits + 1; number = r .number * 10 + (b - 48); days = r .days; seconds = r .seconds; timed = r .timed }) (blank Wrong))
     go true e =
         record {
           digits-small = omega (arith, ltb-true (r .digits) 6 e);
@@ -198,11 +198,11 @@ next-room n Minutes b h = room-on n Minutes b 83 Seconds Wrong (omega arith) (om
 next-room n Seconds b h = omega arith
 next-room n Wrong b h = omega arith
 
-unitTo-small : (r : Reading) (b : ℕ) (next : Stage) → Small r → Room (r .number) (r .stage) next → Small (unitTo r b next)
+unitTo-small : (r : Reading) (b : ℕ) (next : Stage) → EventSmall r → Room (r .number) (r .stage) next → EventSmall (unitTo r b next)
 unfolding unitTo
 unitTo-small r b next h room = go (fitting (weightOf next) (r .digits))
   where
-    go : (t : Bool) → Small (cond t
+    go : (t : Bool) → EventSmall (cond t
         (record {
           stage = next;
           digits = 0;
@@ -221,11 +221,11 @@ unitTo-small r b next h room = go (fitting (weightOf next) (r .digits))
         }
     go false = blank-small Wrong
 
-pub step-small : (r : Reading) (b : ℕ) → Small r → Small (step r b)
+pub step-small : (r : Reading) (b : ℕ) → EventSmall r → EventSmall (step r b)
 unfolding step withUnit
 step-small r b h = go (isDigit b) refl
   where
-    go : (t : Bool) → isDigit b ≡ t → Small (cond t (withDigit r b) (withUnit r (upper b)))
+    go : (t : Bool) → isDigit b ≡ t → EventSmall (cond t (withDigit r b) (withUnit r (upper b)))
     go true e = withDigit-small r b h (digit-range b e .0) (digit-range b e .1)
     go false e = unitTo-small r (upper b) (nextStage (r .stage) (upper b)) h (next-room (r .number) (r .stage) (upper b) (number-small r h))
 
@@ -238,7 +238,7 @@ pub runs-end : (r : Reading) (s : List ℕ) (i : ℕ) → length s ≤ i → run
 unfolding runs
 runs-end r s i h = rw (drop-end s i h)
 
-runs-small : (r : Reading) (l : List ℕ) → Small r → Small (runs r l)
+runs-small : (r : Reading) (l : List ℕ) → EventSmall r → EventSmall (runs r l)
 unfolding runs
 runs-small r [] h = h
 runs-small r (b ∷ l) h = runs-small (step r b) l (step-small r b h)
@@ -248,14 +248,14 @@ pub durationText-small : (l : List ℕ) (d : Duration) → durationText l ≡ Du
 unfolding durationText finish
 durationText-small l d e = go (runs (blank Start) l) (runs-small (blank Start) l (blank-small Start)) e
   where
-    answer : (r : Reading) (t : Bool) → Small r → cond t (DurationRead.Of (record { days = r .days; seconds = r .seconds; timed = r .timed })) DurationRead.Bad ≡ DurationRead.Of d
+    answer : (r : Reading) (t : Bool) → EventSmall r → cond t (DurationRead.Of (record { days = r .days; seconds = r .seconds; timed = r .timed })) DurationRead.Bad ≡ DurationRead.Of d
         → (d .days ≤ 55999944) × (d .seconds ≤ 28799971200)
     answer r true h e =
         let z : record { days = r .days; seconds = r .seconds; timed = r .timed } ≡ d = cc in
         rw (← z) (sums-small r h)
     answer r false h e = let z : _≡_ {A = ℕ} 0 1 = cc in absurd (omega arith)
 
-    go : (r : Reading) → Small r → finish r ≡ DurationRead.Of d → (d .days ≤ 55999944) × (d .seconds ≤ 28799971200)
+    go : (r : Reading) → EventSmall r → finish r ≡ DurationRead.Of d → (d .days ≤ 55999944) × (d .seconds ≤ 28799971200)
     go r h e = answer r (ltb 0 (weightOf (r .stage) .0 + weightOf (r .stage) .1) && ltb (r .digits) 1) h e
 
 pub readDuration-bad : (l : List ℕ) → durationText l ≡ DurationRead.Bad → DurationRead.Bad ≡ readDuration l

@@ -138,7 +138,7 @@ clock-sum t = omega arith
 
 -- what is written of a second reads as its clock
 pub read-written : (t : ℕ) → t ≤ lastSecond → readDateTime (utcText t) ≡ DateTime.At Kind.Utc (t + epoch)
-unfolding utcText lastSecond
+unfolding utcText
 read-written t h =
     let d : t / 86400 ≤ 47481 = omega arith in
     let p : Proper (t / 86400) = dayOf-proper (t / 86400) d in

@@ -130,7 +130,7 @@ rank Seconds = 7
 rank Wrong = 8
 
 -- how large what was read can be: a number of at most six digits, and a product of one such for each letter
-pub record Small (r : Reading) : Type 0 where
+pub record EventSmall (r : Reading) : Type 0 where
   pub digits-small : r .digits ≤ 6
   pub number-small : r .number < 10 ^ r .digits
   pub days-small : r .days ≤ rank (r .stage) * 6999993

@@ -1,8 +1,8 @@
 -- The limits of a second (document 01, Two questions): 19700101T000000Z is 0 and 20991231T235959Z the last.
 -- The offset, -50,400 to 50,400, is given as a shift, 50,400 more than it.
 use Prim.Native.Nat.{ℕ, _+_, _-_}
-use mathlib.Core.Bool.{cond, _&&_}
-use lib.Dec.{leb}
+use mathlib.Core.Bool.{Bool, cond, _&&_}
+use lib.Dec.{leb, ltb}
 use Rattle.time.specs.declared.date_time.Kind.{Kind}
 use Rattle.time.specs.declared.limits.Second.{Second}
 
@@ -11,8 +11,12 @@ unfoldable pub epoch : ℕ
 epoch = 62167219200
 
 -- 20991231T235959Z
-unfoldable pub lastSecond : ℕ
+abbrev pub lastSecond : ℕ
 lastSecond = 4102444799
+
+-- a range: start before end, both within the limits
+unfoldable pub rangeGood : ℕ → ℕ → Bool
+rangeGood a b = ltb a b && leb b lastSecond
 
 -- the seconds since a start, where they are within the limits
 unfoldable pub since : ℕ → ℕ → Second

@@ -2,7 +2,7 @@
 // Days and seconds are answered apart, and whether there was a time part.
 ghost use mathlib.Core.Path.{_≡_};
 ghost use Prim.Native.Nat.{_≤_};
-ghost use Rattle.time.specs.Duration.{Small, timeStart, nextStage, weightOf, blank, withDigit, withUnit, step, finish, durationText, durationSeconds, readDuration};
+ghost use Rattle.time.specs.Duration.{EventSmall, timeStart, nextStage, weightOf, blank, withDigit, withUnit, step, finish, durationText, durationSeconds, readDuration};
 
 // What was read before.
 pub enum Stage {
@@ -127,7 +127,7 @@ fn blank(stage: Stage) -> Reading
 
 // One digit more, of at most six.
 fn with_digit(r: Reading, b: u8) -> Reading
-    requires { ⌜ Small r ⌝ }
+    requires { ⌜ EventSmall r ⌝ }
     requires { ⌜ (48 ≤ b) × (b ≤ 57) ⌝ }
     ensures { λ q. ⌜ q ≡ withDigit r b ⌝ }
 {
@@ -148,7 +148,7 @@ fn with_digit(r: Reading, b: u8) -> Reading
 
 // A letter: a unit after a number, a mark after none.
 fn with_unit(r: Reading, letter: u8) -> Reading
-    requires { ⌜ Small r ⌝ }
+    requires { ⌜ EventSmall r ⌝ }
     ensures { λ q. ⌜ q ≡ withUnit r letter ⌝ }
 {
     let stage = r.stage;
@@ -174,7 +174,7 @@ fn with_unit(r: Reading, letter: u8) -> Reading
 
 // One byte more: a digit, or a letter in either case.
 fn step(r: Reading, b: u8) -> Reading
-    requires { ⌜ Small r ⌝ }
+    requires { ⌜ EventSmall r ⌝ }
     ensures { λ q. ⌜ q ≡ step r b ⌝ }
 {
     match b {

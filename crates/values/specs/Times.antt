@@ -1,5 +1,5 @@
 -- DATE and DATE-TIME values of a line (document 01, Values): by VALUE, by the offset, within the limits.
-use Prim.Native.Nat.{ℕ}
+use Prim.Native.Nat.{ℕ, _≤_}
 use mathlib.Core.Bool.{cond, _||_}
 use mathlib.Core.List.{List}
 use Rattle.ascii.specs.Names.{sameName}
@@ -15,6 +15,10 @@ use Rattle.values.specs.declared.times.Context.{Context}
 use Rattle.values.specs.declared.times.Time.{Time}
 use Rattle.values.specs.declared.times.TimeRead.{TimeRead}
 use Rattle.values.specs.declared.times.Form.{Form}
+
+-- a context that a call can hand on: a permitted offset, whose shift is from 0 to 100,800
+abbrev pub ContextGood : Context → Type 0
+ContextGood c = c .shift ≤ 100800
 
 -- a second within the limits is the time; any other is bad
 unfoldable pub atSecond : Kind → Second → TimeRead

@@ -9,6 +9,7 @@ use line::split;
 use time::date_time::Number;
 ghost use mathlib.Core.Path.{_≡_};
 ghost use Prim.Native.Nat.{_≤_, max};
+ghost use Rattle.values.specs.Times.{ContextGood};
 ghost use Rattle.values.specs.Rule.{numberTo, frequencyPart, intervalBy, countBy, untilBy, untilPart, namedPart, partOf};
 ghost use Rattle.values.specs.Rule.{noParts, withPart, ruleBy, ruleOf};
 
@@ -120,7 +121,7 @@ fn until_by(read: TimeRead) -> Part
 
 // UNTIL: eight bytes are a DATE, any other number of them a DATE-TIME.
 fn until_part(c: Context, v: &[u8]) -> Part
-    requires { ⌜ c .shift ≤ 100800 ⌝ }
+    requires { ⌜ ContextGood c ⌝ }
     ensures { λ r. ⌜ r ≡ untilPart c (now (v .entry)) ⌝ }
 {
     if v.len() == 8 {
@@ -131,7 +132,7 @@ fn until_part(c: Context, v: &[u8]) -> Part
 
 // A part by its name: any name but these four is unsupported.
 pub fn named_part(c: Context, name: &[u8], value: &[u8]) -> Part
-    requires { ⌜ c .shift ≤ 100800 ⌝ }
+    requires { ⌜ ContextGood c ⌝ }
     ensures { λ r. ⌜ r ≡ namedPart c (now (name .entry)) (now (value .entry)) ⌝ }
 {
     if ascii::same_name(name, b"FREQ") {
@@ -151,7 +152,7 @@ pub fn named_part(c: Context, name: &[u8], value: &[u8]) -> Part
 
 // A part: a name, the first equals sign and a value.
 pub fn part_of(c: Context, s: &[u8]) -> Part
-    requires { ⌜ c .shift ≤ 100800 ⌝ }
+    requires { ⌜ ContextGood c ⌝ }
     ensures { λ r. ⌜ r ≡ partOf c (now (s .entry)) ⌝ }
 {
     let e = split::find(s, 0, 61, false);
@@ -250,7 +251,7 @@ pub fn rule_by(p: Parts) -> RuleRead
 
 // The rule of a value, its parts cut at each semicolon.
 pub fn rule_of(c: Context, v: &[u8]) -> RuleRead
-    requires { ⌜ c .shift ≤ 100800 ⌝ }
+    requires { ⌜ ContextGood c ⌝ }
     ensures { λ r. ⌜ r ≡ ruleOf c (now (v .entry)) ⌝ }
 {
     let mut p = no_parts();

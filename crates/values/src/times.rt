@@ -6,9 +6,8 @@ use time::date_time::Kind;
 use time::limits;
 use time::limits::Second;
 ghost use mathlib.Core.Path.{_≡_};
-ghost use Prim.Native.Nat.{_≤_};
 ghost use Rattle.line.specs.Reading.{lineOf};
-ghost use Rattle.values.specs.Times.{atSecond, timeBy, readTime, formNamed, formOf, utcOnly};
+ghost use Rattle.values.specs.Times.{atSecond, timeBy, readTime, formNamed, formOf, utcOnly, ContextGood};
 
 // What values are read by: today the offset, as 50,400 more than it.
 pub struct Context {
@@ -73,7 +72,7 @@ fn at_second(kind: Kind, second: Second) -> TimeRead
 }
 
 fn time_by(c: Context, read: DateTime) -> TimeRead
-    requires { ⌜ c .shift ≤ 100800 ⌝ }
+    requires { ⌜ ContextGood c ⌝ }
     ensures { λ r. ⌜ r ≡ timeBy c read ⌝ }
 {
     let shift = c.shift;
@@ -85,7 +84,7 @@ fn time_by(c: Context, read: DateTime) -> TimeRead
 
 // A value of the form that is asked for.
 pub fn read_time(c: Context, form: Form, s: &[u8]) -> TimeRead
-    requires { ⌜ c .shift ≤ 100800 ⌝ }
+    requires { ⌜ ContextGood c ⌝ }
     ensures { λ r. ⌜ r ≡ readTime c form (now (s .entry)) ⌝ }
 {
     match form {

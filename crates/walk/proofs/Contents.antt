@@ -27,7 +27,7 @@ use Rattle.calendar.specs.declared.contents.ContentsCheck.{ContentsCheck}
 use Rattle.calendar.proofs.Checking.{here-broken, here-unbroken, Checking, checking-start, checking-property, checking-inner, checking-fault, checking-end, values-told, contents-checked, contents-none}
 use Rattle.calendar.proofs.Loops.{decided-below, decided-none}
 use Rattle.pieces.specs.BusyPeriods.{eventPeriods, busyPeriods}
-use Rattle.pieces.specs.Columns.{Stored}
+use Rattle.pieces.specs.Columns.{Stored, Room}
 use Rattle.pieces.specs.Pieces.{piecesOf}
 use Rattle.pieces.proofs.Columns.{stored-none, stored-as}
 use Rattle.walk.specs.Walks.{StoresRead, contentsFault, StoresFrom, StoresContents}
@@ -101,7 +101,7 @@ pub record Walking (c : Context) (a b : ℕ) (s o₀ : List ℕ) (from first : �
   pub checks : Checking c s from first rules at number
   pub stores : Going c a b s o₀ (piecesIn c a b (componentsFrom s from first)) o n at number
 
-pub walking-start : (c : Context) (a b : ℕ) (s o : List ℕ) (from first : ℕ) → from ≤ length s → first ≤ from + 1 → length o ≡ 1539
+pub walking-start : (c : Context) (a b : ℕ) (s o : List ℕ) (from first : ℕ) → from ≤ length s → first ≤ from + 1 → Room o
     → Walking c a b s o from first o RuleCheck.Good 0 from first
 walking-start c a b s o from first h k l = record { checks = checking-start c s from first h k; stores = going-start c a b s o from first h k l }
 

@@ -33,10 +33,9 @@ use Rattle.calendar.proofs.Listed.{periods-all}
 use Rattle.calendar.proofs.Loops.{entry-here}
 use Rattle.calendar.proofs.Steps.{periods-property, periods-inner, periods-none, components-property, components-first, components-skip, components-none}
 use Rattle.calendar.proofs.Sizes.{eventAt-small}
-use Rattle.recurrence.specs.Sizes.{Small}
-use Rattle.recurrence.proofs.EventSizes.{event-sizes}
+use Rattle.events.specs.Sizes.{EventSmall}
 use Rattle.pieces.specs.BusyPeriods.{busyPeriod, eventPeriods, entryPeriods, busyPeriods}
-use Rattle.pieces.specs.Columns.{Stored}
+use Rattle.pieces.specs.Columns.{Stored, Room}
 use Rattle.pieces.specs.Pieces.{pieceOf, piecesOf, busyPieces}
 use Rattle.pieces.proofs.Columns.{stored-none, stored-full, stored-as, stored-then, stored-few, stored-long}
 use Rattle.pieces.proofs.Pieces.{piecesOf-none, piecesOf-append}
@@ -46,10 +45,10 @@ use Rattle.walk.specs.declared.blocks.PeriodType.{PeriodType}
 -- n pieces stand in o: noting those of `left` behind them makes those of `whole` behind n₀ in o₀
 pub record Left (o₀ : List ℕ) (n₀ : ℕ) (whole : List BusyPeriod) (o : List ℕ) (n : ℕ) (left : List BusyPeriod) : Type 0 where
   pub few : n ≤ 513
-  pub long : length o ≡ 1539
+  pub long : Room o
   pub rest : (o′ : List ℕ) (r : ℕ) → Stored o n left o′ r → Stored o₀ n₀ whole o′ r
 
-pub left-start : (o : List ℕ) (n : ℕ) (whole : List BusyPeriod) → n ≤ 513 → length o ≡ 1539 → Left o n whole o n whole
+pub left-start : (o : List ℕ) (n : ℕ) (whole : List BusyPeriod) → n ≤ 513 → Room o → Left o n whole o n whole
 left-start o n whole h l = record { few = h; long = l; rest = λ o′ r m. m }
 
 module _ {o₀ : List ℕ} {n₀ : ℕ} {whole : List BusyPeriod} {o : List ℕ} {n : ℕ} {left : List BusyPeriod} (l : Left o₀ n₀ whole o n left) where
@@ -83,7 +82,7 @@ module _ (y : BusyType) (a b : ℕ) (v : List ℕ) where
   unfolding pieces-from valuePeriods
   value-pieces = refl
 
-  pub value-start : (o : List ℕ) (n : ℕ) → n ≤ 513 → length o ≡ 1539 → Left o n (piecesOf a b (valuePeriods y v)) o n (pieces-from y a b v 0)
+  pub value-start : (o : List ℕ) (n : ℕ) → n ≤ 513 → Room o → Left o n (piecesOf a b (valuePeriods y v)) o n (pieces-from y a b v 0)
   value-start o n h l = left-same (left-start o n (piecesOf a b (valuePeriods y v)) h l) (sym value-pieces)
 
   module _ {o₀ : List ℕ} {n₀ : ℕ} {whole : List BusyPeriod} {o : List ℕ} {n : ℕ} (at : ℕ) (l : Left o₀ n₀ whole o n (pieces-from y a b v at)) where
@@ -197,8 +196,8 @@ module _ (c : Context) (s : List ℕ) (at : ℕ) {y : Scope} {g : ComponentPrope
   unfolding blockAt
   block-read t q = q ∙ ap blockBy (w ∙ ap (λ (z : Scope). componentPropertiesAt c z s at) t)
 
-  pub entry-small : (e : Event) {x : EventRead} → y ≡ Scope.Event → x ≡ eventBy g → x ≡ EventRead.Of e → Small e
-  entry-small e t q h = event-sizes (eventAt-small c s at e (sym (event-read t q) ∙ h))
+  pub entry-small : (e : Event) {x : EventRead} → y ≡ Scope.Event → x ≡ eventBy g → x ≡ EventRead.Of e → EventSmall e
+  entry-small e t q h = eventAt-small c s at e (sym (event-read t q) ∙ h)
 
 event-as : (c : Context) (s : List ℕ) (at : ℕ) {x y : EventRead} → x ≡ eventAt c s at → x ≡ y → eventEntry y ≡ entryAt c Scope.Event s at
 unfolding entryAt
@@ -261,7 +260,7 @@ pub record Going (c : Context) (a b : ℕ) (s o₀ : List ℕ) (whole : List Bus
   pub counted : number ≤ at + 1
   pub still : Left o₀ 0 whole o n (piecesIn c a b (componentsFrom s at number))
 
-pub going-start : (c : Context) (a b : ℕ) (s o : List ℕ) (from first : ℕ) → from ≤ length s → first ≤ from + 1 → length o ≡ 1539
+pub going-start : (c : Context) (a b : ℕ) (s o : List ℕ) (from first : ℕ) → from ≤ length s → first ≤ from + 1 → Room o
     → Going c a b s o (piecesIn c a b (componentsFrom s from first)) o 0 from first
 going-start c a b s o from first h k l = record { within = h; counted = k; still = left-start o 0 _ (omega arith) l }
 

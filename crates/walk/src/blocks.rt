@@ -13,13 +13,15 @@ use values::times::Context;
 ghost use mathlib.Core.Path.{_≡_};
 ghost use Prim.Native.Nat.{_≤_};
 ghost use lib.ListN.{length};
+ghost use Rattle.values.specs.Times.{ContextGood};
+ghost use Rattle.time.specs.Limits.{lastSecond};
 ghost use Rattle.line.specs.Reading.{lineOf};
 ghost use Rattle.property.specs.Properties.{propertyValueOf};
 ghost use Rattle.property.specs.declared.Scope.{Scope};
 ghost use Rattle.calendar.specs.Meaning.{periodsBy};
 ghost use Rattle.calendar.specs.Places.{blockPeriodsAt};
 ghost use Rattle.pieces.specs.Pieces.{piecesOf};
-ghost use Rattle.pieces.specs.Columns.{Stored};
+ghost use Rattle.pieces.specs.Columns.{Stored, Room};
 ghost use Rattle.walk.specs.Walks.{valuePeriods, typeGiven};
 
 // The type of the periods that a line gives.
@@ -38,9 +40,9 @@ pub fn store_value(
     a: u64,
     b: u64,
 ) -> usize
-    requires { ⌜ length (now column) ≡ 1539 ⌝ }
+    requires { ⌜ Room (now column) ⌝ }
     requires { ⌜ first ≤ 513 ⌝ }
-    requires { ⌜ b ≤ 4102444799 ⌝ }
+    requires { ⌜ b ≤ lastSecond ⌝ }
     ensures { λ r. ⌜ Stored (now (column .entry)) first (piecesOf a b (valuePeriods busy (now (v .entry)))) (now (column .exit)) r ⌝ }
 {
     let mut n = first;
@@ -76,10 +78,10 @@ fn type_given(value: PropertyValue) -> PeriodType
 
 // The periods of a line. Most lines of a block are read, so the first byte is not asked beforehand.
 pub fn store_line(column: &mut [u32], n: usize, line: &[u8], c: Context, a: u64, b: u64) -> usize
-    requires { ⌜ length (now column) ≡ 1539 ⌝ }
+    requires { ⌜ Room (now column) ⌝ }
     requires { ⌜ n ≤ 513 ⌝ }
-    requires { ⌜ c .shift ≤ 100800 ⌝ }
-    requires { ⌜ b ≤ 4102444799 ⌝ }
+    requires { ⌜ ContextGood c ⌝ }
+    requires { ⌜ b ≤ lastSecond ⌝ }
     ensures { λ r. ⌜ Stored (now (column .entry)) n (piecesOf a b (periodsBy (propertyValueOf c Scope.FreeBusy (lineOf (now (line .entry)))) (lineOf (now (line .entry))))) (now (column .exit)) r ⌝ }
 {
     match type_given(property::property_value_named(c, Scope::FreeBusy, line)) {
@@ -98,10 +100,10 @@ pub fn store_block(
     a: u64,
     b: u64,
 ) -> usize
-    requires { ⌜ length (now column) ≡ 1539 ⌝ }
+    requires { ⌜ Room (now column) ⌝ }
     requires { ⌜ first ≤ 513 ⌝ }
-    requires { ⌜ c .shift ≤ 100800 ⌝ }
-    requires { ⌜ b ≤ 4102444799 ⌝ }
+    requires { ⌜ ContextGood c ⌝ }
+    requires { ⌜ b ≤ lastSecond ⌝ }
     ensures { λ r. ⌜ Stored (now (column .entry)) first (piecesOf a b (blockPeriodsAt c (now (s .entry)) from)) (now (column .exit)) r ⌝ }
 {
     let mut n = first;

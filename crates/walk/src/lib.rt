@@ -22,6 +22,9 @@ ghost use mathlib.Core.Path.{_≡_};
 ghost use mathlib.Core.List.{[]};
 ghost use Prim.Native.Nat.{_+_, _≤_, _<_};
 ghost use lib.ListN.{length};
+ghost use Rattle.pieces.specs.Columns.{Room};
+ghost use Rattle.values.specs.Times.{ContextGood};
+ghost use Rattle.time.specs.Limits.{lastSecond};
 ghost use Rattle.calendar.specs.Meaning.{byRules, byValues, faultOf};
 ghost use Rattle.calendar.specs.Places.{componentPropertiesAt};
 ghost use Rattle.walk.specs.Walks.{StoresRead, StoresFrom, StoresContents};
@@ -57,11 +60,11 @@ fn store_read(
     a: u64,
     b: u64,
 ) -> ReadStored
-    requires { ⌜ length (now column) ≡ 1539 ⌝ }
+    requires { ⌜ Room (now column) ⌝ }
     requires { ⌜ n ≤ 513 ⌝ }
-    requires { ⌜ c .shift ≤ 100800 ⌝ }
+    requires { ⌜ ContextGood c ⌝ }
     requires { ⌜ a < b ⌝ }
-    requires { ⌜ b ≤ 4102444799 ⌝ }
+    requires { ⌜ b ≤ lastSecond ⌝ }
     requires { ⌜ g ≡ componentPropertiesAt c scope (now s) at ⌝ }
     ensures { λ r. ⌜ StoresRead c scope g (now (s .entry)) at number a b rules n (now (column .entry)) (now (column .exit)) r ⌝ }
 {
@@ -110,12 +113,12 @@ fn store_contents_from(
     a: u64,
     b: u64,
 ) -> ContentsStored
-    requires { ⌜ length (now column) ≡ 1539 ⌝ }
+    requires { ⌜ Room (now column) ⌝ }
     requires { ⌜ from ≤ length (now s) ⌝ }
     requires { ⌜ first ≤ from + 1 ⌝ }
-    requires { ⌜ c .shift ≤ 100800 ⌝ }
+    requires { ⌜ ContextGood c ⌝ }
     requires { ⌜ a < b ⌝ }
-    requires { ⌜ b ≤ 4102444799 ⌝ }
+    requires { ⌜ b ≤ lastSecond ⌝ }
     ensures { λ r. ⌜ StoresFrom c (now (s .entry)) from first a b (now (column .entry)) (now (column .exit)) r ⌝ }
 {
     let mut rules = RuleCheck::Good;
@@ -153,10 +156,10 @@ fn store_contents_from(
 
 // Refusals 8 to 10, and the busy pieces of the calendar in the range.
 pub fn store_contents(column: &mut [u32], s: &[u8], c: Context, a: u64, b: u64) -> ContentsStored
-    requires { ⌜ length (now column) ≡ 1539 ⌝ }
-    requires { ⌜ c .shift ≤ 100800 ⌝ }
+    requires { ⌜ Room (now column) ⌝ }
+    requires { ⌜ ContextGood c ⌝ }
     requires { ⌜ a < b ⌝ }
-    requires { ⌜ b ≤ 4102444799 ⌝ }
+    requires { ⌜ b ≤ lastSecond ⌝ }
     ensures { λ r. ⌜ StoresContents c (now (s .entry)) a b (now (column .entry)) (now (column .exit)) r ⌝ }
 {
     match places::items_below(s) {

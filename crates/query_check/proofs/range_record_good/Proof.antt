@@ -1,4 +1,5 @@
--- `paper::range_record_good` meets its contract: the two tests are those of the definition, on the numbers that were read.
+-- `query_check::range_record_good` meets its contract: the two tests are those of the definition, on the numbers that were read.
+use Rattle.time.specs.Limits.{rangeGood}
 use Rattle.query_check.specs.WellFormed.{rangeRecordGood}
 use borrow.Author.Needs.{needs}
 use Rattle.query_check.proofs.range_record_good.Statement.{statement}
@@ -11,7 +12,7 @@ range-end-requires : tie.Need-range-end-requires
 range-end-requires c κs = search needs
 
 returns : tie.Need-returns
-unfolding rangeRecordGood
+unfolding rangeRecordGood rangeGood
 returns c = rw (c .before .range-start .ensures, c .range-end .ensures)
 
 pub range-record-good-spec : {M : Type 1} → statement M

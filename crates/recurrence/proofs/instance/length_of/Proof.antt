@@ -1,5 +1,5 @@
 -- Each arm is the definition at its variant; an end is later than the start, and a duration small.
-use Rattle.recurrence.proofs.Sizes.{duration-small}
+use Rattle.recurrence.proofs.Sizes.{ends-by, lasts-by}
 use Rattle.recurrence.specs.Instances.{lengthBy}
 use native.Mathlib.Omega.{arith}
 use borrow.Author.Needs.{needs}
@@ -10,13 +10,13 @@ enum-known-ending : tie.Need-enum-known-ending
 enum-known-ending c = search needs
 
 sub-result : tie.Need-sub-result
-sub-result c = omega (arith, c .before .before .before .before .pre .end-later _ (c .before .before .ending .given .1))
+sub-result c = omega (arith, ends-by (c .before .before .before .before .pre) (c .before .before .ending .given .1) .0)
 
 enum-known-ending-2 : tie.Need-enum-known-ending-2
 enum-known-ending-2 c = search needs
 
 duration-seconds-requires : tie.Need-duration-seconds-requires
-duration-seconds-requires c κs = duration-small _ (c .before .before .before .pre .lasts-small _ (c .before .ending2 .given .1))
+duration-seconds-requires c κs = let h = lasts-by (c .before .before .before .pre) (c .before .ending2 .given .1) in (h .few-days, h .few-seconds)
 
 enum-told : tie.Need-enum-told
 enum-told c = search needs

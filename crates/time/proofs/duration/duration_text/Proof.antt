@@ -2,7 +2,7 @@
 use Prim.Native.Nat.{_≤_, _-_}
 use lib.ListN.{length, drop}
 use Rattle.time.specs.declared.duration.Stage.the-variants.{Start}
-use Rattle.time.specs.Duration.{Small, runs, blank, finish, durationText}
+use Rattle.time.specs.Duration.{EventSmall, runs, blank, finish, durationText}
 use Rattle.time.proofs.DurationLaws.{blank-small, step-small, runs-next, runs-end}
 use mathlib.Core.Path.{_≡_, refl, sym, ap, _∙_}
 use native.Mathlib.Omega.{arith}
@@ -11,7 +11,7 @@ use Rattle.time.proofs.duration.duration_text.Statement.{statement}
 use Rattle.time.proofs.duration.duration_text.Tie as tie
 
 abbrev Inv-loop : tie.InvT-loop
-Inv-loop s r₀ i₀ r i = (i ≤ length s) × Small r × (runs r (drop i s) ≡ runs (blank Start) s)
+Inv-loop s r₀ i₀ r i = (i ≤ length s) × EventSmall r × (runs r (drop i s) ≡ runs (blank Start) s)
 
 abbrev μ-loop : tie.MeasureT-loop
 μ-loop s r₀ i₀ r i = length s - i

@@ -8,11 +8,9 @@ returns : tie.Need-returns
 returns c = since-before _ _ (c .if1 .taken)
 
 returns-2 : tie.Need-returns-2
-unfolding lastSecond
 returns-2 c = since-after _ _ (c .before .if1 .left) (c .if2 .taken)
 
 returns-3 : tie.Need-returns-3
-unfolding lastSecond
 returns-3 c = since-within _ _ (c .before .if1 .left) (c .if2 .left)
 
 pub since-spec : {M : Type 1} → statement M

@@ -7,7 +7,6 @@ use Rattle.time.proofs.writing.write_utc.Statement.{statement}
 use Rattle.time.proofs.writing.write_utc.Tie as tie
 
 day-of-requires : tie.Need-day-of-requires
-unfolding lastSecond
 day-of-requires c κs = omega arith
 
 put-date-requires : tie.Need-put-date-requires

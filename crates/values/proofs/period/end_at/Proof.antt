@@ -27,7 +27,6 @@ duration-seconds-requires : tie.Need-duration-seconds-requires
 duration-seconds-requires c κs = omega (arith, readDuration-small _ _ (sym (c .before .before .before .read-duration .ensures) ∙ c .before .length .given .1) .few-days, readDuration-small _ _ (sym (c .before .before .before .read-duration .ensures) ∙ c .before .length .given .1) .few-seconds)
 
 add-t10 : tie.Need-add-t10
-unfolding lastSecond
 add-t10 c = omega (arith, c .duration-seconds .ensures, readDuration-small _ _ (sym (c .before .before .before .before .read-duration .ensures) ∙ c .before .before .length .given .1) .limited)
 
 enum-told-2 : tie.Need-enum-told-2

@@ -1,8 +1,8 @@
 -- Each arm is one clause of the definition.
 use Rattle.filter.specs.Places.{givesPeriods}
 use borrow.Author.Needs.{needs}
-use Rattle.filter.proofs.ranges.says_periods.Statement.{statement}
-use Rattle.filter.proofs.ranges.says_periods.Tie as tie
+use Rattle.filter.proofs.ranges.gives_periods.Statement.{statement}
+use Rattle.filter.proofs.ranges.gives_periods.Tie as tie
 
 enum-told : tie.Need-enum-told
 enum-told c = search needs
@@ -74,8 +74,8 @@ returns-10 : tie.Need-returns-10
 unfolding givesPeriods
 returns-10 c = simp (c .enum-told10 .given .1)
 
-pub says-periods-spec : {M : Type 1} → statement M
-says-periods-spec =
+pub gives-periods-spec : {M : Type 1} → statement M
+gives-periods-spec =
     tie.close
     (tie.spec
     enum-told
