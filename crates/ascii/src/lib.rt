@@ -11,7 +11,7 @@ pub fn is_digit(b: u8) -> bool
     (48 <= b) & (b <= 57)
 }
 
-pub fn is_letter(b: u8) -> bool
+fn is_letter(b: u8) -> bool
     ensures { λ r. ⌜ r ≡ isLetter b ⌝ }
 {
     ((65 <= b) & (b <= 90)) | ((97 <= b) & (b <= 122))

@@ -1,17 +1,21 @@
-// Many calendars: their names on standard input, a ledger line each, and each report beside its file.
+// Many calendars: their names on standard input, a batch line each, and each report beside its file.
 // The engine answers; here answers are counted and printed.
+use calendar::Fault;
 use console::args;
 use console::args::Plan;
 use console::args::Planned;
 use console::file;
 use console::file::Got;
+use console::file::Saved;
 use console::out::print;
 use console::out::print_number;
 use console::out::print_reason;
 use console::out::wrong;
 use console::query::query_at;
 use engine::Answer;
+use engine::ReportTables;
 use table::Table;
+ghost use Prim.Native.Nat.{_≤_};
 
 // The length of the name that is being read, and the counts.
 struct Tally {
@@ -57,22 +61,20 @@ fn print_counts(s: Tally) {
     print(b"\n");
 }
 
-// A table has at most 512 rows.
-fn print_busy(t: Table) {
+fn print_busy(t: Table)
+    requires { ⌜ t .count ≤ 512 ⌝ }
+{
     print(b"\t");
-    if t.count <= 512 {
-        print_number(cli::sums::seconds_in(t));
-        return;
-    }
-    print(b"0");
+    print_number(cli::sums::seconds_in(t));
 }
 
 // Three columns.
-fn print_seconds(p: Plan, cal: &[u8], work: &mut [u8]) {
-    let c = collecting::collect(cal, p.start, p.end, p.offset, p.stamp, work);
-    let busy = c.busy;
-    let tentative = c.tentative;
-    let unavailable = c.unavailable;
+fn print_seconds(r: ReportTables)
+    requires { ⌜ (r .busy .count ≤ 512) × (r .tentative .count ≤ 512) × (r .unavailable .count ≤ 512) ⌝ }
+{
+    let busy = r.busy;
+    let tentative = r.tentative;
+    let unavailable = r.unavailable;
     print_busy(busy);
     print_busy(tentative);
     print_busy(unavailable);
@@ -104,49 +106,48 @@ fn print_verdict(a: Answer) {
 }
 
 // Writes the report beside its file.
-fn save(path: &mut [u8], name: &[u8], report: &[u8], n: usize) -> bool {
+fn save(path: &mut [u8], name: &[u8], report: &[u8], n: usize) -> Saved {
     let k = name.len();
     if 4096 < k {
-        return false;
+        return Saved::Failed;
     }
     let m = k + 7;
     if path.len() < m {
-        return false;
+        return Saved::Failed;
     }
     if report.len() < n {
-        return false;
+        return Saved::Failed;
     }
     time::writing::put_bytes(path, 0, name);
     time::writing::put_bytes(path, k, b".report");
-    file::write_file(&path[0..m], &report[0..n])
+    file::save_file(&path[0..m], &report[0..n])
 }
 
+// A last column where the report is not a new file.
 fn save_beside(name: &[u8], report: &[u8], n: usize) {
     let mut path = [0u8; 4104];
-    if !save(&mut path, name, report, n) {
-        print(b"\tnot written");
+    match save(&mut path, name, report, n) {
+        Saved::New => {}
+        Saved::Replaced => print(b"\treplaced"),
+        Saved::Failed => print(b"\tnot written"),
     }
 }
 
 // The columns behind the verdict.
 fn print_report(name: &[u8], p: Plan, cal: &[u8], work: &mut [u8], out: &mut [u8]) -> Outcome {
-    let a = engine::report(cal, p.start, p.end, p.offset, p.stamp, work, out);
-    match a {
-        Answer::Length(n) => {
-            print_pair(b"report", n as u64);
-            print_seconds(p, cal, work);
-            save_beside(name, out, n);
-            Outcome::Report
-        }
-        Answer::Refused(n) => {
+    let r = engine::report_tables(cal, p.start, p.end, p.offset, p.stamp, work, out);
+    let fault = r.fault;
+    match fault {
+        Fault::At(n, _) => {
             print_pair(b"refused", n as u64);
             print(b"\t0\t0\t0");
             Outcome::Refused
         }
-        Answer::Verdict(_) => {
-            print_pair(b"refused", 0);
-            print(b"\t0\t0\t0");
-            Outcome::Refused
+        Fault::None => {
+            print_pair(b"report", r.length as u64);
+            print_seconds(r);
+            save_beside(name, out, r.length);
+            Outcome::Report
         }
     }
 }
@@ -188,7 +189,7 @@ fn print_unread(asked: bool, error: i32) -> Outcome {
     Outcome::Unreadable
 }
 
-// A file's ledger line.
+// A file's batch line.
 fn one(
     name: &[u8],
     p: Plan,

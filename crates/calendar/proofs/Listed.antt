@@ -8,7 +8,7 @@ use lib.Dec.{ltb}
 use lib.ListN.{length, drop}
 use borrow.Author.Tests.{ltb-true, ltb-false}
 use Rattle.ascii.proofs.Lists.{drop-end}
-use Rattle.line.specs.Splitting.{firstOutside, nextPlace, pieces, plainSplit}
+use Rattle.line.specs.Splitting.{firstOutside, nextPlace, splitParts, plainSplit}
 use Rattle.values.specs.Period.{periodOf, periodItems, goodPeriods}
 use Rattle.periods.specs.declared.Period.{Period}
 use Rattle.values.specs.declared.period.PeriodRead.{PeriodRead}
@@ -24,7 +24,7 @@ periods-all v = refl
 
 -- nothing is a period of no bytes
 no-bytes : goodPeriods (periodItems []) ≡ []
-unfolding periodItems plainSplit pieces periodOf firstOutside goodPeriods
+unfolding periodItems plainSplit splitParts periodOf firstOutside goodPeriods
 no-bytes = refl
 
 periods-past : (v : List ℕ) (from : ℕ) → length v ≤ from → periodsFrom v from ≡ []

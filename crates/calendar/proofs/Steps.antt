@@ -1,13 +1,11 @@
--- From item to item: what one step tells of the sayings, the faults and the components of what stands at a place.
+-- From item to item: what one step tells of the property values, the faults and the components of what stands at a place.
 use Prim.Native.Nat.{ℕ, zero, suc, _+_}
 use mathlib.Core.Path.{_≡_, refl, sym, ap, _∙_}
 use mathlib.Core.List.{List, [], _∷_, _++_, map}
+use Rattle.nesting.proofs.Components.{bareLines, by-lines}
 use Rattle.text.specs.Lines.{part}
 use Rattle.line.specs.Grammar.{ContentLine}
 use Rattle.line.specs.Reading.{lineOf}
-use Rattle.delimiters.specs.Delimiters.{delimiterOf}
-use Rattle.delimiters.specs.declared.Delimiter.{Delimiter}
-use Rattle.delimiters.specs.declared.Delimiter.the-variants.{Begins, Ends, Property, Wrong}
 use Rattle.values.specs.declared.times.Context.{Context}
 use Rattle.property.specs.Properties.{propertyValueOf}
 use Rattle.property.specs.declared.Scope.{Scope}
@@ -25,42 +23,7 @@ use Rattle.calendar.specs.declared.ValueCheck.{ValueCheck}
 
 -- ---- line numbers play no part in what lines say
 
-abbrev linesIn : List Numbered → List ContentLine
-linesIn [] = []
-linesIn (x ∷ xs) = x .line ∷ linesIn xs
-
-abbrev properLines : ℕ → ℕ → List ContentLine → List ContentLine
-properLines d i xs = linesIn (propertiesIn (itemsOf d (delimitedFrom i xs)))
-
-lines-step : (x : ContentLine) (m : Delimiter) (xs : List ContentLine) (i j : ℕ)
-    → ((d : ℕ) → properLines d (suc i) xs ≡ properLines d (suc j) xs) → (d : ℕ)
-    → linesIn (propertiesIn (itemsOf d (delimitedAs m (numbered i x) ∷ delimitedFrom (suc i) xs)))
-    ≡ linesIn (propertiesIn (itemsOf d (delimitedAs m (numbered j x) ∷ delimitedFrom (suc j) xs)))
-unfolding itemsOf propertiesIn
-lines-step x Begins xs i j h zero = h 1
-lines-step x Begins xs i j h (suc d) = h (suc (suc d))
-lines-step x Ends xs i j h zero = refl
-lines-step x Ends xs i j h (suc d) = h d
-lines-step x Property xs i j h zero = ap (λ (l : List ContentLine). x ∷ l) (h 0)
-lines-step x Property xs i j h (suc d) = h (suc d)
-lines-step x Wrong xs i j h zero = ap (λ (l : List ContentLine). x ∷ l) (h 0)
-lines-step x Wrong xs i j h (suc d) = h (suc d)
-
-lines-number : (xs : List ContentLine) (d i j : ℕ) → properLines d i xs ≡ properLines d j xs
-unfolding delimitedFrom itemsOf
-lines-number [] d i j = refl
-lines-number (x ∷ xs) d i j = lines-step x (delimiterOf x) xs i j (λ e. lines-number xs e (suc i) (suc j)) d
-
--- what is decided by the lines alone
-by-lines : {A : Type 0} (f : List Numbered → A) (g : List ContentLine → A) → ((xs : List Numbered) → f xs ≡ g (linesIn xs)) → (s : List ℕ)
-    (at d i j : ℕ) → f (propertiesIn (itemsOf d (linesFrom s at i))) ≡ f (propertiesIn (itemsOf d (linesFrom s at j)))
-unfolding linesFrom
-by-lines f g h s at d i j =
-    h (propertiesIn (itemsOf d (delimitedFrom i (linesAt s at))))
-    ∙ ap g (lines-number (linesAt s at) d i j)
-    ∙ sym (h (propertiesIn (itemsOf d (delimitedFrom j (linesAt s at)))))
-
-property-values-lines : (c : Context) (o : Scope) (xs : List Numbered) → propertyValuesIn c o xs ≡ map (propertyValueOf c o) (linesIn xs)
+property-values-lines : (c : Context) (o : Scope) (xs : List Numbered) → propertyValuesIn c o xs ≡ map (propertyValueOf c o) (bareLines xs)
 unfolding propertyValuesIn
 property-values-lines c o [] = refl
 property-values-lines c o (x ∷ xs) = ap (λ (l : List PropertyValue). propertyValueOf c o (x .line) ∷ l) (property-values-lines c o xs)
@@ -69,18 +32,18 @@ pub property-values-number : (c : Context) (o : Scope) (s : List ℕ) (at d i j 
     → propertyValuesIn c o (propertiesIn (itemsOf d (linesFrom s at i))) ≡ propertyValuesIn c o (propertiesIn (itemsOf d (linesFrom s at j)))
 property-values-number c o s at d i j = by-lines (propertyValuesIn c o) (map (propertyValueOf c o)) (property-values-lines c o) s at d i j
 
-abbrev periodsOf : Context → List ContentLine → List BusyPeriod
-periodsOf c [] = []
-periodsOf c (x ∷ xs) = periodsBy (propertyValueOf c Scope.FreeBusy x) x ++ periodsOf c xs
+abbrev linePeriods : Context → List ContentLine → List BusyPeriod
+linePeriods c [] = []
+linePeriods c (x ∷ xs) = periodsBy (propertyValueOf c Scope.FreeBusy x) x ++ linePeriods c xs
 
-periods-lines : (c : Context) (xs : List Numbered) → blockPeriods c xs ≡ periodsOf c (linesIn xs)
+periods-lines : (c : Context) (xs : List Numbered) → blockPeriods c xs ≡ linePeriods c (bareLines xs)
 unfolding blockPeriods
 periods-lines c [] = refl
 periods-lines c (x ∷ xs) = ap (λ (l : List BusyPeriod). periodsBy (propertyValueOf c Scope.FreeBusy (x .line)) (x .line) ++ l) (periods-lines c xs)
 
 pub periods-number : (c : Context) (s : List ℕ) (at d i j : ℕ)
     → blockPeriods c (propertiesIn (itemsOf d (linesFrom s at i))) ≡ blockPeriods c (propertiesIn (itemsOf d (linesFrom s at j)))
-periods-number c s at d i j = by-lines (blockPeriods c) (periodsOf c) (periods-lines c) s at d i j
+periods-number c s at d i j = by-lines (blockPeriods c) (linePeriods c) (periods-lines c) s at d i j
 
 -- so they may begin with any number
 pub property-values-any : (c : Context) (o : Scope) (s : List ℕ) (at i : ℕ) → propertyValuesIn c o (propertiesIn (itemsOf 0 (linesFrom s at i))) ≡ propertyValuesAt c o s at
@@ -122,7 +85,7 @@ entryOf-at c Scope.FreeBusy k s at i e =
     ∙ ap (blockEntry (blockAt c s at)) (ap (λ (x : Items). blockPeriods c (propertiesIn x)) e ∙ periods-number c s at 0 i 1)
 entryOf-at c Scope.Other k s at i e = refl
 
--- ---- one step: sayings
+-- ---- one step: property values
 
 module _ (c : Context) (o : Scope) {s : List ℕ} {at : ℕ} where
   pub property-values-property : {e next : ℕ} → PropertyAt s at e next → propertyValuesAt c o s at ≡ propertyValueOf c o (lineOf (part s at e)) ∷ propertyValuesAt c o s next

@@ -40,11 +40,11 @@ fn fault_else(fault: ValueCheck, next: ValueCheck) -> ValueCheck
     }
 }
 
-// The first fault so far, after a line that says this.
-fn fault_with(fault: ValueCheck, number: usize, said: PropertyValue) -> ValueCheck
-    ensures { λ r. ⌜ r ≡ faultElse fault (faultOr number said ValueCheck.Good) ⌝ }
+// The first fault so far, after a line with this value.
+fn fault_with(fault: ValueCheck, number: usize, value: PropertyValue) -> ValueCheck
+    ensures { λ r. ⌜ r ≡ faultElse fault (faultOr number value ValueCheck.Good) ⌝ }
 {
-    match said {
+    match value {
         PropertyValue::Unsupported => fault_else(fault, ValueCheck::Unsupported(number)),
         PropertyValue::Bad => fault_else(fault, ValueCheck::Bad(number)),
         PropertyValue::Nothing => fault,
@@ -58,11 +58,11 @@ fn fault_with(fault: ValueCheck, number: usize, said: PropertyValue) -> ValueChe
     }
 }
 
-// Does the line say nothing? Then it has no fault and adds nothing; most lines do.
-fn says_nothing(said: PropertyValue) -> bool
-    ensures { λ r. ⌜ (r ≡ true → said ≡ PropertyValue.Nothing) ⌝ }
+// Is the line one that no rule reads? Then it has no fault and adds nothing; most lines are.
+fn is_unread(value: PropertyValue) -> bool
+    ensures { λ r. ⌜ (r ≡ true → value ≡ PropertyValue.Nothing) ⌝ }
 {
-    match said {
+    match value {
         PropertyValue::Nothing => true,
         _ => false,
     }
@@ -86,10 +86,10 @@ pub fn read_component(
     loop {
         match items::next_item(s, at) {
             Item::Property(e, next) => {
-                let said = property::property_value_of(c, scope, &s[at..e]);
-                if !says_nothing(said) {
-                    fault = fault_with(fault, number, said);
-                    properties = properties::with_property(properties, said);
+                let value = property::property_value_of(c, scope, &s[at..e]);
+                if !is_unread(value) {
+                    fault = fault_with(fault, number, value);
+                    properties = properties::with_property(properties, value);
                 }
                 at = next;
                 number += 1;

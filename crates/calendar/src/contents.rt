@@ -50,7 +50,7 @@ fn block_broken(b: BlockRead) -> bool
 }
 
 // Does a component break a rule whose lines say this together?
-pub fn is_broken(scope: Scope, g: ComponentProperties) -> bool
+fn is_broken(scope: Scope, g: ComponentProperties) -> bool
     ensures { λ r. ⌜ r ≡ brokenBy scope g ⌝ }
 {
     match scope {
@@ -71,12 +71,7 @@ pub fn broken_else(before: RuleCheck, number: usize) -> RuleCheck
 }
 
 // The first broken component of those before and the one of this line.
-pub fn first_broken(
-    before: RuleCheck,
-    number: usize,
-    scope: Scope,
-    g: ComponentProperties,
-) -> RuleCheck
+fn first_broken(before: RuleCheck, number: usize, scope: Scope, g: ComponentProperties) -> RuleCheck
     ensures { λ r. ⌜ r ≡ firstBroken before number scope g ⌝ }
 {
     if is_broken(scope, g) {

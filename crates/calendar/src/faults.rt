@@ -22,7 +22,7 @@ pub fn check_structure(s: &[u8]) -> Fault
 }
 
 // Refusals 8, 9 and 10.
-pub fn check_contents(s: &[u8], c: Context) -> Fault
+fn check_contents(s: &[u8], c: Context) -> Fault
     requires { ⌜ ContextGood c ⌝ }
     ensures { λ r. ⌜ r ≡ faultOf (contentsOf c (now (s .entry))) ⌝ }
 {

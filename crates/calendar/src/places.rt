@@ -36,12 +36,7 @@ pub fn scope_of(name: &[u8]) -> Scope
 }
 
 // What the lines directly in the component say together; inner components are passed over.
-pub fn component_properties_at(
-    s: &[u8],
-    from: usize,
-    c: Context,
-    scope: Scope,
-) -> ComponentProperties
+fn component_properties_at(s: &[u8], from: usize, c: Context, scope: Scope) -> ComponentProperties
     requires { ⌜ ContextGood c ⌝ }
     ensures { λ r. ⌜ r ≡ componentPropertiesAt c scope (now (s .entry)) from ⌝ }
 {

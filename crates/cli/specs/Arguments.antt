@@ -17,12 +17,13 @@ use Rattle.cli.specs.declared.arguments.Command.{Command}
 use Rattle.cli.specs.declared.arguments.Number.{Number}
 use Rattle.cli.specs.declared.arguments.Offset.{Offset}
 
--- the three commands, ASCII case disregarded
+-- the four commands, ASCII case disregarded
 unfoldable pub commandOf : List ℕ → Command
 commandOf s =
     cond (sameName s (ascii "report")) Command.Report
+    (cond (sameName s (ascii "verify")) Command.Verify
     (cond (sameName s (ascii "match")) Command.Match
-    (cond (sameName s (ascii "batch")) Command.Batch Command.Other))
+    (cond (sameName s (ascii "batch")) Command.Batch Command.Other)))
 
 -- the largest number of 64 bits, and the largest with a sign
 unfoldable pub most : ℕ

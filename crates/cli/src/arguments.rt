@@ -8,6 +8,7 @@ ghost use Rattle.cli.specs.Arguments.{commandOf, withDigit, decimalOf, i
 
 pub enum Command {
     Report,
+    Verify,
     Match,
     Batch,
     Other,
@@ -30,6 +31,9 @@ pub fn command_of(word: &[u8]) -> Command
 {
     if ascii::same_name(word, b"report") {
         return Command::Report;
+    }
+    if ascii::same_name(word, b"verify") {
+        return Command::Verify;
     }
     if ascii::same_name(word, b"match") {
         return Command::Match;

@@ -1,4 +1,4 @@
--- Collected tables: none where something is refused; otherwise, from the noted pieces, the covered seconds of the range.
+-- Collected tables: none where something is refused; otherwise, from the stored pieces, the covered seconds of the range.
 use Prim.Native.Nat.{ℕ, zero, suc, _+_, _-_, _≤_, _<_}
 use mathlib.Core.Path.{_≡_, sym, ap, _∙_, refl}
 use mathlib.Core.Bool.{Bool, true, _&&_}

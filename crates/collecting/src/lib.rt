@@ -60,7 +60,7 @@ fn tables_of(column: &[u32], n: usize) -> Collected
     }
 }
 
-// Refusals 8 to 11, then the tables: the pieces are noted in the column.
+// Refusals 8 to 11, then the tables: the pieces are stored in the column.
 fn collect_stored(column: &mut [u32], s: &[u8], c: Context, start: u64, end: u64) -> Collected
     requires { ⌜ Room (now column) ⌝ }
     requires { ⌜ ContextGood c ⌝ }

@@ -1,4 +1,4 @@
-// Files: read whole up to a buffer's length, and written anew.
+// Files: read whole up to a buffer's length, and written, with word of what was replaced.
 // A buffer is longer than any calendar that is answered, so a longer file is refused by the engine.
 use crate::out;
 
@@ -6,6 +6,13 @@ use crate::out;
 pub enum Got {
     Bytes(usize),
     Failed(i32),
+}
+
+// What became of a file that was written.
+pub enum Saved {
+    New,
+    Replaced,
+    Failed,
 }
 
 // The system's error; its own words go to standard error.
@@ -43,9 +50,8 @@ pub fn read_file(name: &[u8], into: &mut [u8]) -> Got {
     got
 }
 
-// Writes a file anew, and tells whether all of it was written.
-pub fn write_file(name: &[u8], bytes: &[u8]) -> bool {
-    let fd = os::open_overwrite(name);
+// Writes through a descriptor, and tells whether all was written; it is closed either way.
+fn write_through(fd: i32, name: &[u8], bytes: &[u8]) -> bool {
     if fd < 0 {
         os::fail(name);
         return false;
@@ -56,6 +62,22 @@ pub fn write_file(name: &[u8], bytes: &[u8]) -> bool {
     }
     libc::close(fd);
     all
+}
+
+// Writes a file that is to be new; one that is there already is replaced.
+pub fn save_file(name: &[u8], bytes: &[u8]) -> Saved {
+    let fd = os::create(name);
+    let taken = (fd < 0) & (os::errno() == libc::EEXIST);
+    if taken {
+        if write_through(os::open_overwrite(name), name, bytes) {
+            return Saved::Replaced;
+        }
+        return Saved::Failed;
+    }
+    if write_through(fd, name, bytes) {
+        return Saved::New;
+    }
+    Saved::Failed
 }
 
 // The same as read_file, and a file that cannot be read is said.

@@ -12,6 +12,7 @@ pub fn print_number(n: u64) {
 
 fn usage() {
     print(b"usage: loku report CALENDAR START END OFFSET STAMP\n");
+    print(b"       loku verify CALENDAR START END OFFSET STAMP [OFFSET-AGAIN]\n");
     print(b"       loku match CALENDAR QUERY OFFSET\n");
     print(
         b"       loku batch START END OFFSET STAMP [QUERY], with a file name a line on standard input\n",

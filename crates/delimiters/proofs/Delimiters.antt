@@ -62,7 +62,7 @@ pub named-length : (w v : List ℕ) (t : Bool) → t ≡ sameName w v → t ≡ 
 named-length w v t q e =
     sym (length-map v upper) ∙ sym (ap length (sameName-iff w v .0 (sym q ∙ e))) ∙ length-map w upper
 
--- the mark of a line whose name is BEGIN, or is END
+-- the delimiter that a line is, whose name is BEGIN, or is END
 abbrev delimiting : ContentLine → Bool → Bool → Delimiter
 delimiting x a b = cond a (delimitedBy x Begins) (cond b (delimitedBy x Ends) Property)
 

@@ -40,7 +40,7 @@ pub fn delimiter_of(line: &[u8]) -> Delimiter
     delimiter_named(line)
 }
 
-// The mark by the line's name, whatever its first byte.
+// The delimiter by the line's name, whatever its first byte.
 fn delimiter_named(line: &[u8]) -> Delimiter
     ensures { λ r. ⌜ r ≡ delimiterOf (lineOf (now (line .entry))) ⌝ }
 {
@@ -53,7 +53,7 @@ fn delimiter_named(line: &[u8]) -> Delimiter
     Delimiter::Property
 }
 
-// The mark, if the line has no parameters and a name as value. Its own name is n bytes long; mostly the colon stands right behind it.
+// The delimiter, if the line has no parameters and a name as value. Its own name is n bytes long; mostly the colon stands right behind it.
 fn delimited_by(line: &[u8], n: usize, delimiter: Delimiter) -> Delimiter
     requires { ⌜ n ≡ length (nameOf (now line)) ⌝ }
     ensures { λ r. ⌜ r ≡ delimitedBy (lineOf (now (line .entry))) delimiter ⌝ }
@@ -74,7 +74,7 @@ fn delimited_by(line: &[u8], n: usize, delimiter: Delimiter) -> Delimiter
 }
 
 // May a component of this name begin inside VCALENDAR, at this depth, as component number `count`?
-pub fn may_begin(name: &[u8], depth: usize, count: usize) -> bool
+fn may_begin(name: &[u8], depth: usize, count: usize) -> bool
     ensures { λ r. ⌜ r ≡ mayBegin (now (name .entry)) depth count ⌝ }
 {
     let calendar = ascii::same_name(name, b"VCALENDAR");

@@ -16,7 +16,7 @@ use Rattle.time.specs.Limits.{epoch, lastSecond, since, utcSecond}
 use Rattle.query.specs.Records.{textPlace, textFrom, textOf, componentAt}
 use Rattle.query.specs.Sections.{byteAt, countFits, placeWithin, behindRecords, behindText, behindTexts, behindTextSection, sectionsOf}
 use Rattle.query.specs.Counting.{everyBelow, someBelow}
-use Rattle.line.specs.Splitting.{firstOutside, before, after, pieces}
+use Rattle.line.specs.Splitting.{firstOutside, before, after, splitParts}
 use Rattle.line.specs.Reading.{headOf, valueOf, nameOf, parameterTexts, lineOf, parametersNamed, someList, hasParameter, hasTwice, hasList}
 use Rattle.line.specs.Scanner.{step, isEnding, scan, isWellFormed}
 use Rattle.line.specs.WellFormed.{lineCheckFrom, lineCheck}
@@ -38,7 +38,7 @@ use Rattle.filter.specs.Tests.{rangeHolds, someComponentNamed, someComponent, c
 use Rattle.engine.specs.Answers.{Outcome, verdict, refusal, unlessRefused}
 use Rattle.engine.specs.Matching.{MatchCall, misplacedIn, queryRows, matchRows, verdictBy, verdictOf, matchOutcome}
 
--- ---- the papers and the calendars
+-- ---- the queries and the calendars
 
 -- each line with its CR LF
 abbrev file : List String → List ℕ
@@ -57,18 +57,18 @@ abbrev folded : List ℕ
 folded = ascii "BEGIN:VCAL" ++ (13 ∷ 10 ∷ 32 ∷ file ("ENDAR" ∷ "END:VCALENDAR" ∷ []))
 
 -- two texts, then the records
-abbrev paper : List ℕ → List ℕ
-paper r = 0 ∷ 2 ∷ 9 ∷ ascii "VCALENDAR" ++ (6 ∷ ascii "VEVENT" ++ r)
+abbrev query : List ℕ → List ℕ
+query r = 0 ∷ 2 ∷ 9 ∷ ascii "VCALENDAR" ++ (6 ∷ ascii "VEVENT" ++ r)
 
--- a calendar; a calendar with an event; a calendar without; a badly formed paper
+-- a calendar; a calendar with an event; a calendar without; a badly formed query
 abbrev any : List ℕ
-any = paper (1 ∷ 0 ∷ 0 ∷ 0 ∷ 0 ∷ 0 ∷ 0 ∷ [])
+any = query (1 ∷ 0 ∷ 0 ∷ 0 ∷ 0 ∷ 0 ∷ 0 ∷ [])
 
 abbrev some : List ℕ
-some = paper (2 ∷ 0 ∷ 0 ∷ 0 ∷ 0 ∷ 0 ∷ 1 ∷ 0 ∷ 0 ∷ 0 ∷ 0 ∷ [])
+some = query (2 ∷ 0 ∷ 0 ∷ 0 ∷ 0 ∷ 0 ∷ 1 ∷ 0 ∷ 0 ∷ 0 ∷ 0 ∷ [])
 
 abbrev none : List ℕ
-none = paper (2 ∷ 0 ∷ 0 ∷ 0 ∷ 0 ∷ 0 ∷ 1 ∷ 0 ∷ 1 ∷ 0 ∷ 0 ∷ [])
+none = query (2 ∷ 0 ∷ 0 ∷ 0 ∷ 0 ∷ 0 ∷ 1 ∷ 0 ∷ 1 ∷ 0 ∷ 0 ∷ [])
 
 abbrev bad : List ℕ
 bad = []
@@ -79,7 +79,7 @@ pub record Example : Type 0 where
   pub calendar : List ℕ
   pub query : List ℕ
   pub offset : ℤ
-  pub said : Outcome
+  pub expected : Outcome
 
 abbrev room : List ℕ
 room = ascii "a work buffer that has at least as many bytes as any of the calendars of this table, and some more besides"
@@ -89,10 +89,10 @@ callOf x = record { calendar = x .calendar; query = x .query; offset = x .offset
 
 abbrev pub AllHold : List Example → Type 0
 AllHold [] = Unit {0}
-AllHold (x ∷ xs) = (matchOutcome (callOf x) ≡ x .said) × AllHold xs
+AllHold (x ∷ xs) = (matchOutcome (callOf x) ≡ x .expected) × AllHold xs
 
 abbrev row : List ℕ → List ℕ → ℤ → Outcome → Example
-row c q o n = record { calendar = c; query = q; offset = o; said = n }
+row c q o n = record { calendar = c; query = q; offset = o; expected = n }
 
 abbrev pub table : List Example
 table =
@@ -120,5 +120,5 @@ table =
     ∷ []
 
 pub edges : AllHold table
-unfolding matchOutcome unlessRefused lowest matchRows offsetGood sizeRows queryRows queryGood sectionsGood sectionsOf behindRecords countFits byteAt placeWithin behindTextSection behindTexts behindText recordsGood rangesGood everyBelow componentsGood componentGood nameGood componentAt isName textOf textFrom textPlace isNameByte isLetter parentGood sameName upper propertiesGood parametersGood misplacedIn rangeMisplaced componentsMisplaced someBelow componentMisplaced propertiesMisplaced calendarRows contentsRows lineRow lineCheck lineCheckFrom cut unfolded isFold isBreak isBlank isWellFormed scan isEnding step isDigit isControl nestingRow nestingOf outcome walk fileLines contentLines delimiterOf lineOf nameOf before firstOutside headOf parameterTexts pieces valueOf after afterEnd afterBegin isCalendar unsupportedRow valueFault componentsOf componentsIn itemsBelow treeOf itemsOf delimitedFrom badValueRow ruleRow ruleFault verdictOf verdictBy queryHolds componentTest componentHolds someComponent treeIn rangeHolds propertiesHold childrenHold hasChildComponent hasProperty someComponentNamed afterProperty mayBegin faultIn propertiesIn faultOr propertyValueOf valueAs propertyOf componentScope scopeOf isEvent timesOr unlessZoned hasParameter parametersNamed startBy timeIn timeOf readTime formOf hasTwice hasList someList timeBy readDateTime clockAt clockOf dateAt three yearAt joined pairAt digitPair checkedDay isDay monthDays lengthIn monthLengths timeAt checkedTime atSecond utcSecond since epoch dayNumber daysBeforeYear endingBy repeatBy eventMade eventWith eventFrom eventBy noProperties timeGiven durationGiven ruleGiven statusGiven transparencyGiven withProperty withProperties propertyValuesIn eventOf isBroken brokenOr isUnsupported eventProperty isLeap yearDays beforeIn daysBeforeMonth
+unfolding matchOutcome unlessRefused lowest matchRows offsetGood sizeRows queryRows queryGood sectionsGood sectionsOf behindRecords countFits byteAt placeWithin behindTextSection behindTexts behindText recordsGood rangesGood everyBelow componentsGood componentGood nameGood componentAt isName textOf textFrom textPlace isNameByte isLetter parentGood sameName upper propertiesGood parametersGood misplacedIn rangeMisplaced componentsMisplaced someBelow componentMisplaced propertiesMisplaced calendarRows contentsRows lineRow lineCheck lineCheckFrom cut unfolded isFold isBreak isBlank isWellFormed scan isEnding step isDigit isControl nestingRow nestingOf outcome walk fileLines contentLines delimiterOf lineOf nameOf before firstOutside headOf parameterTexts splitParts valueOf after afterEnd afterBegin isCalendar unsupportedRow valueFault componentsOf componentsIn itemsBelow treeOf itemsOf delimitedFrom badValueRow ruleRow ruleFault verdictOf verdictBy queryHolds componentTest componentHolds someComponent treeIn rangeHolds propertiesHold childrenHold hasChildComponent hasProperty someComponentNamed afterProperty mayBegin faultIn propertiesIn faultOr propertyValueOf valueAs propertyOf componentScope scopeOf isEvent timesOr unlessZoned hasParameter parametersNamed startBy timeIn timeOf readTime formOf hasTwice hasList someList timeBy readDateTime clockAt clockOf dateAt three yearAt joined pairAt digitPair checkedDay isDay monthDays lengthIn monthLengths timeAt checkedTime atSecond utcSecond since epoch dayNumber daysBeforeYear endingBy repeatBy eventMade eventWith eventFrom eventBy noProperties timeGiven durationGiven ruleGiven statusGiven transparencyGiven withProperty withProperties propertyValuesIn eventOf isBroken brokenOr isUnsupported eventProperty isLeap yearDays beforeIn daysBeforeMonth
 edges = (refl, (refl, (refl, (refl, (refl, (refl, (refl, (refl, (refl, (refl, (refl, (refl, (refl, (refl, (refl, (refl, (refl, tt)))))))))))))))))

@@ -1,4 +1,4 @@
--- Refusals 4 and 5: what the rows of the query paper refuse, whatever rows follow, and what they leave to them.
+-- Refusals 4 and 5: what the rows of the query refuse, whatever rows follow, and what they leave to them.
 use Prim.Native.Nat.{ℕ}
 use mathlib.Core.Path.{_≡_, refl, subst}
 use mathlib.Core.List.{List}

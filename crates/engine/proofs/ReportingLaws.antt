@@ -124,6 +124,9 @@ module _ {m : CalendarTerms} {r : Collected} {left : List ℕ} (k : Collects m r
           work-left-is = work-left out;
           output-left-is = v .output-left-is ∙ ap (λ (o : Outcome). outputAfter o (reportBytes (reportFor m)) out) (sym (outcome-left out));
           periods-are = k .periods-are;
+          busy-sound = k .busy-sound;
+          tentative-sound = k .tentative-sound;
+          unavailable-sound = k .unavailable-sound;
         }
 
   -- a refusal of the tables is the call's
@@ -140,6 +143,9 @@ module _ {m : CalendarTerms} {r : Collected} {left : List ℕ} (k : Collects m r
             ∙ ap (λ (x : Outcome). workAfter x (m .calendar) (m .work)) (sym o);
         output-left-is = ap (λ (x : Outcome). outputAfter x (reportBytes (reportFor m)) out) (sym o);
         periods-are = k .periods-are;
+        busy-sound = k .busy-sound;
+        tentative-sound = k .tentative-sound;
+        unavailable-sound = k .unavailable-sound;
       }
 
 -- the answer alone, by the refusal and the length

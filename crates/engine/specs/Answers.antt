@@ -1,4 +1,4 @@
--- An answer (document 01, Refusal numbers) is one of three kinds: a verdict, a report's length, or a refusal with its number.
+-- The public answer and its three kinds (document 01, Refusal numbers): yes or no, how long the report is, or which refusal.
 use Prim.Native.Nat.{ℕ}
 use mathlib.Core.Bool.{Bool}
 use mathlib.Core.List.{List}
@@ -11,7 +11,7 @@ pub data Outcome : Type 0 where
   report : ℕ → Outcome
   refusal : ℕ → Outcome
 
--- the paper's number and values for each case of the answer
+-- the rules' number and values for each case of the answer
 unfoldable pub outcomeOf : Answer → Outcome
 outcomeOf (Answer.Verdict b) = verdict b
 outcomeOf (Answer.Length n) = report n

@@ -23,7 +23,7 @@ pub record MatchCall : Type 0 where
   pub offset : ℤ
   pub work : List ℕ
 
--- 4: query paper badly formed; 5: a time range where none can be
+-- 4: query badly formed; 5: a time range where none can be
 unfoldable pub misplacedIn : List ℕ → SectionsRead → Bool
 misplacedIn s (SectionsRead.Of q) = rangeMisplaced s q
 misplacedIn s SectionsRead.Bad = false

@@ -55,7 +55,7 @@ unfoldable pub SameSeconds : CalendarTerms → CalendarTerms → Type 0
 SameSeconds x y = (b : BusyType) → isBusy b ≡ true → (t : ℕ) → x .start ≤ t → t < x .end
     → coveredIn (x .calendar) (x .offset) b t ≡ coveredIn (y .calendar) (y .offset) b t
 
--- both answer with a report exactly when no numbered refusal applies to either; where both do, same length and same bytes exactly when same seconds
+-- two reports are given where nothing refuses either call, and only there; they have one length and one content where the seconds are the same, and only there
 pub record OneMeaning (x : ReportCall) (a : Answer) (out-x : List ℕ) (y : ReportCall) (b : Answer) (out-y : List ℕ) : Type 0 where
   pub both-report : ((n : ℕ) × (k : ℕ) × (IsReport a n × IsReport b k)) ↔ (NoneApplies (reportRows x) × NoneApplies (reportRows y))
   pub same-report : (n k : ℕ) → IsReport a n → IsReport b k → ((n ≡ k) × (take n out-x ≡ take k out-y)) ↔ SameSeconds (x .terms) (y .terms)

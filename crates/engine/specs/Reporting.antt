@@ -5,6 +5,7 @@ use mathlib.Core.Bool.{true}
 use mathlib.Core.List.{List, [], _∷_, _++_}
 use lib.Dec.{ltb}
 use lib.ListN.{length, drop}
+use Rattle.table.specs.Tables.{Sound}
 use Rattle.periods.specs.declared.BusyType.{BusyType}
 use Rattle.periods.specs.BusyTypes.{isBusy}
 use Rattle.report.specs.Bytes.{reportBytes}
@@ -29,7 +30,7 @@ reportRows m = collectRows (m .terms) (row 12 0 (ltb (length (m .output)) (lengt
 unfoldable pub reportOutcome : ReportCall → Outcome
 reportOutcome m = unlessRefused (lowest (reportRows m)) (report (length (reportBytes (reportFor (m .terms)))))
 
--- the output afterwards: unchanged on any refusal; otherwise the report stands first and later bytes are unchanged
+-- the output afterwards: as it was where there is a refusal, else the report and behind it what was there
 unfoldable pub outputAfter : Outcome → List ℕ → List ℕ → List ℕ
 outputAfter (verdict b) bytes out = out
 outputAfter (report n) bytes out = bytes ++ drop (length bytes) out
@@ -49,3 +50,6 @@ pub record ReportedTables (m : ReportCall) (r : ReportTables) (work-left out-lef
   pub output-left-is : out-left ≡ outputAfter (reportOutcome m) (reportBytes (reportFor (m .terms))) (m .output)
   pub periods-are : (b : BusyType) → isBusy b ≡ true
       → byType (r .busy) (r .tentative) (r .unavailable) b ≡ periodsBy (lowest (collectRows (m .terms) [])) (m .terms) b
+  pub busy-sound : Sound (r .busy)
+  pub tentative-sound : Sound (r .tentative)
+  pub unavailable-sound : Sound (r .unavailable)

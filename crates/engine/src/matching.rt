@@ -15,12 +15,12 @@ ghost use Rattle.query_check.specs.WellFormed.{recordsGood};
 ghost use Rattle.engine.specs.MatchStages.{Answered, queryOutcome, calendarOutcome};
 
 // Refusals 6 to 10, then the filter.
-fn match_calendar(work: &mut [u8], cal: &[u8], paper: &[u8], q: Sections, c: Context) -> Answer
+fn match_calendar(work: &mut [u8], cal: &[u8], query: &[u8], q: Sections, c: Context) -> Answer
     requires { ⌜ length (now cal) ≤ length (now work) ⌝ }
-    requires { ⌜ Fits (now paper) q ⌝ }
-    requires { ⌜ recordsGood (now paper) q ≡ true ⌝ }
+    requires { ⌜ Fits (now query) q ⌝ }
+    requires { ⌜ recordsGood (now query) q ≡ true ⌝ }
     requires { ⌜ ContextGood c ⌝ }
-    ensures { λ r. ⌜ Answered (calendarOutcome c (now (cal .entry)) (now (paper .entry)) q) (now (cal .entry)) (now (work .entry)) r (now (work .exit)) ⌝ }
+    ensures { λ r. ⌜ Answered (calendarOutcome c (now (cal .entry)) (now (query .entry)) q) (now (cal .entry)) (now (work .entry)) r (now (work .exit)) ⌝ }
 {
     let read = refusals::read_calendar(work, cal, c);
     let n = read.length;
@@ -28,21 +28,21 @@ fn match_calendar(work: &mut [u8], cal: &[u8], paper: &[u8], q: Sections, c: Con
     match f {
         Fault::At(k, line) => Answer::Refused(k),
         Fault::None => {
-            let holds = filter::components::query_holds(paper, q, &work[..n], c);
+            let holds = filter::components::query_holds(query, q, &work[..n], c);
             Answer::Verdict(holds)
         }
     }
 }
 
 // Refusals 4 and 5, then the calendar.
-pub fn match_query(work: &mut [u8], cal: &[u8], paper: &[u8], c: Context) -> Answer
+pub fn match_query(work: &mut [u8], cal: &[u8], query: &[u8], c: Context) -> Answer
     requires { ⌜ length (now cal) ≤ length (now work) ⌝ }
     requires { ⌜ ContextGood c ⌝ }
-    ensures { λ r. ⌜ Answered (queryOutcome c (now (cal .entry)) (now (paper .entry))) (now (cal .entry)) (now (work .entry)) r (now (work .exit)) ⌝ }
+    ensures { λ r. ⌜ Answered (queryOutcome c (now (cal .entry)) (now (query .entry))) (now (cal .entry)) (now (work .entry)) r (now (work .exit)) ⌝ }
 {
-    match query_check::read_query(paper) {
+    match query_check::read_query(query) {
         QueryRead::Bad => Answer::Refused(4),
         QueryRead::Misplaced => Answer::Refused(5),
-        QueryRead::Of(q) => match_calendar(work, cal, paper, q, c),
+        QueryRead::Of(q) => match_calendar(work, cal, query, q, c),
     }
 }

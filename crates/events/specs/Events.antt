@@ -42,7 +42,7 @@ isDate t = eqb (kindNumber (t .kind)) 2
 unfoldable pub statedEnd : Time → Time → EndingRead
 statedEnd s e = cond (sameKind e s && ltb (s .second) (e .second)) (EndingRead.Of (Ending.End (e .second))) EndingRead.Broken
 
--- on a DATE, a duration has no time part
+-- an event on a DATE lasts whole days: its duration names no time
 unfoldable pub statedDuration : Time → Duration → EndingRead
 statedDuration s d = cond (isDate s && d .timed) EndingRead.Broken (EndingRead.Of (Ending.Lasts d))
 
@@ -53,7 +53,7 @@ endingBy s (TimeGiven.Given e) DurationGiven.Absent = statedEnd s e
 endingBy s TimeGiven.Absent (DurationGiven.Given d) = statedDuration s d
 endingBy s (TimeGiven.Given e) (DurationGiven.Given d) = EndingRead.Broken
 
--- UNTIL is of DTSTART's kind and not before it
+-- UNTIL must be a time like DTSTART, and no earlier
 unfoldable pub limitBy : Time → Limit → RepeatRead
 limitBy s Limit.Forever = RepeatRead.Of Repeat.Forever
 limitBy s (Limit.Count n) = RepeatRead.Of (Repeat.Count n)

@@ -1,5 +1,5 @@
 // What the lines of a component say together, one line after another.
-// Of a property that stands twice the last is kept, and that there was a surplus.
+// Of a property that stands twice the last is kept, and that it was repeated.
 use crate::ComponentProperties;
 use crate::DurationGiven;
 use crate::RuleGiven;
@@ -200,7 +200,7 @@ fn with_transparency(g: ComponentProperties, x: bool) -> ComponentProperties
     }
 }
 
-// One line more: a second one of a property that may stand once is surplus.
+// One line more: a second one of a property that may stand once is repeated.
 pub fn with_property(g: ComponentProperties, s: PropertyValue) -> ComponentProperties
     ensures { λ r. ⌜ r ≡ withProperty g s ⌝ }
 {

@@ -64,7 +64,7 @@ fn stated_end(s: Time, e: Time) -> EndingRead
     }
 }
 
-// On a DATE a duration has no time part.
+// An event on a DATE lasts whole days.
 fn stated_duration(s: Time, d: Duration) -> EndingRead
     ensures { λ r. ⌜ r ≡ statedDuration s d ⌝ }
 {
@@ -77,7 +77,7 @@ fn stated_duration(s: Time, d: Duration) -> EndingRead
 }
 
 // One of three endings, and not both DTEND and DURATION.
-pub fn ending_by(s: Time, end: TimeGiven, lasts: DurationGiven) -> EndingRead
+fn ending_by(s: Time, end: TimeGiven, lasts: DurationGiven) -> EndingRead
     ensures { λ r. ⌜ r ≡ endingBy s end lasts ⌝ }
 {
     match end {
@@ -92,8 +92,8 @@ pub fn ending_by(s: Time, end: TimeGiven, lasts: DurationGiven) -> EndingRead
     }
 }
 
-// UNTIL is of DTSTART's kind and not before it.
-pub fn limit_by(s: Time, limit: Limit) -> RepeatRead
+// UNTIL must be a time like DTSTART, and no earlier.
+fn limit_by(s: Time, limit: Limit) -> RepeatRead
     ensures { λ r. ⌜ r ≡ limitBy s limit ⌝ }
 {
     match limit {
@@ -112,7 +112,7 @@ pub fn limit_by(s: Time, limit: Limit) -> RepeatRead
 }
 
 // Without a rule there is instance 0 alone.
-pub fn repeat_by(s: Time, g: RuleGiven) -> RepeatRead
+fn repeat_by(s: Time, g: RuleGiven) -> RepeatRead
     ensures { λ r. ⌜ r ≡ repeatBy s g ⌝ }
 {
     match g {
@@ -156,7 +156,7 @@ fn busy_by_status(g: StatusGiven) -> BusyType
 }
 
 // TRANSP decides before STATUS.
-pub fn busy_by(transparency: TransparencyGiven, status: StatusGiven) -> BusyType
+fn busy_by(transparency: TransparencyGiven, status: StatusGiven) -> BusyType
     ensures { λ r. ⌜ r ≡ busyBy transparency status ⌝ }
 {
     match transparency {

@@ -6,104 +6,47 @@ use mathlib.Core.List.{List, [], _∷_}
 use native.Mathlib.Omega.{arith}
 use lib.Dec.{eqb, ltb}
 use borrow.Author.Tests.{eqb-true, ltb-true, not-true}
-use Rattle.ascii.specs.Bytes.{isDigit, upper}
-use Rattle.ascii.specs.Names.{sameName}
+use Rattle.ascii.specs.Bytes.{isDigit, isLetter, isNameByte, isControl, upper}
+use Rattle.ascii.specs.Names.{sameName, isName}
 use Rattle.ascii.proofs.Bools.{and-left, and-right, clash, not-so}
+use Rattle.text.specs.Unfolding.{isBreak, isBlank, isFold, unfolded}
+use Rattle.text.specs.Lines.{cut, contentLines}
 use Rattle.time.specs.DateTime.{digitPair, pairAt, joined, yearAt, checkedDay, three, dateAt, checkedTime, timeAt, clockOf, clockAt, readDateTime}
 use Rattle.time.specs.Days.{isLeap, yearDays, daysBeforeYear, monthLengths, lengthIn, beforeIn, monthDays, daysBeforeMonth, dayNumber, isDay}
 use Rattle.time.specs.Duration.{timeStart, nextStage, weightOf, blank, withDigit, fitting, unitTo, withUnit, step, runs as textRuns, finish, durationText, durationSeconds, withinLimit, limited, readDuration}
-use Rattle.time.specs.Limits.{epoch, lastSecond, since, utcSecond}
+use Rattle.time.specs.Limits.{epoch, since, utcSecond}
+use Rattle.time.specs.Grammar.{decimal}
 use Rattle.time.specs.declared.date_time.Kind.{Kind}
-use Rattle.line.specs.Splitting.{firstOutside, before, after, pieces}
-use Rattle.line.specs.Reading.{headOf, valueOf, nameOf, parameterTexts, lineOf, parametersNamed, someList, hasParameter, hasTwice, hasList}
-use Rattle.values.specs.Times.{atSecond, timeBy, readTime, formOf, timeOf}
-use Rattle.periods.specs.declared.Period.{Period}
-use Rattle.property.specs.Properties.{timesOr, eventProperty, propertyOf, timeIn, startBy, unlessZoned, durationBy, valueAs, propertyValueOf}
-use Rattle.periods.specs.declared.BusyType.{BusyType}
-use Rattle.property.specs.declared.PropertyValue.{PropertyValue}
+use Rattle.line.specs.Scanner.{step as scanStep, isEnding, scan, isWellFormed}
+use Rattle.line.specs.WellFormed.{lineCheckFrom, lineCheck}
+use Rattle.line.specs.Splitting.{firstOutside, before, after, splitParts, plainSplit}
+use Rattle.line.specs.Reading.{headOf, valueOf, nameOf, parameterTexts, lineOf, parametersNamed, someList, valuesNamed, pooled, hasParameter, hasTwice, hasList, firstValue}
+use Rattle.delimiters.specs.Delimiters.{delimiterOf}
+use Rattle.delimiters.specs.Innermost.{isCalendar, isEvent, isFreeBusy, mayBegin}
 use Rattle.periods.specs.Periods.{period, secondIn, covers}
-use Rattle.table.specs.Runs.{lead, leadIf, runs}
 use Rattle.periods.specs.BusyTypes.{reportPlace, sameBusy}
+use Rattle.periods.specs.declared.Period.{Period}
+use Rattle.periods.specs.declared.BusyType.{BusyType}
+use Rattle.values.specs.Period.{utcBy, utcAt, endBy as periodEnd, periodTo, periodFrom, periodOf, periodItems, allPeriods, goodPeriods}
+use Rattle.values.specs.Rule.{numberTo, frequencyPart, intervalBy as intervalPart, countBy, namedPart, partOf, noParts, withPart, withParts, ruleBy, ruleOf}
+use Rattle.values.specs.Times.{atSecond, timeBy, readTime, formOf, timeOf}
+use Rattle.property.specs.Properties.{timesOr, eventProperty, freeBusyProperty, propertyOf, timeIn, startBy, endBy, unlessZoned, durationBy, ruleValue, busyNamed, busyOf, periodsValue, valueAs, propertyValueOf}
+use Rattle.nesting.specs.Nesting.{afterBegin, afterEnd, afterProperty, walk, outcome, nestingOf}
+use Rattle.nesting.specs.Components.{delimitedFrom, itemsOf, treeOf, componentsIn, propertiesIn, itemsBelow}
+use Rattle.table.specs.Runs.{lead, leadIf, runs}
+use Rattle.events.specs.ComponentProperties.{noProperties, timeGiven, durationGiven, ruleGiven, withProperty, withProperties}
+use Rattle.events.specs.Events.{Entry, event, block, kindNumber, sameKind, isDate, statedEnd, statedDuration, endingBy, limitBy, repeatBy, daysBy, intervalBy, busyByStatus, busyBy, eventMade, eventWith as eventEnding, eventFrom, eventBy, blockFrom, blockBy}
 use Rattle.events.specs.declared.Event.{Event}
-use Rattle.calendar.specs.Meaning.{faultOr, byValues, faultOf}
-use Rattle.calendar.specs.declared.Fault.{Fault}
+use Rattle.calendar.specs.Meaning.{Meaning, fault, calendar, scopeOf, componentScope, propertyValuesIn, faultOr, faultIn, valueFault, eventOf, blockOf, isBroken, brokenOr, ruleFault, periodsBy, blockPeriods, entryOf, entriesOf, fileLines, componentsOf, byRules, byValues, byNesting, byLines, contentsOf, meaningOf}
 use Rattle.recurrence.specs.Candidates.{firstAt, spanOf, candidateOf, startsBefore}
 use Rattle.recurrence.specs.Instances.{stepOf, startOf, repeats, isInstance, occurs, defaultLength, lengthBy, endOf}
-use Rattle.recurrence.specs.TimeRange.{overlaps, instanceIn}
+use Rattle.recurrence.specs.TimeRange.{EventIn, Decides, overlaps, instanceIn}
 use Rattle.recurrence.proofs.Instances.{instance-before, occurs-instance}
 use Rattle.recurrence.proofs.Candidates.{before-candidate, search-finds, search-ends}
 use Rattle.pieces.specs.BusyPeriods.{entryPeriods, busyPeriods}
 use Rattle.pieces.specs.Covered.{ofType, coveredBy, covered}
-use Rattle.examples.specs.Examples.{seconds, refused, Claim, time, duration, range, noPiece, periods, last, lineValue, lineFault, startAt, Lasting, blockWith, Last, Holds, All, eventFrom, busy, table}
+use Rattle.examples.specs.Examples.{seconds, refused, Claim, time, duration, range, noPiece, periods, last, calendarBytes, meaningWith, eventWith, blockWith, startingAt, lasting, OneEvent, Entries, Last, Holds, All, table}
 use Rattle.examples.proofs.NoPieces.{no-pieces}
-
--- ---- what a line says
-
--- a start at a UTC second, or a length in seconds
-data Wanted : Type 0 where
-  start : ℕ → Wanted
-  length : ℕ → Wanted
-
-abbrev Meets : Wanted → PropertyValue → Type 0
-Meets (start n) s = s ≡ startAt n
-Meets (length n) s = Lasting s n
-
-isUtc : Kind → Bool
-isUtc Kind.Utc = true
-isUtc Kind.Floating = false
-isUtc Kind.Date = false
-
-meets : Wanted → PropertyValue → Bool
-meets w PropertyValue.Nothing = false
-meets w PropertyValue.Unsupported = false
-meets w PropertyValue.Bad = false
-meets (start n) (PropertyValue.Start t) = isUtc (t .kind) && eqb (t .second) n
-meets (length n) (PropertyValue.Start t) = false
-meets w (PropertyValue.End t) = false
-meets (start n) (PropertyValue.Lasts d) = false
-meets (length n) (PropertyValue.Lasts d) = eqb (durationSeconds d) n
-meets w (PropertyValue.Repeats r) = false
-meets w (PropertyValue.HasStatus x) = false
-meets w (PropertyValue.Transparent x) = false
-meets w (PropertyValue.HasPeriods x) = false
-
-utc : (k : Kind) → isUtc k ≡ true → k ≡ Kind.Utc
-unfolding isUtc
-utc Kind.Utc h = refl
-utc Kind.Floating h = clash h refl
-utc Kind.Date h = clash h refl
-
-starts : (k : Kind) (s n : ℕ) → (isUtc k && eqb s n) ≡ true → PropertyValue.Start (record { kind = k; second = s }) ≡ startAt n
-unfolding startAt
-starts k s n h =
-    ap (λ (j : Kind). PropertyValue.Start (record { kind = j; second = s })) (utc k (and-left (isUtc k) _ h))
-    ∙ ap (λ (i : ℕ). PropertyValue.Start (record { kind = Kind.Utc; second = i })) (eqb-true s n (and-right (isUtc k) _ h))
-
-met : (w : Wanted) (s : PropertyValue) → meets w s ≡ true → Meets w s
-unfolding meets
-met w PropertyValue.Nothing h = clash h refl
-met w PropertyValue.Unsupported h = clash h refl
-met w PropertyValue.Bad h = clash h refl
-met (start n) (PropertyValue.Start t) h = starts (t .kind) (t .second) n h
-met (length n) (PropertyValue.Start t) h = clash h refl
-met w (PropertyValue.End t) h = clash h refl
-met (start n) (PropertyValue.Lasts d) h = clash h refl
-met (length n) (PropertyValue.Lasts d) h = record { lasts = d; said = refl; long = eqb-true (durationSeconds d) n h }
-met w (PropertyValue.Repeats r) h = clash h refl
-met w (PropertyValue.HasStatus x) h = clash h refl
-met w (PropertyValue.Transparent x) h = clash h refl
-met w (PropertyValue.HasPeriods x) h = clash h refl
-
--- a refusal of line 1
-isRefusal : ℕ → Fault → Bool
-isRefusal r Fault.None = false
-isRefusal r (Fault.At n i) = eqb n r && eqb i 1
-
-is-refusal : (r : ℕ) (f : Fault) → isRefusal r f ≡ true → f ≡ Fault.At r 1
-unfolding isRefusal
-is-refusal r Fault.None h = clash h refl
-is-refusal r (Fault.At n i) h =
-    ap (λ (j : ℕ). Fault.At j i) (eqb-true n r (and-left (eqb n r) _ h)) ∙ ap (λ (j : ℕ). Fault.At r j) (eqb-true i 1 (and-right (eqb n r) _ h))
 
 -- ---- lists of periods
 
@@ -145,32 +88,119 @@ last-by e k s h =
       none-later = none-later-by e k (not-true _ (and-right (eqb (startOf e k) s) _ m));
     }
 
+-- ---- what a calendar means
+
+-- the test holds of its one event
+ofEvent : Meaning → (Event → Bool) → Bool
+ofEvent (fault n i) f = false
+ofEvent (calendar []) f = false
+ofEvent (calendar (event e ∷ [])) f = f e
+ofEvent (calendar (event e ∷ x ∷ xs)) f = false
+ofEvent (calendar (block k ps ∷ xs)) f = false
+
+of-event : (m : Meaning) (f : Event → Bool) (P : Event → Type 0) → ((e : Event) → f e ≡ true → P e) → ofEvent m f ≡ true → OneEvent m P
+unfolding ofEvent
+of-event (fault n i) f P g h = clash h refl
+of-event (calendar []) f P g h = clash h refl
+of-event (calendar (event e ∷ [])) f P g h = record { given = e; means = refl; so = g e h }
+of-event (calendar (event e ∷ x ∷ xs)) f P g h = clash h refl
+of-event (calendar (block k ps ∷ xs)) f P g h = clash h refl
+
+-- the test holds of its entries
+ofEntries : Meaning → (List Entry → Bool) → Bool
+ofEntries (fault n i) f = false
+ofEntries (calendar es) f = f es
+
+of-entries : (m : Meaning) (f : List Entry → Bool) (P : List Entry → Type 0) → ((es : List Entry) → f es ≡ true → P es) → ofEntries m f ≡ true → Entries m P
+unfolding ofEntries
+of-entries (fault n i) f P g h = clash h refl
+of-entries (calendar es) f P g h = record { given = es; means = refl; so = g es h }
+
+-- a refusal and its line
+isFault : ℕ → ℕ → Meaning → Bool
+isFault r i (fault n k) = eqb n r && eqb k i
+isFault r i (calendar es) = false
+
+is-fault : (r i : ℕ) (m : Meaning) → isFault r i m ≡ true → m ≡ fault r i
+unfolding isFault
+is-fault r i (fault n k) h =
+    ap (λ (j : ℕ). fault j k) (eqb-true n r (and-left (eqb n r) _ h)) ∙ ap (λ (j : ℕ). fault r j) (eqb-true k i (and-right (eqb n r) _ h))
+is-fault r i (calendar es) h = clash h refl
+
+-- ---- events
+
+isUtc : Kind → Bool
+isUtc Kind.Utc = true
+isUtc Kind.Floating = false
+isUtc Kind.Date = false
+
+utc : (k : Kind) → isUtc k ≡ true → k ≡ Kind.Utc
+unfolding isUtc
+utc Kind.Utc h = refl
+utc Kind.Floating h = clash h refl
+utc Kind.Date h = clash h refl
+
+startsAt : ℕ → Event → Bool
+startsAt n e = isUtc (e .kind) && eqb (e .start) n
+
+starts-at : (n : ℕ) (e : Event) → startsAt n e ≡ true → (e .kind ≡ Kind.Utc) × (e .start ≡ n)
+unfolding startsAt
+starts-at n e h = (utc (e .kind) (and-left (isUtc (e .kind)) _ h), eqb-true (e .start) n (and-right (isUtc (e .kind)) _ h))
+
+hasLength : ℕ → Event → Bool
+hasLength n e = eqb (lengthBy e (e .ending)) n
+
+has-length : (n : ℕ) (e : Event) → hasLength n e ≡ true → lengthBy e (e .ending) ≡ n
+unfolding hasLength
+has-length n e h = eqb-true _ n h
+
+inRange : ℕ → ℕ → Bool → Event → Bool
+inRange a b true e = instanceIn e a b (candidateOf e a)
+inRange a b false e = not (startsBefore e b (candidateOf e a)) && ltb 0 (stepOf e)
+
+in-range : (a b : ℕ) (t : Bool) (e : Event) → inRange a b t e ≡ true → Decides t (EventIn e a b)
+unfolding inRange
+in-range a b true e h = search-finds _ h
+in-range a b false e h =
+    let some-step = ltb-true 0 (stepOf e) (and-right (not (startsBefore e b (candidateOf e a))) _ h) in
+    search-ends _ (before-candidate e a some-step b) (not-true _ (and-left _ (ltb 0 (stepOf e)) h))
+
+isLast : ℕ → ℕ → Event → Bool
+isLast k s e = occurs e k && (eqb (startOf e k) s && not (isInstance e (k + 1)))
+
+is-last : (k s : ℕ) (e : Event) → isLast k s e ≡ true → Last e k s
+unfolding isLast
+is-last k s e h = last-by e k s h
+
+hasPeriods : ℕ → List Period → List Entry → Bool
+hasPeriods n qs es = samePeriods (runs (covered BusyType.Busy es) 0 n) qs
+
+has-periods : (n : ℕ) (qs : List Period) (es : List Entry) → hasPeriods n qs es ≡ true → runs (covered BusyType.Busy es) 0 n ≡ qs
+unfolding hasPeriods
+has-periods n qs es h = same-periods _ qs h
+
 -- ---- the table
 
 test : Claim → Bool
-test (time s (seconds n)) = meets (start n) (lineValue "DTSTART:" s)
-test (time s (refused r)) = isRefusal r (lineFault "DTSTART:" s)
-test (duration s (seconds n)) = meets (length n) (lineValue "DURATION:" s)
-test (duration s (refused r)) = isRefusal r (lineFault "DURATION:" s)
-test (range e a b true) = instanceIn e a b (candidateOf e a)
-test (range e a b false) = not (startsBefore e b (candidateOf e a)) && ltb 0 (stepOf e)
-test (noPiece e a b) = eqb (lengthBy e (e .ending)) 0
-test (periods ps n qs) = samePeriods (runs (covered BusyType.Busy (blockWith ps)) 0 n) qs
-test (last e k s) = occurs e k && (eqb (startOf e k) s && not (isInstance e (k + 1)))
+test (time s (seconds n)) = ofEvent (startingAt s) (startsAt n)
+test (time s (refused r)) = isFault r 3 (startingAt s)
+test (duration s (seconds n)) = ofEvent (lasting s) (hasLength n)
+test (duration s (refused r)) = isFault r 4 (lasting s)
+test (range ls a b t) = ofEvent (eventWith ls) (inRange a b t)
+test (noPiece ls a b) = ofEvent (eventWith ls) (hasLength 0)
+test (periods ls n qs) = ofEntries (blockWith ls) (hasPeriods n qs)
+test (last ls k s) = ofEvent (eventWith ls) (isLast k s)
 
 sound : (c : Claim) → test c ≡ true → Holds c
 unfolding test
-sound (time s (seconds n)) h = met (start n) _ h
-sound (time s (refused r)) h = is-refusal r _ h
-sound (duration s (seconds n)) h = met (length n) _ h
-sound (duration s (refused r)) h = is-refusal r _ h
-sound (range e a b true) h = search-finds _ h
-sound (range e a b false) h =
-    let some-step = ltb-true 0 (stepOf e) (and-right (not (startsBefore e b (candidateOf e a))) _ h) in
-    search-ends _ (before-candidate e a some-step b) (not-true _ (and-left _ (ltb 0 (stepOf e)) h))
-sound (noPiece e a b) h = no-pieces a b e (eqb-true _ 0 h)
-sound (periods ps n qs) h = same-periods _ qs h
-sound (last e k s) h = last-by e k s h
+sound (time s (seconds n)) h = of-event _ (startsAt n) _ (starts-at n) h
+sound (time s (refused r)) h = is-fault r 3 _ h
+sound (duration s (seconds n)) h = of-event _ (hasLength n) _ (has-length n) h
+sound (duration s (refused r)) h = is-fault r 4 _ h
+sound (range ls a b t) h = of-event _ (inRange a b t) _ (in-range a b t) h
+sound (noPiece ls a b) h = of-event _ (hasLength 0) _ (λ e q. no-pieces a b e (has-length 0 e q)) h
+sound (periods ls n qs) h = of-entries _ (hasPeriods n qs) _ (has-periods n qs) h
+sound (last ls k s) h = of-event _ (isLast k s) _ (is-last k s) h
 
 tests : List Claim → Bool
 tests [] = true
@@ -183,5 +213,5 @@ all-hold (c ∷ cs) h = (sound c (and-left (test c) (tests cs) h), all-hold cs (
 
 -- document 01, Examples at the edges: every row holds
 pub edges : All table
-unfolding table eventFrom busy blockWith lineValue lineFault tests test meets isUtc isRefusal samePeriod samePeriods isDigit upper sameName firstOutside before after pieces headOf valueOf nameOf parameterTexts lineOf parametersNamed someList hasParameter hasTwice hasList digitPair pairAt joined yearAt checkedDay three dateAt checkedTime timeAt clockOf clockAt readDateTime isLeap yearDays daysBeforeYear monthLengths lengthIn beforeIn monthDays daysBeforeMonth dayNumber isDay timeStart nextStage weightOf blank withDigit fitting unitTo withUnit step textRuns finish durationText durationSeconds withinLimit limited readDuration epoch since utcSecond timesOr eventProperty propertyOf timeIn startBy unlessZoned durationBy valueAs propertyValueOf atSecond timeBy readTime formOf timeOf reportPlace sameBusy faultOr byValues faultOf secondIn covers lead leadIf runs firstAt spanOf startsBefore stepOf startOf repeats isInstance occurs defaultLength lengthBy endOf overlaps instanceIn entryPeriods busyPeriods ofType coveredBy covered
+unfolding table calendarBytes meaningWith eventWith blockWith startingAt lasting isFault startsAt hasLength ofEvent ofEntries inRange isLast hasPeriods tests test isUtc samePeriod samePeriods isDigit upper sameName firstOutside before after splitParts headOf valueOf nameOf parameterTexts lineOf parametersNamed someList hasParameter hasTwice hasList digitPair pairAt joined yearAt checkedDay three dateAt checkedTime timeAt clockOf clockAt readDateTime isLeap yearDays daysBeforeYear monthLengths lengthIn beforeIn monthDays daysBeforeMonth dayNumber isDay timeStart nextStage weightOf blank withDigit fitting unitTo withUnit step textRuns finish durationText durationSeconds withinLimit limited readDuration epoch since utcSecond timesOr eventProperty propertyOf timeIn startBy unlessZoned durationBy valueAs propertyValueOf atSecond timeBy readTime formOf timeOf reportPlace sameBusy faultOr byValues secondIn covers lead leadIf runs firstAt spanOf startsBefore stepOf startOf repeats isInstance occurs defaultLength lengthBy endOf overlaps instanceIn entryPeriods busyPeriods ofType coveredBy covered isLetter isNameByte isControl isName isBreak isBlank isFold unfolded cut contentLines scanStep isEnding scan isWellFormed lineCheckFrom lineCheck plainSplit valuesNamed firstValue delimiterOf isCalendar isEvent isFreeBusy mayBegin afterBegin afterEnd afterProperty walk outcome nestingOf delimitedFrom itemsOf treeOf componentsIn propertiesIn itemsBelow scopeOf componentScope propertyValuesIn faultIn valueFault eventOf blockOf isBroken brokenOr ruleFault periodsBy blockPeriods entryOf entriesOf fileLines componentsOf byRules byNesting byLines contentsOf meaningOf noProperties timeGiven durationGiven ruleGiven withProperty withProperties kindNumber sameKind isDate statedEnd statedDuration endingBy limitBy repeatBy daysBy intervalBy busyByStatus busyBy eventMade eventEnding eventFrom eventBy blockFrom blockBy freeBusyProperty endBy ruleValue busyNamed busyOf periodsValue utcBy utcAt periodEnd periodTo periodFrom periodOf periodItems allPeriods goodPeriods numberTo frequencyPart intervalPart countBy namedPart partOf noParts withPart withParts ruleBy ruleOf decimal pooled
 edges = all-hold table refl

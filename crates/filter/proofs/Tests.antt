@@ -32,7 +32,7 @@ use Rattle.filter.specs.Trials.{trialOf, trialWhere, hereAlone, trialHer
 use Rattle.filter.specs.declared.trials.Trial.{Trial}
 use Rattle.filter.proofs.TrialsLaws.{trial-of-small, where-small, small-as, trial-by-place, where-holds}
 
--- ---- what a good paper gives
+-- ---- what a good query gives
 
 module _ (p : List ℕ) (q : Sections) {r : ComponentRecord} (j : ℕ) (g : recordsGood p q ≡ true) (h : j < q .components .count) (e : r ≡ componentAt p q j) where
   component-good : GoodComponent p q j r

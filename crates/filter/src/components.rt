@@ -23,7 +23,7 @@ ghost use Rattle.filter.specs.Tests.{someComponentNamed, childrenHold, c
 ghost use Rattle.filter.specs.Trials.{hereAlone, trialHere};
 
 // Has some component the name, of those that stand side by side from here on?
-pub fn some_component_named(name: &[u8], s: &[u8], from: usize, first: usize) -> bool
+fn some_component_named(name: &[u8], s: &[u8], from: usize, first: usize) -> bool
     requires { ⌜ (from ≤ length (now s)) × (first ≤ from + 1) ⌝ }
     ensures { λ t. ⌜ t ≡ someComponentNamed (now (name .entry)) (componentsFrom (now (s .entry)) from first) ⌝ }
 {
@@ -49,8 +49,8 @@ pub fn some_component_named(name: &[u8], s: &[u8], from: usize, first: usize) ->
 }
 
 // Component record j among the components that stand side by side from here on.
-pub fn component_holds(
-    paper: &[u8],
+fn component_holds(
+    query: &[u8],
     q: Sections,
     j: usize,
     s: &[u8],
@@ -58,16 +58,16 @@ pub fn component_holds(
     first: usize,
     c: Context,
 ) -> bool
-    requires { ⌜ Fits (now paper) q ⌝ }
-    requires { ⌜ recordsGood (now paper) q ≡ true ⌝ }
+    requires { ⌜ Fits (now query) q ⌝ }
+    requires { ⌜ recordsGood (now query) q ≡ true ⌝ }
     requires { ⌜ j < q .components .count ⌝ }
     requires { ⌜ ContextGood c ⌝ }
     requires { ⌜ (from ≤ length (now s)) × (first ≤ from + 1) ⌝ }
-    ensures { λ t. ⌜ t ≡ componentTest c (now (paper .entry)) q j (itemsOf 0 (linesFrom (now (s .entry)) from first)) ⌝ }
+    ensures { λ t. ⌜ t ≡ componentTest c (now (query .entry)) q j (itemsOf 0 (linesFrom (now (s .entry)) from first)) ⌝ }
 {
-    let r = fields::component_at(paper, q, j);
+    let r = fields::component_at(query, q, j);
     if r.flag == 1 {
-        return !some_component_named(fields::text_of(paper, q, r.name), s, from, first);
+        return !some_component_named(fields::text_of(query, q, r.name), s, from, first);
     }
     let mut at = from;
     let mut number = first;
@@ -79,7 +79,7 @@ pub fn component_holds(
             }
             Item::Inner(e, next) => {
                 let inside = number + 1;
-                let t = trial_here(paper, q, j, read::value(&s[at..e]), s, next, inside, c);
+                let t = trial_here(query, q, j, read::value(&s[at..e]), s, next, inside, c);
                 let mut k = trials::first_tried(t);
                 while trials::goes_on(t, k) {
                     if trials::passes(t, k) {
@@ -99,7 +99,7 @@ pub fn component_holds(
 
 // What is tried of the component of this name, whose items begin here: the range of component record j, where all else holds.
 fn trial_here(
-    paper: &[u8],
+    query: &[u8],
     q: Sections,
     j: usize,
     name: &[u8],
@@ -108,17 +108,17 @@ fn trial_here(
     first: usize,
     c: Context,
 ) -> Trial
-    requires { ⌜ Fits (now paper) q ⌝ }
-    requires { ⌜ recordsGood (now paper) q ≡ true ⌝ }
+    requires { ⌜ Fits (now query) q ⌝ }
+    requires { ⌜ recordsGood (now query) q ≡ true ⌝ }
     requires { ⌜ j < q .components .count ⌝ }
     requires { ⌜ ContextGood c ⌝ }
     requires { ⌜ (at ≤ length (now s)) × (first ≤ at + 1) ⌝ }
-    ensures { λ t. ⌜ t ≡ trialHere c (now (paper .entry)) q j (now (name .entry)) (now (s .entry)) at first ⌝ }
+    ensures { λ t. ⌜ t ≡ trialHere c (now (query .entry)) q j (now (name .entry)) (now (s .entry)) at first ⌝ }
 {
-    if alone_holds(paper, q, j, name, s, at) {
-        if children_hold(paper, q, j + 1, j, s, at, first, c) {
-            let r = fields::component_at(paper, q, j);
-            return trials::trial_of(paper, q, r.range, s, at, c, places::scope_of(name));
+    if alone_holds(query, q, j, name, s, at) {
+        if children_hold(query, q, j + 1, j, s, at, first, c) {
+            let r = fields::component_at(query, q, j);
+            return trials::trial_of(query, q, r.range, s, at, c, places::scope_of(name));
         }
     }
     Trial::Once(false)
@@ -126,7 +126,7 @@ fn trial_here(
 
 // Of the component records from number `from` on, do all those of this parent hold among the components that stand side by side from here on?
 fn children_hold(
-    paper: &[u8],
+    query: &[u8],
     q: Sections,
     from: usize,
     parent: usize,
@@ -135,21 +135,21 @@ fn children_hold(
     first: usize,
     c: Context,
 ) -> bool
-    requires { ⌜ Fits (now paper) q ⌝ }
-    requires { ⌜ recordsGood (now paper) q ≡ true ⌝ }
+    requires { ⌜ Fits (now query) q ⌝ }
+    requires { ⌜ recordsGood (now query) q ≡ true ⌝ }
     requires { ⌜ from ≤ q .components .count ⌝ }
     requires { ⌜ ContextGood c ⌝ }
     requires { ⌜ (at ≤ length (now s)) × (first ≤ at + 1) ⌝ }
-    ensures { λ t. ⌜ t ≡ childrenHold c (now (paper .entry)) q (q .components .count - from) parent (itemsOf 0 (linesFrom (now (s .entry)) at first)) ⌝ }
+    ensures { λ t. ⌜ t ≡ childrenHold c (now (query .entry)) q (q .components .count - from) parent (itemsOf 0 (linesFrom (now (s .entry)) at first)) ⌝ }
 {
     let components = q.components;
     let n = components.count;
     let mut k = from;
     while k < n {
         let next = k + 1;
-        let r = fields::component_at(paper, q, k);
+        let r = fields::component_at(query, q, k);
         if r.parent == parent {
-            if !component_holds(paper, q, k, s, at, first, c) {
+            if !component_holds(query, q, k, s, at, first, c) {
                 return false;
             }
         }
@@ -159,26 +159,26 @@ fn children_hold(
 }
 
 // Has the component of this name the name of component record j, and does it pass the property tests?
-fn alone_holds(paper: &[u8], q: Sections, j: usize, name: &[u8], s: &[u8], at: usize) -> bool
-    requires { ⌜ Fits (now paper) q ⌝ }
-    requires { ⌜ recordsGood (now paper) q ≡ true ⌝ }
+fn alone_holds(query: &[u8], q: Sections, j: usize, name: &[u8], s: &[u8], at: usize) -> bool
+    requires { ⌜ Fits (now query) q ⌝ }
+    requires { ⌜ recordsGood (now query) q ≡ true ⌝ }
     requires { ⌜ j < q .components .count ⌝ }
-    ensures { λ t. ⌜ t ≡ hereAlone (now (paper .entry)) q j (now (name .entry)) (now (s .entry)) at ⌝ }
+    ensures { λ t. ⌜ t ≡ hereAlone (now (query .entry)) q j (now (name .entry)) (now (s .entry)) at ⌝ }
 {
-    let r = fields::component_at(paper, q, j);
-    if ascii::same_name(name, fields::text_of(paper, q, r.name)) {
-        property_tests::properties_hold(paper, q, j, s, at)
+    let r = fields::component_at(query, q, j);
+    if ascii::same_name(name, fields::text_of(query, q, r.name)) {
+        property_tests::properties_hold(query, q, j, s, at)
     } else {
         false
     }
 }
 
 // The query on a file: component record 0 among what stands outside every component.
-pub fn query_holds(paper: &[u8], q: Sections, s: &[u8], c: Context) -> bool
-    requires { ⌜ Fits (now paper) q ⌝ }
-    requires { ⌜ recordsGood (now paper) q ≡ true ⌝ }
+pub fn query_holds(query: &[u8], q: Sections, s: &[u8], c: Context) -> bool
+    requires { ⌜ Fits (now query) q ⌝ }
+    requires { ⌜ recordsGood (now query) q ≡ true ⌝ }
     requires { ⌜ ContextGood c ⌝ }
-    ensures { λ t. ⌜ t ≡ queryHolds c (now (paper .entry)) q (treeIn (now (s .entry))) ⌝ }
+    ensures { λ t. ⌜ t ≡ queryHolds c (now (query .entry)) q (treeIn (now (s .entry))) ⌝ }
 {
-    component_holds(paper, q, 0, s, 0, 1, c)
+    component_holds(query, q, 0, s, 0, 1, c)
 }

@@ -42,7 +42,7 @@ fn trial_in(s: &[u8], at: usize, c: Context, scope: Scope, a: u64, b: u64) -> Tr
 
 // The same against a record's range, 0 for none.
 pub fn trial_of(
-    paper: &[u8],
+    query: &[u8],
     q: Sections,
     r: usize,
     s: &[u8],
@@ -50,18 +50,18 @@ pub fn trial_of(
     c: Context,
     scope: Scope,
 ) -> Trial
-    requires { ⌜ Fits (now paper) q ⌝ }
-    requires { ⌜ recordsGood (now paper) q ≡ true ⌝ }
+    requires { ⌜ Fits (now query) q ⌝ }
+    requires { ⌜ recordsGood (now query) q ≡ true ⌝ }
     requires { ⌜ r ≤ q .ranges .count ⌝ }
     requires { ⌜ ContextGood c ⌝ }
-    ensures { λ t. ⌜ t ≡ trialOf c (now (paper .entry)) q r scope (now (s .entry)) at ⌝ }
+    ensures { λ t. ⌜ t ≡ trialOf c (now (query .entry)) q r scope (now (s .entry)) at ⌝ }
 {
     if r == 0 {
         return Trial::Once(true);
     }
     let i = r - 1;
-    let a = fields::range_start(paper, q, i);
-    let b = fields::range_end(paper, q, i);
+    let a = fields::range_start(query, q, i);
+    let b = fields::range_end(query, q, i);
     trial_in(s, at, c, scope, a, b)
 }
 

@@ -11,11 +11,11 @@ use borrow.Author.Tests.{ltb-true, ltb-false, lt-ltb, le-ltb}
 use Rattle.ascii.specs.Names.{sameName}
 use Rattle.ascii.proofs.Bools.{and-left, and-right, and-both, clash}
 use Rattle.line.specs.Grammar.{Parameter, ContentLine}
-use Rattle.line.specs.Splitting.{nextPlace, after, pieces, splitAfter, quotesOff}
+use Rattle.line.specs.Splitting.{nextPlace, after, splitParts, splitAfter, quotesOff}
 use Rattle.line.specs.Reading.{headOf, isNamed, parameterTexts, valuesOf, parameterOf, lineOf, firstOf, restOf, keepIf, parametersNamed, someList, usageOf, pooled, valuesNamed, countedWith, hasParameter, hasTwice, hasList, firstValue, allValued}
 use Rattle.line.specs.declared.read.Usage.{Usage}
 use Rattle.line.proofs.Scanner.{or-none}
-use Rattle.line.proofs.Splitting.{pieces-from, pieces-some, pieces-end, splitAfter-in, splitAfter-out, splitAfter-next, nextPlace-ge, nextPlace-le, after-is, after-none}
+use Rattle.line.proofs.Splitting.{parts-from, parts-some, parts-end, splitAfter-in, splitAfter-out, splitAfter-next, nextPlace-ge, nextPlace-le, after-is, after-none}
 
 -- ---- one parameter, one value, by its number
 
@@ -23,21 +23,21 @@ length-rest : (ps : List (List ℕ)) → length ps - 1 ≡ length (restOf ps)
 length-rest [] = refl
 length-rest (p ∷ ps) = let n : suc (length ps) - 1 ≡ length ps = omega arith in n
 
-pub parameterTexts-count : (l : List ℕ) → length (pieces true 59 false (headOf l)) - 1 ≡ length (parameterTexts l)
+pub parameterTexts-count : (l : List ℕ) → length (splitParts true 59 false (headOf l)) - 1 ≡ length (parameterTexts l)
 unfolding parameterTexts
-parameterTexts-count l = length-rest (pieces true 59 false (headOf l))
+parameterTexts-count l = length-rest (splitParts true 59 false (headOf l))
 
 -- the parameters stand behind the first semicolon of the head
 pub parameterTexts-after : (l : List ℕ) → parameterTexts l ≡ splitAfter true 59 (headOf l) (nextPlace true 59 (headOf l) 0)
 unfolding parameterTexts
-parameterTexts-after l = ap restOf (pieces-from true 59 (headOf l) 0 (omega arith))
+parameterTexts-after l = ap restOf (parts-from true 59 (headOf l) 0 (omega arith))
 
 getD-empty : (n : ℕ) (d : List ℕ) → getD (d ∷ []) n d ≡ d
 getD-empty zero d = refl
 getD-empty (suc n) d = refl
 
 -- where nothing stands behind it, its one piece is empty, and an empty piece is what no piece gives
-pub parameterTexts-at : (l : List ℕ) (n : ℕ) → getD (pieces true 59 false (after true 59 (headOf l))) n [] ≡ getD (parameterTexts l) n []
+pub parameterTexts-at : (l : List ℕ) (n : ℕ) → getD (splitParts true 59 false (after true 59 (headOf l))) n [] ≡ getD (parameterTexts l) n []
 parameterTexts-at l n = go (ltb at (length h)) refl ∙ ap (λ (ts : List (List ℕ)). getD ts n []) (sym (parameterTexts-after l))
   where
     h : List ℕ
@@ -46,24 +46,24 @@ parameterTexts-at l n = go (ltb at (length h)) refl ∙ ap (λ (ts : List (List 
     at : ℕ
     at = nextPlace true 59 h 0
 
-    go : (t : Bool) → ltb at (length h) ≡ t → getD (pieces true 59 false (after true 59 h)) n [] ≡ getD (splitAfter true 59 h at) n []
+    go : (t : Bool) → ltb at (length h) ≡ t → getD (splitParts true 59 false (after true 59 h)) n [] ≡ getD (splitAfter true 59 h at) n []
     go true e =
-        ap (λ (r : List ℕ). getD (pieces true 59 false r) n []) (sym (after-is true 59 h at refl))
+        ap (λ (r : List ℕ). getD (splitParts true 59 false r) n []) (sym (after-is true 59 h at refl))
         ∙ ap (λ (ts : List (List ℕ)). getD ts n []) (sym (splitAfter-in true 59 h at (ltb-true at (length h) e)))
     go false e =
         let k : length h ≤ at = ltb-false at (length h) e in
-        ap (λ (r : List ℕ). getD (pieces true 59 false r) n []) (sym (after-none true 59 h at refl k))
-        ∙ ap (λ (ts : List (List ℕ)). getD ts n []) (pieces-end true 59 false)
+        ap (λ (r : List ℕ). getD (splitParts true 59 false r) n []) (sym (after-none true 59 h at refl k))
+        ∙ ap (λ (ts : List (List ℕ)). getD ts n []) (parts-end true 59 false)
         ∙ getD-empty n []
         ∙ ap (λ (ts : List (List ℕ)). getD ts n []) (sym (splitAfter-out true 59 h at k))
 
-pub valuesOf-count : (t : List ℕ) → length (pieces true 44 false (after true 61 t)) ≡ length (valuesOf t)
+pub valuesOf-count : (t : List ℕ) → length (splitParts true 44 false (after true 61 t)) ≡ length (valuesOf t)
 unfolding valuesOf
-valuesOf-count t = sym (length-map (pieces true 44 false (after true 61 t)) quotesOff)
+valuesOf-count t = sym (length-map (splitParts true 44 false (after true 61 t)) quotesOff)
 
-pub valuesOf-at : (t : List ℕ) (n : ℕ) → quotesOff (getD (pieces true 44 false (after true 61 t)) n []) ≡ getD (valuesOf t) n []
+pub valuesOf-at : (t : List ℕ) (n : ℕ) → quotesOff (getD (splitParts true 44 false (after true 61 t)) n []) ≡ getD (valuesOf t) n []
 unfolding valuesOf quotesOff
-valuesOf-at t n = sym (List·getD-map quotesOff (pieces true 44 false (after true 61 t)) n [])
+valuesOf-at t n = sym (List·getD-map quotesOff (splitParts true 44 false (after true 61 t)) n [])
 
 -- ---- how often a parameter of a name stands: the loop counts from the left
 
@@ -207,7 +207,7 @@ valuesNamed-same n p ps e = rw e
 
 -- a parameter has a first value
 pub values-some : (t : List ℕ) → 1 ≤ length (valuesOf t)
-values-some t = omega (arith, valuesOf-count t, pieces-some true 44 false (after true 61 t))
+values-some t = omega (arith, valuesOf-count t, parts-some true 44 false (after true 61 t))
 
 firstOf-append : (vs ws : List (List ℕ)) → 1 ≤ length vs → getD vs 0 [] ≡ firstOf (vs ++ ws)
 firstOf-append [] ws h = absurd (omega arith)

@@ -18,9 +18,9 @@ use Rattle.ascii.proofs.Names.{sameName-first}
 use Rattle.ascii.proofs.Lists.{drop-next, drop-end}
 use Rattle.line.specs.Grammar.{Parameter, ContentLine, contentLine, parameter, isQuotable, isUnquoted, ParameterValue, ParameterValues, Parameters, LineGrammar, quoted, unquoted, one, comma, none, semicolon, colon}
 use Rattle.line.specs.Scanner.{isWellFormed}
-use Rattle.line.specs.Splitting.{quotedAfter, cutsAt, firstOutside, before, after, pieces, quotesOff}
+use Rattle.line.specs.Splitting.{quotedAfter, cutsAt, firstOutside, before, after, splitParts, quotesOff}
 use Rattle.line.specs.Reading.{headOf, valueOf, nameOf, parameterTexts, valuesOf, parameterName, parameterOf, lineOf, Plain}
-use Rattle.line.proofs.Splitting.{firstOutside-cut, firstOutside-keep, firstOutside-end, firstOutside-le, nextPlace-first, closed, closed-append, closed-class, closed-quoted, pieces-closed, pieces-one, before-closed, before-alone, after-closed, quotesOff-quoted, quotesOff-class}
+use Rattle.line.proofs.Splitting.{firstOutside-cut, firstOutside-keep, firstOutside-end, firstOutside-le, nextPlace-first, closed, closed-append, closed-class, closed-quoted, parts-closed, parts-one, before-closed, before-alone, after-closed, quotesOff-quoted, quotesOff-class}
 use Rattle.line.proofs.Parameters.{parameters-end, parameters-all}
 use Rattle.line.proofs.Scanner.{every-of-name, grammar-wellFormed, wellFormed-grammar}
 
@@ -78,11 +78,11 @@ closed-comma : {t v : List ℕ} → ParameterValue t v → closed true 44 false 
 unfolding isUnquoted
 closed-comma x = closed-value 44 refl refl x
 
-values-read : {t : List ℕ} {vs : List (List ℕ)} → ParameterValues t vs → map quotesOff (pieces true 44 false t) ≡ vs
-values-read (one {t} {v} x) = rw (pieces-one true 44 false t (closed-comma x)) (ap (λ (w : List ℕ). w ∷ []) (value-read x))
+values-read : {t : List ℕ} {vs : List (List ℕ)} → ParameterValues t vs → map quotesOff (splitParts true 44 false t) ≡ vs
+values-read (one {t} {v} x) = rw (parts-one true 44 false t (closed-comma x)) (ap (λ (w : List ℕ). w ∷ []) (value-read x))
 values-read (comma {t} {v} {r} {vs} x xs) =
-    rw (pieces-closed true 44 false t r (closed-comma x))
-    (ap (λ (w : List ℕ). w ∷ map quotesOff (pieces true 44 false r)) (value-read x) ∙ ap (λ (w : List (List ℕ)). v ∷ w) (values-read xs))
+    rw (parts-closed true 44 false t r (closed-comma x))
+    (ap (λ (w : List ℕ). w ∷ map quotesOff (splitParts true 44 false r)) (value-read x) ∙ ap (λ (w : List (List ℕ)). v ∷ w) (values-read xs))
 
 closed-equals : (n : List ℕ) → isName n ≡ true → closed true 61 false n ≡ true
 unfolding isNameByte isLetter isDigit
@@ -96,16 +96,16 @@ parameter-read n {t} {vs} e xs =
 
 -- what stands in front of the parameters is the first piece, and each parameter is one piece more
 parameters-read : {p : List ℕ} {ps : List Parameter} → Parameters p ps → (c : List ℕ) → closed true 59 false c ≡ true
-    → (ts : List (List ℕ)) × (pieces true 59 false (c ++ p) ≡ c ∷ ts) × (map parameterOf ts ≡ ps)
-parameters-read none c h = ([], rw (append-nil c) (pieces-one true 59 false c h), refl)
+    → (ts : List (List ℕ)) × (splitParts true 59 false (c ++ p) ≡ c ∷ ts) × (map parameterOf ts ≡ ps)
+parameters-read none c h = ([], rw (append-nil c) (parts-one true 59 false c h), refl)
 parameters-read (semicolon {n} {t} {r} {vs} {ps} e xs q) c h = go (parameters-read q (n ++ (61 ∷ t)) (closed-semicolon n e xs))
   where
-    go : (ts : List (List ℕ)) × (pieces true 59 false ((n ++ (61 ∷ t)) ++ r) ≡ (n ++ (61 ∷ t)) ∷ ts) × (map parameterOf ts ≡ ps)
-        → (ts : List (List ℕ)) × (pieces true 59 false (c ++ (59 ∷ (n ++ (61 ∷ (t ++ r))))) ≡ c ∷ ts) × (map parameterOf ts ≡ parameter n vs ∷ ps)
+    go : (ts : List (List ℕ)) × (splitParts true 59 false ((n ++ (61 ∷ t)) ++ r) ≡ (n ++ (61 ∷ t)) ∷ ts) × (map parameterOf ts ≡ ps)
+        → (ts : List (List ℕ)) × (splitParts true 59 false (c ++ (59 ∷ (n ++ (61 ∷ (t ++ r))))) ≡ c ∷ ts) × (map parameterOf ts ≡ parameter n vs ∷ ps)
     go w = (
       (n ++ (61 ∷ t)) ∷ w .0,
-      pieces-closed true 59 false c (n ++ (61 ∷ (t ++ r))) h
-          ∙ ap (λ (l : List (List ℕ)). c ∷ l) (ap (λ (l : List ℕ). pieces true 59 false l) (regroup n t r) ∙ w .1),
+      parts-closed true 59 false c (n ++ (61 ∷ (t ++ r))) h
+          ∙ ap (λ (l : List (List ℕ)). c ∷ l) (ap (λ (l : List ℕ). splitParts true 59 false l) (regroup n t r) ∙ w .1),
       ap (λ (x : Parameter). x ∷ map parameterOf (w .0)) (parameter-read n e xs) ∙ ap (λ (l : List Parameter). parameter n vs ∷ l) (w .2),
     )
 

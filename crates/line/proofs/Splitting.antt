@@ -13,7 +13,7 @@ use borrow.Author.Tests.{eq-eqb, ne-eqb, lt-ltb, le-ltb, ltb-true, ltb-false}
 use Rattle.ascii.specs.Names.{every}
 use Rattle.ascii.proofs.Bools.{and-left, and-right, and-both, clash, apart}
 use Rattle.ascii.proofs.Lists.{drop-next, drop-end}
-use Rattle.line.specs.Splitting.{quotedAfter, cutsAt, firstOutside, nextPlace, before, after, glue, pieces, splitAfter, quotesOff}
+use Rattle.line.specs.Splitting.{quotedAfter, cutsAt, firstOutside, nextPlace, before, after, glue, splitParts, splitAfter, quotesOff}
 
 -- ---- one byte
 
@@ -26,13 +26,13 @@ module _ (g : Bool) (sep : ℕ) (q : Bool) (b : ℕ) (s : List ℕ) where
   unfolding firstOutside
   firstOutside-keep e = rw (e, firstOutside)
 
-  pieces-cut : cutsAt sep q b ≡ true → pieces g sep q (b ∷ s) ≡ [] ∷ pieces g sep q s
-  unfolding pieces
-  pieces-cut e = rw (e, pieces)
+  parts-cut : cutsAt sep q b ≡ true → splitParts g sep q (b ∷ s) ≡ [] ∷ splitParts g sep q s
+  unfolding splitParts
+  parts-cut e = rw (e, splitParts)
 
-  pieces-keep : cutsAt sep q b ≡ false → pieces g sep q (b ∷ s) ≡ glue b (pieces g sep (quotedAfter g q b) s)
-  unfolding pieces
-  pieces-keep e = rw (e, pieces)
+  parts-keep : cutsAt sep q b ≡ false → splitParts g sep q (b ∷ s) ≡ glue b (splitParts g sep (quotedAfter g q b) s)
+  unfolding splitParts
+  parts-keep e = rw (e, splitParts)
 
 -- outside quotes is where a separator cuts
 cuts-outside : (sep : ℕ) (q : Bool) (b : ℕ) → cutsAt sep q b ≡ true → q ≡ false
@@ -43,9 +43,9 @@ pub firstOutside-end : (g : Bool) (sep : ℕ) (q : Bool) → firstOutside g sep 
 unfolding firstOutside
 firstOutside-end g sep q = refl
 
-pub pieces-end : (g : Bool) (sep : ℕ) (q : Bool) → pieces g sep q [] ≡ [] ∷ []
-unfolding pieces
-pieces-end g sep q = refl
+pub parts-end : (g : Bool) (sep : ℕ) (q : Bool) → splitParts g sep q [] ≡ [] ∷ []
+unfolding splitParts
+parts-end g sep q = refl
 
 -- ---- the loop that looks for the separator: at place i, with what it knows of quotes
 
@@ -70,38 +70,38 @@ firstOutside-le g sep q (b ∷ s) = go (cutsAt sep q b) refl (firstOutside-le g 
     go true e h = rw (firstOutside-cut g sep q b s e) (omega arith)
     go false e h = rw (firstOutside-keep g sep q b s e) (omega arith)
 
-pub splitAfter-in : (g : Bool) (sep : ℕ) (s : List ℕ) (i : ℕ) → i < length s → splitAfter g sep s i ≡ pieces g sep false (drop (i + 1) s)
+pub splitAfter-in : (g : Bool) (sep : ℕ) (s : List ℕ) (i : ℕ) → i < length s → splitAfter g sep s i ≡ splitParts g sep false (drop (i + 1) s)
 unfolding splitAfter
-splitAfter-in g sep s i h = ap (λ (t : Bool). cond t (pieces g sep false (drop (i + 1) s)) []) (lt-ltb i (length s) h)
+splitAfter-in g sep s i h = ap (λ (t : Bool). cond t (splitParts g sep false (drop (i + 1) s)) []) (lt-ltb i (length s) h)
 
 pub splitAfter-out : (g : Bool) (sep : ℕ) (s : List ℕ) (i : ℕ) → length s ≤ i → splitAfter g sep s i ≡ []
 unfolding splitAfter
-splitAfter-out g sep s i h = ap (λ (t : Bool). cond t (pieces g sep false (drop (i + 1) s)) []) (le-ltb i (length s) h)
+splitAfter-out g sep s i h = ap (λ (t : Bool). cond t (splitParts g sep false (drop (i + 1) s)) []) (le-ltb i (length s) h)
 
 -- a byte in front moves each place by one
 splitAfter-cons : (g : Bool) (sep b : ℕ) (s : List ℕ) (i : ℕ) → splitAfter g sep (b ∷ s) (suc i) ≡ splitAfter g sep s i
 unfolding splitAfter
 splitAfter-cons g sep b s i =
-    ap (λ (t : Bool). cond t (pieces g sep false (drop (suc i + 1) (b ∷ s))) []) (leb·suc-suc (suc i) (length s))
-    ∙ ap (λ (k : ℕ). cond (ltb i (length s)) (pieces g sep false (drop k (b ∷ s))) []) (add-one (suc i) ∙ ap suc (sym (add-one i)))
+    ap (λ (t : Bool). cond t (splitParts g sep false (drop (suc i + 1) (b ∷ s))) []) (leb·suc-suc (suc i) (length s))
+    ∙ ap (λ (k : ℕ). cond (ltb i (length s)) (splitParts g sep false (drop k (b ∷ s))) []) (add-one (suc i) ∙ ap suc (sym (add-one i)))
 
 -- the pieces are the bytes before the first separator, and the pieces behind it
-pieces-at : (g : Bool) (sep : ℕ) (q : Bool) (s : List ℕ) → pieces g sep q s ≡ take (firstOutside g sep q s) s ∷ splitAfter g sep s (firstOutside g sep q s)
-pieces-at g sep q [] =
-    pieces-end g sep q ∙ sym (rw (firstOutside-end g sep q) (ap (λ (r : List (List ℕ)). [] ∷ r) (splitAfter-out g sep [] 0 (omega arith))))
-pieces-at g sep q (b ∷ s) = go (cutsAt sep q b) refl (pieces-at g sep (quotedAfter g q b) s)
+parts-at : (g : Bool) (sep : ℕ) (q : Bool) (s : List ℕ) → splitParts g sep q s ≡ take (firstOutside g sep q s) s ∷ splitAfter g sep s (firstOutside g sep q s)
+parts-at g sep q [] =
+    parts-end g sep q ∙ sym (rw (firstOutside-end g sep q) (ap (λ (r : List (List ℕ)). [] ∷ r) (splitAfter-out g sep [] 0 (omega arith))))
+parts-at g sep q (b ∷ s) = go (cutsAt sep q b) refl (parts-at g sep (quotedAfter g q b) s)
   where
     k : ℕ
     k = firstOutside g sep (quotedAfter g q b) s
 
-    go : (t : Bool) → cutsAt sep q b ≡ t → pieces g sep (quotedAfter g q b) s ≡ take k s ∷ splitAfter g sep s k
-        → pieces g sep q (b ∷ s) ≡ take (firstOutside g sep q (b ∷ s)) (b ∷ s) ∷ splitAfter g sep (b ∷ s) (firstOutside g sep q (b ∷ s))
+    go : (t : Bool) → cutsAt sep q b ≡ t → splitParts g sep (quotedAfter g q b) s ≡ take k s ∷ splitAfter g sep s k
+        → splitParts g sep q (b ∷ s) ≡ take (firstOutside g sep q (b ∷ s)) (b ∷ s) ∷ splitAfter g sep (b ∷ s) (firstOutside g sep q (b ∷ s))
     go true e h =
-        pieces-cut g sep q b s e
-        ∙ ap (λ (t : Bool). [] ∷ pieces g sep t s) (cuts-outside sep q b e)
+        parts-cut g sep q b s e
+        ∙ ap (λ (t : Bool). [] ∷ splitParts g sep t s) (cuts-outside sep q b e)
         ∙ sym (rw (firstOutside-cut g sep q b s e) (ap (λ (r : List (List ℕ)). [] ∷ r) (splitAfter-in g sep (b ∷ s) 0 (omega arith))))
     go false e h =
-        pieces-keep g sep q b s e
+        parts-keep g sep q b s e
         ∙ ap (λ (r : List (List ℕ)). glue b r) h
         ∙ ap (λ (r : List (List ℕ)). (b ∷ take k s) ∷ r) (sym (splitAfter-cons g sep b s k))
         ∙ sym (rw (firstOutside-keep g sep q b s e) refl)
@@ -115,7 +115,7 @@ splitAfter-drop g sep s from k h = go (ltb (from + k) (length s)) refl
         let i : from + k < length s = ltb-true _ _ e in
         let j : k < length (drop from s) = simp length-drop (omega arith) in
         splitAfter-in g sep (drop from s) k j
-        ∙ ap (λ (l : List ℕ). pieces g sep false l) (drop-drop (k + 1) from s ∙ ap (λ (n : ℕ). drop n s) (sym (add-assoc from k 1)))
+        ∙ ap (λ (l : List ℕ). splitParts g sep false l) (drop-drop (k + 1) from s ∙ ap (λ (n : ℕ). drop n s) (sym (add-assoc from k 1)))
         ∙ sym (splitAfter-in g sep s (from + k) i)
     go false e =
         let i : length s ≤ from + k = ltb-false _ _ e in
@@ -123,13 +123,13 @@ splitAfter-drop g sep s from k h = go (ltb (from + k) (length s)) refl
         splitAfter-out g sep (drop from s) k j ∙ sym (splitAfter-out g sep s (from + k) i)
 
 -- the same at a place of a longer list: what a loop over the pieces reads
-pub pieces-from : (g : Bool) (sep : ℕ) (s : List ℕ) (from : ℕ) → from ≤ length s
-    → pieces g sep false (drop from s) ≡ take (nextPlace g sep s from - from) (drop from s) ∷ splitAfter g sep s (nextPlace g sep s from)
+pub parts-from : (g : Bool) (sep : ℕ) (s : List ℕ) (from : ℕ) → from ≤ length s
+    → splitParts g sep false (drop from s) ≡ take (nextPlace g sep s from - from) (drop from s) ∷ splitAfter g sep s (nextPlace g sep s from)
 unfolding nextPlace
-pieces-from g sep s from h =
+parts-from g sep s from h =
     let k : ℕ = firstOutside g sep false (drop from s) in
     let n : k ≡ (from + k) - from = omega arith in
-    pieces-at g sep false (drop from s)
+    parts-at g sep false (drop from s)
     ∙ ap (λ (r : List (List ℕ)). take k (drop from s) ∷ r) (splitAfter-drop g sep s from k h)
     ∙ ap (λ (m : ℕ). take m (drop from s) ∷ splitAfter g sep s (from + k)) n
 
@@ -137,7 +137,7 @@ pieces-from g sep s from h =
 pub splitAfter-next : (g : Bool) (sep : ℕ) (s : List ℕ) (i : ℕ) → i < length s
     → splitAfter g sep s i
     ≡ take (nextPlace g sep s (i + 1) - (i + 1)) (drop (i + 1) s) ∷ splitAfter g sep s (nextPlace g sep s (i + 1))
-splitAfter-next g sep s i h = splitAfter-in g sep s i h ∙ pieces-from g sep s (i + 1) (omega arith)
+splitAfter-next g sep s i h = splitAfter-in g sep s i h ∙ parts-from g sep s (i + 1) (omega arith)
 
 -- the next place is no nearer than the start and no further than the end
 pub nextPlace-ge : (g : Bool) (sep : ℕ) (s : List ℕ) (from : ℕ) → from ≤ nextPlace g sep s from
@@ -155,8 +155,8 @@ unfolding nextPlace
 nextPlace-first g sep s = omega arith
 
 -- there is always a first piece
-pub pieces-some : (g : Bool) (sep : ℕ) (q : Bool) (s : List ℕ) → 1 ≤ length (pieces g sep q s)
-pieces-some g sep q s = rw (pieces-at g sep q s) (omega arith)
+pub parts-some : (g : Bool) (sep : ℕ) (q : Bool) (s : List ℕ) → 1 ≤ length (splitParts g sep q s)
+parts-some g sep q s = rw (parts-at g sep q s) (omega arith)
 
 -- ---- text without a separator outside quotes
 
@@ -185,19 +185,19 @@ firstOutside-closed g sep q (b ∷ t) r p =
     firstOutside-keep g sep q b (t ++ (sep ∷ r)) (not-cut _ (and-left (not (cutsAt sep q b)) _ p))
     ∙ ap suc (firstOutside-closed g sep (quotedAfter g q b) t r (and-right (not (cutsAt sep q b)) _ p))
 
-pub pieces-closed : (g : Bool) (sep : ℕ) (q : Bool) (t r : List ℕ) → closed g sep q t ≡ true → pieces g sep q (t ++ (sep ∷ r)) ≡ t ∷ pieces g sep false r
-pieces-closed g sep q [] r p =
-    pieces-cut g sep q sep r (and-both (eq-eqb sep sep refl) p) ∙ ap (λ (x : Bool). [] ∷ pieces g sep x r) (closed-quotes q p)
-pieces-closed g sep q (b ∷ t) r p =
-    pieces-keep g sep q b (t ++ (sep ∷ r)) (not-cut _ (and-left (not (cutsAt sep q b)) _ p))
-    ∙ ap (λ (l : List (List ℕ)). glue b l) (pieces-closed g sep (quotedAfter g q b) t r (and-right (not (cutsAt sep q b)) _ p))
+pub parts-closed : (g : Bool) (sep : ℕ) (q : Bool) (t r : List ℕ) → closed g sep q t ≡ true → splitParts g sep q (t ++ (sep ∷ r)) ≡ t ∷ splitParts g sep false r
+parts-closed g sep q [] r p =
+    parts-cut g sep q sep r (and-both (eq-eqb sep sep refl) p) ∙ ap (λ (x : Bool). [] ∷ splitParts g sep x r) (closed-quotes q p)
+parts-closed g sep q (b ∷ t) r p =
+    parts-keep g sep q b (t ++ (sep ∷ r)) (not-cut _ (and-left (not (cutsAt sep q b)) _ p))
+    ∙ ap (λ (l : List (List ℕ)). glue b l) (parts-closed g sep (quotedAfter g q b) t r (and-right (not (cutsAt sep q b)) _ p))
 
 -- alone it is the one piece
-pub pieces-one : (g : Bool) (sep : ℕ) (q : Bool) (t : List ℕ) → closed g sep q t ≡ true → pieces g sep q t ≡ t ∷ []
-pieces-one g sep q [] p = pieces-end g sep q
-pieces-one g sep q (b ∷ t) p =
-    pieces-keep g sep q b t (not-cut _ (and-left (not (cutsAt sep q b)) _ p))
-    ∙ ap (λ (l : List (List ℕ)). glue b l) (pieces-one g sep (quotedAfter g q b) t (and-right (not (cutsAt sep q b)) _ p))
+pub parts-one : (g : Bool) (sep : ℕ) (q : Bool) (t : List ℕ) → closed g sep q t ≡ true → splitParts g sep q t ≡ t ∷ []
+parts-one g sep q [] p = parts-end g sep q
+parts-one g sep q (b ∷ t) p =
+    parts-keep g sep q b t (not-cut _ (and-left (not (cutsAt sep q b)) _ p))
+    ∙ ap (λ (l : List (List ℕ)). glue b l) (parts-one g sep (quotedAfter g q b) t (and-right (not (cutsAt sep q b)) _ p))
 
 pub firstOutside-alone : (g : Bool) (sep : ℕ) (q : Bool) (t : List ℕ) → closed g sep q t ≡ true → firstOutside g sep q t ≡ length t
 firstOutside-alone g sep q [] p = firstOutside-end g sep q
@@ -299,14 +299,14 @@ after-none g sep s k e h = sym (drop-end s (k + 1) (omega arith)) ∙ after-is g
 pub record Counted (g : Bool) (sep : ℕ) (s : List ℕ) (n at : ℕ) : Type 0 where
   pub inside : at ≤ length s
   pub few : n ≤ at + 1
-  pub total : n + length (splitAfter g sep s at) ≡ length (pieces g sep false s)
+  pub total : n + length (splitAfter g sep s at) ≡ length (splitParts g sep false s)
 
 pub counted-start : (g : Bool) (sep : ℕ) (s : List ℕ) → Counted g sep s 1 (nextPlace g sep s 0)
 counted-start g sep s =
     record {
       inside = nextPlace-le g sep s 0 (omega arith);
       few = omega arith;
-      total = omega (arith, ap length (pieces-from g sep s 0 (omega arith)));
+      total = omega (arith, ap length (parts-from g sep s 0 (omega arith)));
     }
 
 pub counted-next : (g : Bool) (sep : ℕ) (s : List ℕ) (n at : ℕ) → at < length s → Counted g sep s n at → Counted g sep s (n + 1) (nextPlace g sep s (at + 1))
@@ -317,7 +317,7 @@ counted-next g sep s n at h k =
       total = omega (arith, ap length (splitAfter-next g sep s at h), k .total);
     }
 
-pub counted-end : (g : Bool) (sep : ℕ) (s : List ℕ) (n at : ℕ) → length s ≤ at → Counted g sep s n at → n ≡ length (pieces g sep false s)
+pub counted-end : (g : Bool) (sep : ℕ) (s : List ℕ) (n at : ℕ) → length s ≤ at → Counted g sep s n at → n ≡ length (splitParts g sep false s)
 counted-end g sep s n at h k = omega (arith, ap length (splitAfter-out g sep s at h), k .total)
 
 -- ---- the loop that goes to piece n: `left` pieces on from the one that stands from `from` to `at`
@@ -325,14 +325,14 @@ counted-end g sep s n at h k = omega (arith, ap length (splitAfter-out g sep s a
 pub record Reached (g : Bool) (sep : ℕ) (s : List ℕ) (n from at left : ℕ) : Type 0 where
   pub rising : from ≤ at
   pub inside : at ≤ length s
-  pub same : getD (take (at - from) (drop from s) ∷ splitAfter g sep s at) left [] ≡ getD (pieces g sep false s) n []
+  pub same : getD (take (at - from) (drop from s) ∷ splitAfter g sep s at) left [] ≡ getD (splitParts g sep false s) n []
 
 pub reached-start : (g : Bool) (sep : ℕ) (s : List ℕ) (n : ℕ) → Reached g sep s n 0 (nextPlace g sep s 0) n
 reached-start g sep s n =
     record {
       rising = omega arith;
       inside = nextPlace-le g sep s 0 (omega arith);
-      same = ap (λ (l : List (List ℕ)). getD l n []) (sym (pieces-from g sep s 0 (omega arith)));
+      same = ap (λ (l : List (List ℕ)). getD l n []) (sym (parts-from g sep s 0 (omega arith)));
     }
 
 -- one piece on
@@ -354,12 +354,12 @@ reached-next g sep s n from at left h k r =
 
 -- no further piece
 pub reached-none : (g : Bool) (sep : ℕ) (s : List ℕ) (n from at left : ℕ) → 0 < left → length s ≤ at → Reached g sep s n from at left
-    → [] ≡ getD (pieces g sep false s) n []
+    → [] ≡ getD (splitParts g sep false s) n []
 reached-none g sep s n from at left h k r =
     ap (λ (l : List (List ℕ)). getD l (left - 1) []) (sym (splitAfter-out g sep s at k))
     ∙ getD-next (take (at - from) (drop from s)) (splitAfter g sep s at) left h
     ∙ r .same
 
 pub reached-end : (g : Bool) (sep : ℕ) (s : List ℕ) (n from at left : ℕ) → left ≤ 0 → Reached g sep s n from at left
-    → take (at - from) (drop from s) ≡ getD (pieces g sep false s) n []
+    → take (at - from) (drop from s) ≡ getD (splitParts g sep false s) n []
 reached-end g sep s n from at left h r = let e : left ≡ 0 = omega arith in rw e at (r .same)

@@ -8,7 +8,7 @@ use native.Mathlib.Omega.{arith}
 use lib.ListN.{length, drop}
 use borrow.Author.Tests.{not-true}
 use Rattle.ascii.proofs.Bools.{and-left, and-right, and-both, clash}
-use Rattle.text.specs.Lines.{Pieces, end, unended, line, cut, part, LineAt, UnendedAt, NothingAt, linesOf, allLines, contentLines, everyLine}
+use Rattle.text.specs.Lines.{CutLines, end, unended, line, cut, part, LineAt, UnendedAt, NothingAt, linesOf, allLines, contentLines, everyLine}
 use Rattle.line.specs.Scanner.{isWellFormed}
 use Rattle.line.specs.WellFormed.{lineCheckFrom, lineCheck, AllGood, linesThen, beginsBadly, FirstBad, GoodLineAt, BadLineAt, NextAt, Checked}
 use Rattle.line.specs.declared.check.LineCheck.the-variants.{Good, BadLine}
@@ -16,17 +16,17 @@ use Rattle.line.specs.declared.check.Next.{Next}
 
 -- ---- one piece
 
-lineCheck-well : (n : ℕ) (l : List ℕ) (p : Pieces) → isWellFormed l ≡ true → lineCheckFrom n (line l p) ≡ lineCheckFrom (n + 1) p
+lineCheck-well : (n : ℕ) (l : List ℕ) (p : CutLines) → isWellFormed l ≡ true → lineCheckFrom n (line l p) ≡ lineCheckFrom (n + 1) p
 unfolding lineCheckFrom
 lineCheck-well n l p e = rw (e, lineCheckFrom)
 
-lineCheck-badly : (n : ℕ) (l : List ℕ) (p : Pieces) → isWellFormed l ≡ false → lineCheckFrom n (line l p) ≡ BadLine n
+lineCheck-badly : (n : ℕ) (l : List ℕ) (p : CutLines) → isWellFormed l ≡ false → lineCheckFrom n (line l p) ≡ BadLine n
 unfolding lineCheckFrom
 lineCheck-badly n l p e = rw (e, lineCheckFrom)
 
 -- ---- the line at a place
 
-begins-badly : (n : ℕ) (p : Pieces) → beginsBadly p ≡ true → lineCheckFrom n p ≡ BadLine n
+begins-badly : (n : ℕ) (p : CutLines) → beginsBadly p ≡ true → lineCheckFrom n p ≡ BadLine n
 unfolding beginsBadly lineCheckFrom
 begins-badly n end e = clash e refl
 begins-badly n (unended t) e = refl
@@ -38,11 +38,11 @@ next-line e h q w = record { line = h; good = sym q ∙ w }
 
 pub next-badly : {s : List ℕ} {from : ℕ} (e : ℕ) {t : Bool} → LineAt s from e → t ≡ isWellFormed (part s from e) → t ≡ false → NextAt s from Next.Bad
 unfolding NextAt beginsBadly
-next-badly e h q w = record { bad = ap beginsBadly (h .pieces) ∙ ap not (sym q ∙ w) }
+next-badly e h q w = record { bad = ap beginsBadly (h .cuts) ∙ ap not (sym q ∙ w) }
 
 pub next-unended : {s : List ℕ} {from : ℕ} → UnendedAt s from → NextAt s from Next.Bad
 unfolding NextAt beginsBadly
-next-unended h = record { bad = ap beginsBadly (h .pieces) }
+next-unended h = record { bad = ap beginsBadly (h .cuts) }
 
 pub next-none : {s : List ℕ} {from : ℕ} → NothingAt s from → NextAt s from Next.End
 unfolding NextAt
@@ -75,7 +75,7 @@ module _ {s : List ℕ} {n from : ℕ} (k : Checked s n from) where
         inside = h .inside;
         few = omega (arith, k .few, h .starts);
         rest =
-            sym (lineCheck-well n (part s from e) (cut (drop (e + 2) s)) (g .good)) ∙ sym (ap (lineCheckFrom n) (h .pieces)) ∙ k .rest;
+            sym (lineCheck-well n (part s from e) (cut (drop (e + 2) s)) (g .good)) ∙ sym (ap (lineCheckFrom n) (h .cuts)) ∙ k .rest;
       }
 
   pub checked-bad : BadLineAt s from → BadLine n ≡ lineCheck s
@@ -83,7 +83,7 @@ module _ {s : List ℕ} {n from : ℕ} (k : Checked s n from) where
 
   pub checked-end : NothingAt s from → Good ≡ lineCheck s
   unfolding lineCheckFrom
-  checked-end h = sym (ap (lineCheckFrom n) (h .pieces)) ∙ k .rest
+  checked-end h = sym (ap (lineCheckFrom n) (h .cuts)) ∙ k .rest
 
 -- ---- what the answer says
 
@@ -101,7 +101,7 @@ lines-good s ls e w = ap (lineCheckFrom 1) e ∙ good-from 1 ls w
 never-good : {A : Type 0} {n : ℕ} → BadLine n ≡ Good → A
 never-good e = let z : _≡_ {A = ℕ} 0 1 = cc in absurd (omega arith)
 
-all-good : (n : ℕ) (p : Pieces) → lineCheckFrom n p ≡ Good → (p ≡ linesOf (allLines p)) × (everyLine isWellFormed (allLines p) ≡ true)
+all-good : (n : ℕ) (p : CutLines) → lineCheckFrom n p ≡ Good → (p ≡ linesOf (allLines p)) × (everyLine isWellFormed (allLines p) ≡ true)
 unfolding lineCheckFrom
 all-good n end e = (refl, refl)
 all-good n (unended t) e = never-good e
@@ -127,11 +127,11 @@ never-bad e = let z : _≡_ {A = ℕ} 0 1 = cc in absurd (omega arith)
 same-number : {m n : ℕ} → BadLine m ≡ BadLine n → m ≡ n
 same-number e = cc
 
-bad-here : (n : ℕ) (p : Pieces) (k : ℕ) → beginsBadly p ≡ true → BadLine n ≡ BadLine k → FirstBad n p k
+bad-here : (n : ℕ) (p : CutLines) (k : ℕ) → beginsBadly p ≡ true → BadLine n ≡ BadLine k → FirstBad n p k
 unfolding linesThen
 bad-here n p k b e = record { earlier = []; rest = p; whole = refl; number = omega (arith, same-number e); good = refl; bad = b }
 
-first-bad : (n : ℕ) (p : Pieces) (k : ℕ) → lineCheckFrom n p ≡ BadLine k → FirstBad n p k
+first-bad : (n : ℕ) (p : CutLines) (k : ℕ) → lineCheckFrom n p ≡ BadLine k → FirstBad n p k
 unfolding lineCheckFrom linesThen beginsBadly
 first-bad n end k e = never-bad e
 first-bad n (unended t) k e = bad-here n (unended t) k refl e
@@ -150,7 +150,7 @@ first-bad n (line l p) k e = go (isWellFormed l) refl (first-bad (n + 1) p k)
         }
     go false w f = bad-here n (line l p) k (ap not w) (sym (lineCheck-badly n l p w) ∙ e)
 
-then-bad : (n : ℕ) (ls : List (List ℕ)) (p : Pieces) → everyLine isWellFormed ls ≡ true → beginsBadly p ≡ true
+then-bad : (n : ℕ) (ls : List (List ℕ)) (p : CutLines) → everyLine isWellFormed ls ≡ true → beginsBadly p ≡ true
     → lineCheckFrom n (linesThen ls p) ≡ BadLine (n + length ls)
 unfolding linesThen
 then-bad n [] p g b = begins-badly n p b ∙ ap BadLine (omega arith)

@@ -8,7 +8,7 @@ use lib.Dec.{ltb}
 use lib.ListN.{length, drop}
 use Rattle.ascii.specs.Names.{sameName}
 use Rattle.line.specs.Grammar.{Parameter, ContentLine, parameter, contentLine}
-use Rattle.line.specs.Splitting.{before, after, pieces, quotesOff}
+use Rattle.line.specs.Splitting.{before, after, splitParts, quotesOff}
 use Rattle.line.specs.declared.read.Usage.{Usage}
 
 -- the first element, and all but the first
@@ -33,11 +33,11 @@ nameOf l = before true 59 (headOf l)
 
 -- the parameters as they are written, `name=values`
 unfoldable pub parameterTexts : List ℕ → List (List ℕ)
-parameterTexts l = restOf (pieces true 59 false (headOf l))
+parameterTexts l = restOf (splitParts true 59 false (headOf l))
 
 -- the values of a parameter, quotes taken off
 unfoldable pub valuesOf : List ℕ → List (List ℕ)
-valuesOf t = map quotesOff (pieces true 44 false (after true 61 t))
+valuesOf t = map quotesOff (splitParts true 44 false (after true 61 t))
 
 -- the name of a parameter, up to its equals sign
 unfoldable pub parameterName : List ℕ → List ℕ

@@ -36,13 +36,13 @@ glue b [] = (b ∷ []) ∷ []
 glue b (p ∷ ps) = (b ∷ p) ∷ ps
 
 -- all the pieces: one more than there are separators outside quotes
-unfoldable pub pieces : Bool → ℕ → Bool → List ℕ → List (List ℕ)
-pieces g sep q [] = [] ∷ []
-pieces g sep q (b ∷ s) = elim (cutsAt sep q b) [ true ↦ [] ∷ pieces g sep q s | false ↦ glue b (pieces g sep (quotedAfter g q b) s) ]
+unfoldable pub splitParts : Bool → ℕ → Bool → List ℕ → List (List ℕ)
+splitParts g sep q [] = [] ∷ []
+splitParts g sep q (b ∷ s) = elim (cutsAt sep q b) [ true ↦ [] ∷ splitParts g sep q s | false ↦ glue b (splitParts g sep (quotedAfter g q b) s) ]
 
 -- the pieces behind the separator at place i; none, where i is the end
 unfoldable pub splitAfter : Bool → ℕ → List ℕ → ℕ → List (List ℕ)
-splitAfter g sep s i = cond (ltb i (length s)) (pieces g sep false (drop (i + 1) s)) []
+splitAfter g sep s i = cond (ltb i (length s)) (splitParts g sep false (drop (i + 1) s)) []
 
 -- a value between quotes without them, any other as it stands
 unfoldable pub quotesOff : List ℕ → List ℕ
@@ -51,4 +51,4 @@ quotesOff (b ∷ s) = cond (eqb b 34) (take (length s - 1) s) (b ∷ s)
 
 -- the pieces, wherever the separator stands
 unfoldable pub plainSplit : ℕ → List ℕ → List (List ℕ)
-plainSplit sep s = pieces false sep false s
+plainSplit sep s = splitParts false sep false s

@@ -4,14 +4,14 @@ use mathlib.Core.Path.{_≡_}
 use mathlib.Core.Bool.{Bool, true, false, not}
 use mathlib.Core.List.{List, [], _∷_}
 use lib.ListN.{length, drop}
-use Rattle.text.specs.Lines.{Pieces, end, unended, line, cut, part, LineAt, NothingAt, linesOf, contentLines, everyLine}
+use Rattle.text.specs.Lines.{CutLines, end, unended, line, cut, part, LineAt, NothingAt, linesOf, contentLines, everyLine}
 use Rattle.line.specs.Scanner.{isWellFormed}
 use Rattle.line.specs.declared.check.LineCheck.{LineCheck}
 use Rattle.line.specs.declared.check.LineCheck.the-variants.{Good, BadLine}
 use Rattle.line.specs.declared.check.Next.{Next}
 
--- piece by piece, the first with number n; a last piece without CR LF is badly formed
-unfoldable pub lineCheckFrom : ℕ → Pieces → LineCheck
+-- piece by piece, the first with number n; what no CR LF ends is badly formed
+unfoldable pub lineCheckFrom : ℕ → CutLines → LineCheck
 lineCheckFrom n end = Good
 lineCheckFrom n (unended t) = BadLine n
 lineCheckFrom n (line l p) = elim (isWellFormed l) [ true ↦ lineCheckFrom (n + 1) p | false ↦ BadLine n ]
@@ -26,20 +26,20 @@ pub record AllGood (s : List ℕ) : Type 0 where
   pub good : everyLine isWellFormed (contentLines s) ≡ true
 
 -- lines, each ended, and then pieces
-unfoldable pub linesThen : List (List ℕ) → Pieces → Pieces
+unfoldable pub linesThen : List (List ℕ) → CutLines → CutLines
 linesThen [] p = p
 linesThen (l ∷ ls) p = line l (linesThen ls p)
 
 -- the first piece is badly formed
-unfoldable pub beginsBadly : Pieces → Bool
+unfoldable pub beginsBadly : CutLines → Bool
 beginsBadly end = false
 beginsBadly (unended t) = true
 beginsBadly (line l p) = not (isWellFormed l)
 
 -- k is the number of the first badly formed piece, where the first of all has number n: those before it are well formed, and it is not
-pub record FirstBad (n : ℕ) (p : Pieces) (k : ℕ) : Type 0 where
+pub record FirstBad (n : ℕ) (p : CutLines) (k : ℕ) : Type 0 where
   pub earlier : List (List ℕ)
-  pub rest : Pieces
+  pub rest : CutLines
   pub whole : p ≡ linesThen earlier rest
   pub number : k ≡ n + length earlier
   pub good : everyLine isWellFormed earlier ≡ true

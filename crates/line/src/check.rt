@@ -56,9 +56,3 @@ pub fn check_lines_from(s: &[u8], from: usize, first: usize) -> LineCheck
         }
     }
 }
-
-pub fn check_lines(s: &[u8]) -> LineCheck
-    ensures { λ r. ⌜ r ≡ lineCheck (now (s .entry)) ⌝ }
-{
-    check_lines_from(s, 0, 1)
-}

@@ -153,21 +153,6 @@ pub fn has_parameter(line: &[u8], name: &[u8]) -> bool
     0 < u.times
 }
 
-pub fn has_parameter_twice(line: &[u8], name: &[u8]) -> bool
-    ensures { λ r. ⌜ r ≡ hasTwice (now (name .entry)) (lineOf (now (line .entry))) ⌝ }
-{
-    let u = usage_of(line, name);
-    1 < u.times
-}
-
-// Does a parameter of the name have more than one value?
-pub fn has_parameter_list(line: &[u8], name: &[u8]) -> bool
-    ensures { λ r. ⌜ r ≡ hasList (now (name .entry)) (lineOf (now (line .entry))) ⌝ }
-{
-    let u = usage_of(line, name);
-    u.listed
-}
-
 // The first value of the first parameter of the name, quotes taken off; nothing, where there is none.
 pub fn first_value<'a>(line: &'a [u8], name: &[u8]) -> &'a [u8]
     ensures { λ r. ⌜ now r ≡ firstValue (now (name .entry)) (lineOf (now (line .entry))) ⌝ }

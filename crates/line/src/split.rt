@@ -4,7 +4,7 @@ ghost use mathlib.Core.Path.{_≡_};
 ghost use mathlib.Core.List.{[]};
 ghost use lib.ListN.{length, getD};
 ghost use mathlib.Core.Bool.{false};
-ghost use Rattle.line.specs.Splitting.{quotedAfter, nextPlace, before, after, pieces, quotesOff};
+ghost use Rattle.line.specs.Splitting.{quotedAfter, nextPlace, before, after, splitParts, quotesOff};
 
 // The place of the first separator from `from` on, or the end.
 pub fn find(s: &[u8], from: usize, separator: u8, quoting: bool) -> usize
@@ -46,7 +46,7 @@ pub fn after(s: &[u8], separator: u8, quoting: bool) -> &[u8]
 }
 
 pub fn part_count(s: &[u8], separator: u8, quoting: bool) -> usize
-    ensures { λ r. ⌜ r ≡ length (pieces quoting separator false (now (s .entry))) ⌝ }
+    ensures { λ r. ⌜ r ≡ length (splitParts quoting separator false (now (s .entry))) ⌝ }
 {
     let mut n = 1;
     let mut at = find(s, 0, separator, quoting);
@@ -59,7 +59,7 @@ pub fn part_count(s: &[u8], separator: u8, quoting: bool) -> usize
 
 // Piece number n, counted from 0; nothing, where there are not so many.
 pub fn nth_part(s: &[u8], separator: u8, quoting: bool, n: usize) -> &[u8]
-    ensures { λ r. ⌜ now r ≡ getD (pieces quoting separator false (now (s .entry))) n [] ⌝ }
+    ensures { λ r. ⌜ now r ≡ getD (splitParts quoting separator false (now (s .entry))) n [] ⌝ }
 {
     let mut from = 0;
     let mut at = find(s, 0, separator, quoting);

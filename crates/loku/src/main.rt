@@ -1,14 +1,19 @@
-// The desk's program: a busy report, a match, or both over many calendars. No clock is read.
+// The desk's program: a busy report, the check of one, a match, or report and match over many calendars. No clock is read.
 //   loku report CALENDAR START END OFFSET STAMP
+//   loku verify CALENDAR START END OFFSET STAMP [OFFSET-AGAIN]
 //   loku match CALENDAR QUERY OFFSET
 //   loku batch START END OFFSET STAMP [QUERY]   (file names on standard input, a line each)
 // The first word of standard output is the status:
 //   BEGIN:VCALENDAR  a report          match, no        a verdict (`match`, `no match`)
+//   verified:        a report that reads back as itself    differs:    one that does not
 //   refused          `refused 9: ..`   unreadable:      a file that cannot be read, its name and the reason
 //   wrong:           a wrong or missing argument, or a query in bad hex; the usage follows
 // A batch prints a line for each file, tab between two: name, verdict where a query was given, `report`, `refused` or `unreadable`,
 // its length, refusal number or reason, and the busy seconds of BUSY, BUSY-TENTATIVE and BUSY-UNAVAILABLE; then a line of
-// counts that begins with `files`. A report that cannot be written beside its file adds `not written`.
+// counts that begins with `files`. A report that replaces an older one beside its file adds `replaced`, and one that cannot be
+// written `not written`.
+mod verify;
+
 use cli::arguments::Command;
 use cli::arguments::Offset;
 use console::args;
@@ -94,9 +99,10 @@ fn run(cal: &mut [u8], query: &mut [u8], work: &mut [u8], out: &mut [u8]) {
     let command = cli::arguments::command_of(&word[..n]);
     match command {
         Command::Report => report(cal, work, out),
+        Command::Verify => verify::run(cal, work, out),
         Command::Match => match_query(cal, query, work),
         Command::Batch => batch::batch::run(cal, query, work, out),
-        Command::Other => out::wrong(b"the first word is report, match or batch"),
+        Command::Other => out::wrong(b"the first word is report, verify, match or batch"),
     }
 }
 

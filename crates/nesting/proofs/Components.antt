@@ -1,15 +1,16 @@
 -- How the items of a component are gone through, and how an inner component is passed over.
-use Prim.Native.Nat.{_<_, ℕ, suc, _+_, _-_, _≤_}
+use Prim.Native.Nat.{_<_, ℕ, zero, suc, _+_, _-_, _≤_}
 use mathlib.Core.Path.{_≡_, refl, sym, ap, _∙_, subst}
 use mathlib.Core.List.{List, [], _∷_}
 use native.Mathlib.Omega.{arith}
 use lib.ListN.{length}
+use Rattle.line.specs.Grammar.{ContentLine}
 use Rattle.text.specs.Lines.{part, LineFrom, NoLineFrom}
 use Rattle.line.specs.Reading.{lineOf}
 use Rattle.delimiters.specs.Delimiters.{delimiterOf}
 use Rattle.delimiters.specs.declared.Delimiter.{Delimiter}
 use Rattle.delimiters.specs.declared.Delimiter.the-variants.{Begins, Ends, Property, Wrong}
-use Rattle.nesting.specs.Components.{Numbered, Delimited, begins, ends, other, delimitedAs, delimitedFrom, itemsOf, treeOf}
+use Rattle.nesting.specs.Components.{Numbered, Delimited, begins, ends, other, delimitedAs, delimitedFrom, itemsOf, treeOf, propertiesIn}
 use Rattle.nesting.specs.Passing.{linesAt, treeIn, linesFrom, numbered, PropertyAt, InnerAt, NoItemAt, ItemAt, depthAfter, SkipsTo}
 use Rattle.nesting.specs.declared.items.Item.{Item}
 use Rattle.nesting.proofs.Passing.{lines-next, lines-none}
@@ -148,3 +149,40 @@ module _ {s : List ℕ} {at₀ number₀ at number depth : ℕ} (r : Skipping s 
         ∙ depth-line m depth d (numbered number (lineOf (part s at e))) (linesFrom s next (number + 1)) p
         ∙ ap (λ (j : ℕ). itemsOf (j + d) (linesFrom s next (number + 1))) (sym w);
   }
+
+-- ---- by which number the lines begin plays no part in what is decided by the lines alone
+
+abbrev pub bareLines : List Numbered → List ContentLine
+bareLines [] = []
+bareLines (x ∷ xs) = x .line ∷ bareLines xs
+
+abbrev properLines : ℕ → ℕ → List ContentLine → List ContentLine
+properLines d i xs = bareLines (propertiesIn (itemsOf d (delimitedFrom i xs)))
+
+lines-step : (x : ContentLine) (m : Delimiter) (xs : List ContentLine) (i j : ℕ)
+    → ((d : ℕ) → properLines d (suc i) xs ≡ properLines d (suc j) xs) → (d : ℕ)
+    → bareLines (propertiesIn (itemsOf d (delimitedAs m (numbered i x) ∷ delimitedFrom (suc i) xs)))
+    ≡ bareLines (propertiesIn (itemsOf d (delimitedAs m (numbered j x) ∷ delimitedFrom (suc j) xs)))
+unfolding itemsOf propertiesIn
+lines-step x Begins xs i j h zero = h 1
+lines-step x Begins xs i j h (suc d) = h (suc (suc d))
+lines-step x Ends xs i j h zero = refl
+lines-step x Ends xs i j h (suc d) = h d
+lines-step x Property xs i j h zero = ap (λ (l : List ContentLine). x ∷ l) (h 0)
+lines-step x Property xs i j h (suc d) = h (suc d)
+lines-step x Wrong xs i j h zero = ap (λ (l : List ContentLine). x ∷ l) (h 0)
+lines-step x Wrong xs i j h (suc d) = h (suc d)
+
+lines-number : (xs : List ContentLine) (d i j : ℕ) → properLines d i xs ≡ properLines d j xs
+unfolding delimitedFrom itemsOf
+lines-number [] d i j = refl
+lines-number (x ∷ xs) d i j = lines-step x (delimiterOf x) xs i j (λ e. lines-number xs e (suc i) (suc j)) d
+
+-- what is decided by the lines alone
+pub by-lines : {A : Type 0} (f : List Numbered → A) (g : List ContentLine → A) → ((xs : List Numbered) → f xs ≡ g (bareLines xs)) → (s : List ℕ)
+    (at d i j : ℕ) → f (propertiesIn (itemsOf d (linesFrom s at i))) ≡ f (propertiesIn (itemsOf d (linesFrom s at j)))
+unfolding linesFrom
+by-lines f g h s at d i j =
+    h (propertiesIn (itemsOf d (delimitedFrom i (linesAt s at))))
+    ∙ ap g (lines-number (linesAt s at) d i j)
+    ∙ sym (h (propertiesIn (itemsOf d (delimitedFrom j (linesAt s at)))))

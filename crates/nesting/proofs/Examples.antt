@@ -11,7 +11,7 @@ use Rattle.ascii.specs.Names.{sameName, isName}
 use Rattle.ascii.specs.Words.{ascii}
 use Rattle.ascii.proofs.Bools.{and-left, and-right, clash}
 use Rattle.line.specs.Grammar.{ContentLine}
-use Rattle.line.specs.Splitting.{firstOutside, before, after, pieces}
+use Rattle.line.specs.Splitting.{firstOutside, before, after, splitParts}
 use Rattle.line.specs.Reading.{lineOf, nameOf, headOf, valueOf, parameterTexts}
 use Rattle.delimiters.specs.Delimiters.{delimiterOf}
 use Rattle.delimiters.specs.Innermost.{isCalendar, isEvent, isFreeBusy, mayBegin}
@@ -19,10 +19,10 @@ use Rattle.nesting.specs.Nesting.{afterBegin, afterEnd, afterProperty, a
 use Rattle.nesting.specs.declared.Nesting.{Nesting}
 use Rattle.nesting.specs.declared.Nesting.the-variants.{Good, BadLine}
 
--- lines as they are written, and what is said of them
+-- lines as they are written, and what is expected of them
 pub record Example : Type 0 where
   pub texts : List String
-  pub said : Nesting
+  pub expected : Nesting
 
 abbrev pub linesOf : List String → List ContentLine
 linesOf [] = []
@@ -30,7 +30,7 @@ linesOf (l ∷ ls) = lineOf (ascii l) ∷ linesOf ls
 
 abbrev pub AllHold : List Example → Type 0
 AllHold [] = Unit {0}
-AllHold (x ∷ xs) = (nestingOf (linesOf (x .texts)) ≡ x .said) × AllHold xs
+AllHold (x ∷ xs) = (nestingOf (linesOf (x .texts)) ≡ x .expected) × AllHold xs
 
 abbrev same : Nesting → Nesting → Bool
 same Good Good = true
@@ -46,17 +46,17 @@ same-eq (BadLine i) (BadLine j) e = ap BadLine (eqb-true i j e)
 
 abbrev test : List Example → Bool
 test [] = true
-test (x ∷ xs) = same (nestingOf (linesOf (x .texts))) (x .said) && test xs
+test (x ∷ xs) = same (nestingOf (linesOf (x .texts))) (x .expected) && test xs
 
 sound : (xs : List Example) → test xs ≡ true → AllHold xs
 sound [] e = tt
 sound (x ∷ xs) e = (
-  same-eq (nestingOf (linesOf (x .texts))) (x .said) (and-left (same (nestingOf (linesOf (x .texts))) (x .said)) (test xs) e),
-  sound xs (and-right (same (nestingOf (linesOf (x .texts))) (x .said)) (test xs) e),
+  same-eq (nestingOf (linesOf (x .texts))) (x .expected) (and-left (same (nestingOf (linesOf (x .texts))) (x .expected)) (test xs) e),
+  sound xs (and-right (same (nestingOf (linesOf (x .texts))) (x .expected)) (test xs) e),
 )
 
 abbrev pub example : List String → Nesting → Example
-example ls r = record { texts = ls; said = r }
+example ls r = record { texts = ls; expected = r }
 
 -- the same lines, so many times
 abbrev pub times : ℕ → List String → List String
@@ -92,5 +92,5 @@ table =
     ∷ []
 
 pub edges : AllHold table
-unfolding nestingOf walk outcome delimiterOf lineOf nameOf headOf valueOf parameterTexts firstOutside before after pieces sameName upper isName isNameByte isLetter isDigit isCalendar isEvent isFreeBusy mayBegin afterBegin afterEnd afterProperty afterWrong
+unfolding nestingOf walk outcome delimiterOf lineOf nameOf headOf valueOf parameterTexts firstOutside before after splitParts sameName upper isName isNameByte isLetter isDigit isCalendar isEvent isFreeBusy mayBegin afterBegin afterEnd afterProperty afterWrong
 edges = sound table refl

@@ -18,7 +18,7 @@ use Rattle.nesting.specs.Nesting.{Walk, inside, closed, broken, afterBeg
 use Rattle.nesting.specs.Components.{Numbered, Delimited, delimitedAs, delimitedFrom}
 use Rattle.nesting.specs.WellNested.{numberedFrom, AllowedAt}
 
--- ---- the walk and the marks over lines that carry their numbers
+-- ---- the walk and the delimiters over lines that carry their numbers
 
 abbrev pub stepped : Walk → Numbered → Walk
 stepped w x = afterDelimiter (delimiterOf (x .line)) (x .number) (x .line) w

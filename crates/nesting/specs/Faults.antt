@@ -1,5 +1,5 @@
--- Which line a fault of nesting names (change request R-1): the first line after which no continuation keeps the rules,
--- or the line count plus one if the file just stops.
+-- Which line a fault of nesting names (change request R-1): the first one behind which nothing can mend the file,
+-- or one more than there are lines, where only more lines could end it.
 use Prim.Native.Nat.{ℕ, _+_}
 use mathlib.Core.Path.{_≡_}
 use mathlib.Core.List.{List, [], _∷_, _++_}

@@ -92,7 +92,7 @@ ItemAt s at (Item.Property e next) = PropertyAt s at e next
 ItemAt s at (Item.Inner e next) = InnerAt s at e next
 ItemAt s at Item.Done = NoItemAt s at
 
--- how many components are open after a line of this mark
+-- how many components are open after a line of this kind
 unfoldable pub depthAfter : Delimiter → ℕ → ℕ
 depthAfter Begins n = n + 1
 depthAfter Ends n = n - 1

@@ -72,7 +72,7 @@ pub fn pass_end(s: &[u8], at: usize, number: usize) -> Place
     }
 }
 
-// How many components are open after a line of this mark.
+// How many components are open after a line of this kind.
 fn depth_after(delimiter: Delimiter, depth: usize) -> usize
     requires { ⌜ (0 < depth) × (depth < 18446744073709551615) ⌝ }
     ensures { λ r. ⌜ r ≡ depthAfter delimiter depth ⌝ }

@@ -1,4 +1,4 @@
--- A stretch of seconds: which it holds, and how two that meet become one.
+-- A span of seconds: which it holds, and how two that overlap or touch become one.
 use Prim.Native.Nat.{ℕ, _+_, _≤_, _<_, min, max}
 use mathlib.Core.Path.{_≡_, refl, sym, ap, _∙_}
 use mathlib.Core.Bool.{Bool, true, false, _&&_, _||_, and-false, or-false}
@@ -33,11 +33,11 @@ pub secondIn-ends : (a b x : ℕ) → secondIn a b x ≡ true → (a ≤ x) × (
 unfolding secondIn
 secondIn-ends a b x e = (leb-true a x (and-left (leb a x) (ltb x b) e), ltb-true x b (and-right (leb a x) (ltb x b) e))
 
--- an empty stretch
+-- an empty span
 pub secondIn-none : (a b x : ℕ) → b ≤ a → secondIn a b x ≡ false
 secondIn-none a b x h = ⊎-elim (λ (i : x < a). secondIn-below a b x i) (λ (i : a ≤ x). secondIn-above a b x (omega arith)) (below-or-not x a)
 
--- a second is in a stretch or not: then a test under it is that test, or fails
+-- a second is in a span or not: then a test under it is that test, or fails
 pub under : (a b x : ℕ) {t u : Bool} → (a ≤ x → x < b → t ≡ u) → (x < a → t ≡ false) → (b ≤ x → t ≡ false) → t ≡ (secondIn a b x && u)
 under a b x {t} {u} here below past =
     ⊎-elim
@@ -48,7 +48,7 @@ under a b x {t} {u} here below past =
     (below-or-not x b))
     (below-or-not x a)
 
--- two stretches, one from where the other ends
+-- two spans, one from where the other ends
 pub touching : (a b e x : ℕ) → a ≤ b → b ≤ e → secondIn a e x ≡ (secondIn a b x || secondIn b e x)
 unfolding secondIn
 touching a b e x h k =
@@ -65,7 +65,7 @@ only f s x = go (secondIn s (s + 1) x) refl
     go true e = ap f (omega (arith, secondIn-ends s (s + 1) x e))
     go false e = refl
 
--- two stretches that meet or touch are one from the min start to the max end
+-- two spans that meet or touch are one from the min start to the max end
 module _ (a b s e x : ℕ) (h : s ≤ b) (k : a ≤ e) where
   both-hold : min a s ≤ x → x < max b e → (secondIn a b x || secondIn s e x) ≡ true → secondIn (min a s) (max b e) x ≡ (secondIn a b x || secondIn s e x)
   both-hold p q r = secondIn-true (min a s) (max b e) x p q ∙ sym r

@@ -1,4 +1,4 @@
--- Noting the piece of a period and the pieces of an event: instances that are not in range have none.
+-- Storing the piece of a period and the pieces of an event: instances that are not in range have none.
 use Prim.Native.Nat.{ℕ, zero, suc, _+_, _-_, _*_, _≤_, _<_, min, max}
 use mathlib.Core.Path.{_≡_, refl, sym, ap, _∙_, subst}
 use mathlib.Core.Bool.{Bool, true, false, cond, _&&_}
@@ -143,7 +143,7 @@ below-none : (a b : ℕ) (f : ℕ → List BusyPeriod) (o : List ℕ) (n : ℕ) 
 unfolding listBelow
 below-none a b f o n = stored-as (stored-none o n) (sym (piecesOf-none a b))
 
--- the pieces of the instances below k are noted
+-- the pieces of the instances below k are stored
 pub record Walked (e : Event) (a b : ℕ) (o₀ : List ℕ) (first : ℕ) (o : List ℕ) (n k : ℕ) : Type 0 where
   pub few : k ≤ 47483
   pub so-far : Stored o₀ first (piecesOf a b (listBelow k (instancePeriod e))) o n

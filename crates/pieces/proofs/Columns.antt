@@ -1,4 +1,4 @@
--- Noting pieces behind pieces: two runs as one, nothing noted where nothing is to note or no room is left.
+-- Storing pieces behind pieces: two runs as one, nothing stored where nothing is to store or no room is left.
 use Prim.Native.Nat.{ℕ, zero, suc, _+_, _-_, _*_, _≤_, _<_}
 use mathlib.Core.Path.{_≡_, refl, sym, ap, _∙_}
 use mathlib.Core.List.{List, [], _∷_, _++_}
@@ -50,7 +50,7 @@ stored-one : (n : ℕ) (p : BusyPeriod) → n < 513 → stored n (p ∷ []) ≡ 
 unfolding stored
 stored-one n p h = take-all (513 - n) (p ∷ []) (omega arith)
 
--- nothing to note
+-- nothing to store
 pub stored-none : (o : List ℕ) (n : ℕ) → Stored o n [] o n
 unfolding stored flat
 stored-none o n =
@@ -94,7 +94,7 @@ module _ {o o′ : List ℕ} {n r : ℕ} {ps : List BusyPeriod} (h : Stored o n 
         count = h .count ∙ ap (λ (l : List BusyPeriod). n + length (stored n l)) e;
       }
 
-  -- where fewer than 513 are noted, all are
+  -- where fewer than 513 are stored, all are
   pub stored-all : r < 513 → stored n ps ≡ ps
   unfolding stored
   stored-all k = take-whole (513 - n) ps (omega (arith, h .count))
@@ -131,7 +131,7 @@ three-stores o i x y z =
 pub stored-twice : (o : List ℕ) (i x j y : ℕ) {k : ℕ} → k < length o → k < length (set (set o i x) j y)
 stored-twice o i x j y h = lt-length-set (set o i x) j y (lt-length-set o i x h)
 
--- what is noted from the front on is read from the front on
+-- what is stored from the front on is read from the front on
 pub stored-front : {o o′ : List ℕ} {r : ℕ} {ps : List BusyPeriod} → Room o → Stored o 0 ps o′ r
     → (r ≡ length (stored 0 ps)) × (r ≤ 513) × (take (3 * r) o′ ≡ flat (stored 0 ps))
 stored-front {o} {o′} {r} {ps} l h =

@@ -15,11 +15,11 @@ unfoldable pub flat : List BusyPeriod → List ℕ
 flat [] = []
 flat (p ∷ ps) = p .period .start ∷ p .period .end ∷ reportPlace (p .busy) ∷ flat ps
 
--- after n pieces, those that are still noted
+-- after n pieces, those that are still stored
 unfoldable pub stored : ℕ → List BusyPeriod → List BusyPeriod
 stored n ps = take (513 - n) ps
 
--- the pieces ps were noted behind n others in o, which left o′, and r is their number together
+-- the pieces ps were stored behind n others in o, which left o′, and r is their number together
 pub record Stored (o : List ℕ) (n : ℕ) (ps : List BusyPeriod) (o′ : List ℕ) (r : ℕ) : Type 0 where
   pub numbers : o′ ≡ sets o (3 * n) (flat (stored n ps))
   pub count : r ≡ n + length (stored n ps)

@@ -1,4 +1,4 @@
-// Noting the busy pieces of one period and of one event, from a up to, but not including, b; 513 pieces are enough.
+// Storing the busy pieces of one period and of one event, from a up to, but not including, b; 513 pieces are enough.
 // A piece is three numbers of a column: its start, its end, and the place of its type in a report.
 use events::Event;
 use events::rules;

@@ -180,7 +180,7 @@ fn free_busy_property(name: &[u8]) -> Property
 }
 
 // The property that a name is, directly in the component.
-pub fn property_of(scope: Scope, name: &[u8]) -> Property
+fn property_of(scope: Scope, name: &[u8]) -> Property
     ensures { λ r. ⌜ r ≡ propertyOf scope (now (name .entry)) ⌝ }
 {
     match scope {
@@ -267,7 +267,7 @@ fn rule_value(r: RuleRead) -> PropertyValue
 }
 
 // The status that a word names, ASCII case disregarded.
-pub fn status_named(v: &[u8]) -> Status
+fn status_named(v: &[u8]) -> Status
     ensures { λ r. ⌜ r ≡ statusNamed (now (v .entry)) ⌝ }
 {
     if ascii::same_name(v, b"CANCELLED") {
@@ -280,7 +280,7 @@ pub fn status_named(v: &[u8]) -> Status
 }
 
 // The busy type that a word names; any other word is BUSY.
-pub fn busy_named(w: &[u8]) -> BusyType
+fn busy_named(w: &[u8]) -> BusyType
     ensures { λ r. ⌜ r ≡ busyNamed (now (w .entry)) ⌝ }
 {
     if ascii::same_name(w, b"FREE") {
@@ -296,7 +296,7 @@ pub fn busy_named(w: &[u8]) -> BusyType
 }
 
 // The busy type of a line, by its FBTYPE.
-pub fn busy_of(line: &[u8]) -> BusyType
+fn busy_of(line: &[u8]) -> BusyType
     ensures { λ r. ⌜ r ≡ busyOf (lineOf (now (line .entry))) ⌝ }
 {
     busy_named(line::read::first_value(line, b"FBTYPE"))

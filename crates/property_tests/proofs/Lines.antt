@@ -3,14 +3,12 @@ use Prim.Native.Nat.{ℕ, zero, suc, _+_}
 use mathlib.Core.Path.{_≡_, refl, sym, ap, _∙_}
 use mathlib.Core.Bool.{Bool, true, false, _||_}
 use mathlib.Core.List.{List, [], _∷_}
+use Rattle.nesting.proofs.Components.{bareLines, by-lines}
 use Rattle.text.specs.Lines.{part}
 use Rattle.line.specs.Grammar.{ContentLine}
 use Rattle.line.specs.Reading.{lineOf}
-use Rattle.delimiters.specs.Delimiters.{delimiterOf}
-use Rattle.delimiters.specs.declared.Delimiter.{Delimiter}
-use Rattle.delimiters.specs.declared.Delimiter.the-variants.{Begins, Ends, Property, Wrong}
-use Rattle.nesting.specs.Components.{Numbered, delimitedAs, delimitedFrom, Items, itemsOf, propertiesIn}
-use Rattle.nesting.specs.Passing.{linesAt, linesFrom, numbered, PropertyAt, InnerAt, NoItemAt, SkipsTo}
+use Rattle.nesting.specs.Components.{Numbered, Items, itemsOf, propertiesIn}
+use Rattle.nesting.specs.Passing.{linesFrom, PropertyAt, InnerAt, NoItemAt, SkipsTo}
 use Rattle.nesting.specs.declared.items.Place.{Place}
 use Rattle.property_tests.specs.PropertyTests.{propertiesAt}
 
@@ -27,35 +25,18 @@ pub seeking-start : (f : List Numbered → Bool) (s : List ℕ) (from : ℕ) →
 seeking-start f s from = record { rest = refl }
 
 module _ {f : List Numbered → Bool} {g : ContentLine → Bool} (t : SomeOf f g) where
-  abbrev found : ℕ → ℕ → List ContentLine → Bool
-  found d i xs = f (propertiesIn (itemsOf d (delimitedFrom i xs)))
+  some-bare : List ContentLine → Bool
+  some-bare [] = false
+  some-bare (x ∷ xs) = g x || some-bare xs
 
-  same-line : (x : ContentLine) (xs : List ContentLine) (i j : ℕ) → found 0 (suc i) xs ≡ found 0 (suc j) xs
-      → f (numbered i x ∷ propertiesIn (itemsOf 0 (delimitedFrom (suc i) xs))) ≡ f (numbered j x ∷ propertiesIn (itemsOf 0 (delimitedFrom (suc j) xs)))
-  same-line x xs i j h = t .a-line _ _ ∙ ap (λ (b : Bool). g x || b) h ∙ sym (t .a-line _ _)
-
-  number-step : (x : ContentLine) (m : Delimiter) (xs : List ContentLine) (i j : ℕ) → ((d : ℕ) → found d (suc i) xs ≡ found d (suc j) xs) → (d : ℕ)
-      → f (propertiesIn (itemsOf d (delimitedAs m (numbered i x) ∷ delimitedFrom (suc i) xs)))
-      ≡ f (propertiesIn (itemsOf d (delimitedAs m (numbered j x) ∷ delimitedFrom (suc j) xs)))
-  unfolding itemsOf propertiesIn
-  number-step x Begins xs i j h zero = h 1
-  number-step x Begins xs i j h (suc d) = h (suc (suc d))
-  number-step x Ends xs i j h zero = refl
-  number-step x Ends xs i j h (suc d) = h d
-  number-step x Property xs i j h zero = same-line x xs i j (h 0)
-  number-step x Property xs i j h (suc d) = h (suc d)
-  number-step x Wrong xs i j h zero = same-line x xs i j (h 0)
-  number-step x Wrong xs i j h (suc d) = h (suc d)
+  by-bare : (xs : List Numbered) → f xs ≡ some-bare (bareLines xs)
+  unfolding some-bare
+  by-bare [] = t .no-line
+  by-bare (x ∷ xs) = t .a-line x xs ∙ ap (λ (b : Bool). g (x .line) || b) (by-bare xs)
 
   -- by which number the lines begin plays no part
-  number-free : (xs : List ContentLine) (d i j : ℕ) → found d i xs ≡ found d j xs
-  unfolding delimitedFrom itemsOf
-  number-free [] d i j = refl
-  number-free (x ∷ xs) d i j = number-step x (delimiterOf x) xs i j (λ e. number-free xs e (suc i) (suc j)) d
-
   pub any-number : (s : List ℕ) (at d i j : ℕ) → f (propertiesIn (itemsOf d (linesFrom s at i))) ≡ f (propertiesIn (itemsOf d (linesFrom s at j)))
-  unfolding linesFrom
-  any-number s at d i j = number-free (linesAt s at) d i j
+  any-number s at d i j = by-lines f some-bare by-bare s at d i j
 
   pub from-any : (s : List ℕ) (at i : ℕ) → f (propertiesIn (itemsOf 0 (linesFrom s at i))) ≡ f (propertiesAt s at)
   unfolding propertiesAt

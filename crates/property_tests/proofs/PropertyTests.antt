@@ -92,7 +92,7 @@ module _ (s : List ℕ) (q : Sections) where
         pub property-unasked : (r .component ≡ k → ⊥) → true ≡ propertyPasses s q k xs i
         property-unasked h = ap (λ (t : Bool). implies t (propertyHolds s q i (propertyAt s q i) xs)) (sym (ne-eqb _ k h)) ∙ passes-as
 
-    -- ---- what a good paper gives
+    -- ---- what a good query gives
     module _ (g : recordsGood s q ≡ true) (h : i < q .properties .count) where
       property-good : GoodProperty s q i r
       property-good = subst (GoodProperty s q i) (sym e) (records-say s q g .properties-good i h)

@@ -15,16 +15,16 @@ ghost use Rattle.query_check.specs.WellFormed.{recordsGood};
 ghost use Rattle.property_tests.specs.PropertyTests.{someValue, parameterHolds, parameterPasses, parametersHold};
 
 // Does some value of a parameter hold up?
-fn some_value(paper: &[u8], q: Sections, r: ParameterRecord, p: &[u8]) -> bool
-    requires { ⌜ Fits (now paper) q ⌝ }
+fn some_value(query: &[u8], q: Sections, r: ParameterRecord, p: &[u8]) -> bool
+    requires { ⌜ Fits (now query) q ⌝ }
     requires { ⌜ r .text ≤ q .texts .count ⌝ }
-    ensures { λ t. ⌜ t ≡ someValue (now (paper .entry)) q r (valuesOf (now (p .entry))) ⌝ }
+    ensures { λ t. ⌜ t ≡ someValue (now (query .entry)) q r (valuesOf (now (p .entry))) ⌝ }
 {
     let n = read::value_count(p);
     let mut k: usize = 0;
     while k < n {
         if texts::text_holds(
-            paper,
+            query,
             q,
             r.text,
             r.collation,
@@ -39,10 +39,10 @@ fn some_value(paper: &[u8], q: Sections, r: ParameterRecord, p: &[u8]) -> bool
 }
 
 // Does some value of a parameter of the name hold up?
-fn some_named(paper: &[u8], q: Sections, r: ParameterRecord, name: &[u8], line: &[u8]) -> bool
-    requires { ⌜ Fits (now paper) q ⌝ }
+fn some_named(query: &[u8], q: Sections, r: ParameterRecord, name: &[u8], line: &[u8]) -> bool
+    requires { ⌜ Fits (now query) q ⌝ }
     requires { ⌜ r .text ≤ q .texts .count ⌝ }
-    ensures { λ t. ⌜ t ≡ someValue (now (paper .entry)) q r (valuesNamed (now (name .entry)) (lineOf (now (line .entry)) .parameters)) ⌝ }
+    ensures { λ t. ⌜ t ≡ someValue (now (query .entry)) q r (valuesNamed (now (name .entry)) (lineOf (now (line .entry)) .parameters)) ⌝ }
 {
     let h = read::head(line);
     let mut at = split::find(h, 0, 59, true);
@@ -50,7 +50,7 @@ fn some_named(paper: &[u8], q: Sections, r: ParameterRecord, name: &[u8], line: 
         let from = at + 1;
         let e = split::find(h, from, 59, true);
         let p = &h[from..e];
-        if read::is_named(p, name) & some_value(paper, q, r, p) {
+        if read::is_named(p, name) & some_value(query, q, r, p) {
             return true;
         }
         at = e;
@@ -59,48 +59,48 @@ fn some_named(paper: &[u8], q: Sections, r: ParameterRecord, name: &[u8], line: 
 }
 
 // A parameter test on one line: flag 1 asks that no parameter has the name.
-pub fn parameter_holds(paper: &[u8], q: Sections, line: &[u8], r: ParameterRecord) -> bool
-    requires { ⌜ Fits (now paper) q ⌝ }
+fn parameter_holds(query: &[u8], q: Sections, line: &[u8], r: ParameterRecord) -> bool
+    requires { ⌜ Fits (now query) q ⌝ }
     requires { ⌜ r .name < q .texts .count ⌝ }
     requires { ⌜ r .text ≤ q .texts .count ⌝ }
-    ensures { λ t. ⌜ t ≡ parameterHolds (now (paper .entry)) q (lineOf (now (line .entry))) r ⌝ }
+    ensures { λ t. ⌜ t ≡ parameterHolds (now (query .entry)) q (lineOf (now (line .entry))) r ⌝ }
 {
     let n = r.name;
     let flag = r.flag;
-    let name = fields::text_of(paper, q, n);
+    let name = fields::text_of(query, q, n);
     if flag == 1 {
         !read::has_parameter(line, name)
     } else {
-        some_named(paper, q, r, name, line)
+        some_named(query, q, r, name, line)
     }
 }
 
 // Parameter record k, where it is one of property record i.
-fn parameter_passes(paper: &[u8], q: Sections, i: usize, line: &[u8], k: usize) -> bool
-    requires { ⌜ Fits (now paper) q ⌝ }
-    requires { ⌜ recordsGood (now paper) q ≡ true ⌝ }
+fn parameter_passes(query: &[u8], q: Sections, i: usize, line: &[u8], k: usize) -> bool
+    requires { ⌜ Fits (now query) q ⌝ }
+    requires { ⌜ recordsGood (now query) q ≡ true ⌝ }
     requires { ⌜ k < q .parameters .count ⌝ }
-    ensures { λ t. ⌜ t ≡ parameterPasses (now (paper .entry)) q i (lineOf (now (line .entry))) k ⌝ }
+    ensures { λ t. ⌜ t ≡ parameterPasses (now (query .entry)) q i (lineOf (now (line .entry))) k ⌝ }
 {
-    let r = fields::parameter_at(paper, q, k);
+    let r = fields::parameter_at(query, q, k);
     if r.property == i {
-        parameter_holds(paper, q, line, r)
+        parameter_holds(query, q, line, r)
     } else {
         true
     }
 }
 
 // Every parameter test of property record i.
-pub fn parameters_hold(paper: &[u8], q: Sections, i: usize, line: &[u8]) -> bool
-    requires { ⌜ Fits (now paper) q ⌝ }
-    requires { ⌜ recordsGood (now paper) q ≡ true ⌝ }
-    ensures { λ t. ⌜ t ≡ parametersHold (now (paper .entry)) q i (lineOf (now (line .entry))) ⌝ }
+pub fn parameters_hold(query: &[u8], q: Sections, i: usize, line: &[u8]) -> bool
+    requires { ⌜ Fits (now query) q ⌝ }
+    requires { ⌜ recordsGood (now query) q ≡ true ⌝ }
+    ensures { λ t. ⌜ t ≡ parametersHold (now (query .entry)) q i (lineOf (now (line .entry))) ⌝ }
 {
     let parameters = q.parameters;
     let n = parameters.count;
     let mut k: usize = 0;
     while k < n {
-        if !parameter_passes(paper, q, i, line, k) {
+        if !parameter_passes(query, q, i, line, k) {
             return false;
         }
         k += 1;

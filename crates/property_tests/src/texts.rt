@@ -9,7 +9,7 @@ ghost use Rattle.query.specs.Fits.{Fits};
 ghost use Rattle.property_tests.specs.PropertyTests.{collationOf, textHolds};
 
 // The collation of a record.
-pub fn collation_of(n: usize) -> Collation
+fn collation_of(n: usize) -> Collation
     ensures { λ r. ⌜ r ≡ collationOf n ⌝ }
 {
     if n == 0 {
@@ -21,23 +21,23 @@ pub fn collation_of(n: usize) -> Collation
 
 // Does a value hold up against a record's text? Without one any value does.
 pub fn text_holds(
-    paper: &[u8],
+    query: &[u8],
     q: Sections,
     text: usize,
     collation: usize,
     flag: usize,
     value: &[u8],
 ) -> bool
-    requires { ⌜ Fits (now paper) q ⌝ }
+    requires { ⌜ Fits (now query) q ⌝ }
     requires { ⌜ text ≤ q .texts .count ⌝ }
-    ensures { λ r. ⌜ r ≡ textHolds (now (paper .entry)) q text collation flag (now (value .entry)) ⌝ }
+    ensures { λ r. ⌜ r ≡ textHolds (now (query .entry)) q text collation flag (now (value .entry)) ⌝ }
 {
     if text == 0 {
         return true;
     }
     let has = text::contains(
         value,
-        fields::text_of(paper, q, text - 1),
+        fields::text_of(query, q, text - 1),
         collation_of(collation),
     );
     if flag == 2 { !has } else { has }

@@ -48,7 +48,7 @@ module _ (s : List ℕ) where
   texts-none zero at h = refl
   texts-none (suc n) at h = absurd (omega arith)
 
--- a count that fits is a byte of the paper, within its limits
+-- a count that fits is a byte of the query, within its limits
 module _ (s : List ℕ) (at least most : ℕ) (e : countFits s at least most ≡ true) where
   pub count-inside : at < length s
   unfolding countFits

@@ -20,7 +20,7 @@ pub record CountedAt (s : List ℕ) (place : ℕ) (least most : ℕ) (c : Sectio
   pub least-holds : least ≤ c .count
   pub most-holds : c .count ≤ most
 
--- five sections in this order, each after a one-byte count, and all inside the bytes
+-- the sections one behind the other, a byte that counts its records before each, and all inside the bytes
 pub record Layout (s : List ℕ) (q : Sections) : Type 0 where
   pub ranges-laid : CountedAt s 0 0 8 (q .ranges)
   pub texts-laid : CountedAt s (q .ranges .at + q .ranges .count * 16) 0 32 (q .texts)

@@ -1,4 +1,4 @@
--- The records of a query paper (document 01, The query paper), each field one byte, and what the numbers in them refer to.
+-- The records of a query (document 01, The query paper), each field one byte, and what the numbers in them refer to.
 use Prim.Native.Nat.{ℕ, zero, suc, _+_, _*_}
 use mathlib.Core.List.{List}
 use lib.ListN.{take, drop}

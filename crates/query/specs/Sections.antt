@@ -1,4 +1,4 @@
--- The sections of a query paper (document 01, The query paper): where the records of each begin, read in place from the bytes.
+-- The sections of a query (document 01, The query paper): where the records of each begin, read in place from the bytes.
 use Prim.Native.Nat.{ℕ, zero, suc, _+_, _*_}
 use mathlib.Core.Bool.{Bool, cond, _&&_}
 use mathlib.Core.List.{List}

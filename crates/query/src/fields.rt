@@ -1,4 +1,4 @@
-// The records of a query paper, each read in place.
+// The records of a query, each read in place.
 // The caller knows that the sections fit the bytes.
 use crate::ComponentRecord;
 use crate::ParameterRecord;

@@ -1,4 +1,4 @@
-// The query paper, read in place: its sections, and the records in them.
+// The query, read in place: its sections, and the records in them.
 // Each function equals one definition of specs/.
 pub mod fields;
 pub mod place;

@@ -1,4 +1,4 @@
-// Where the sections of a query paper stand. Any bytes may be asked.
+// Where the sections of a query stand. Any bytes may be asked.
 // Each section begins where the one before it ends.
 use crate::PlaceRead;
 use crate::Section;

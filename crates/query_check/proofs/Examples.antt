@@ -1,4 +1,4 @@
--- Query papers at the edges: one table, one statement, computed from the definitions.
+-- Queries at the edges: one table, one statement, computed from the definitions.
 use Prim.Native.Nat.{ℕ}
 use mathlib.Core.Path.{_≡_, refl}
 use mathlib.Core.Bool.{Bool, true, _&&_}
@@ -15,37 +15,37 @@ use Rattle.query.specs.Records.{number8, rangeStart, rangeEnd, textPlace, textF
 use Rattle.query.specs.Counting.{everyBelow, someBelow}
 use Rattle.query_check.specs.WellFormed.{rangeRecordGood, nameGood, hasChildComponent, hasProperty, hasParameterRecord, parentGood, componentGood, propertyGood, parameterGood, rangesGood, componentsGood, propertiesGood, parametersGood, recordsGood, sectionsGood, queryGood, componentMisplaced, componentsMisplaced, propertiesMisplaced, rangeMisplaced, placed, queryRead, refusalNumber}
 
--- a paper over four texts, and the number of its refusal
+-- a query over four texts, and the number of its refusal
 pub record Example : Type 0 where
   pub ranges : List ℕ
   pub records : List ℕ
-  pub said : ℕ
+  pub expected : ℕ
 
 -- the ranges, the texts, then components, properties and parameters
-abbrev pub paperOf : Example → List ℕ
-paperOf x = x .ranges ++ (4 ∷ 9 ∷ ascii "VCALENDAR" ++ (6 ∷ ascii "VEVENT" ++ (7 ∷ ascii "SUMMARY" ++ (3 ∷ ascii "a b" ++ x .records))))
+abbrev pub queryWith : Example → List ℕ
+queryWith x = x .ranges ++ (4 ∷ 9 ∷ ascii "VCALENDAR" ++ (6 ∷ ascii "VEVENT" ++ (7 ∷ ascii "SUMMARY" ++ (3 ∷ ascii "a b" ++ x .records))))
 
 abbrev pub AllHold : List Example → Type 0
 AllHold [] = Unit {0}
-AllHold (x ∷ xs) = (refusalNumber (queryRead (paperOf x)) ≡ x .said) × AllHold xs
+AllHold (x ∷ xs) = (refusalNumber (queryRead (queryWith x)) ≡ x .expected) × AllHold xs
 
 abbrev allPass : List Example → Bool
 allPass [] = true
-allPass (x ∷ xs) = eqb (refusalNumber (queryRead (paperOf x))) (x .said) && allPass xs
+allPass (x ∷ xs) = eqb (refusalNumber (queryRead (queryWith x))) (x .expected) && allPass xs
 
 passed : (xs : List Example) → allPass xs ≡ true → AllHold xs
 passed [] e = tt
 passed (x ∷ xs) e = (
-  eqb-true _ _ (and-left (eqb (refusalNumber (queryRead (paperOf x))) (x .said)) (allPass xs) e),
-  passed xs (and-right (eqb (refusalNumber (queryRead (paperOf x))) (x .said)) (allPass xs) e),
+  eqb-true _ _ (and-left (eqb (refusalNumber (queryRead (queryWith x))) (x .expected)) (allPass xs) e),
+  passed xs (and-right (eqb (refusalNumber (queryRead (queryWith x))) (x .expected)) (allPass xs) e),
 )
 
 abbrev row : List ℕ → List ℕ → ℕ → Example
-row r s n = record { ranges = r; records = s; said = n }
+row r s n = record { ranges = r; records = s; expected = n }
 
 abbrev pub table : List Example
 table =
-    -- the smallest paper
+    -- the smallest query
     row (0 ∷ []) (1 ∷ 0 ∷ 0 ∷ 0 ∷ 0 ∷ 0 ∷ 0 ∷ []) 0
     -- a byte follows
     ∷ row (0 ∷ []) (1 ∷ 0 ∷ 0 ∷ 0 ∷ 0 ∷ 0 ∷ 0 ∷ 0 ∷ []) 4

@@ -1,4 +1,4 @@
--- When a query paper is refused, and by which number: laws of the paper as a whole.
+-- When a query is refused, and by which number: laws of the query as a whole.
 use Prim.Native.Nat.{ℕ}
 use mathlib.Core.Path.{_≡_, refl, _∙_, subst}
 use mathlib.Core.Bool.{Bool, true, false, _&&_, and-false}
@@ -15,7 +15,7 @@ use Rattle.query_check.specs.WellFormed.{recordsGood, sectionsGood, quer
 use Rattle.query_check.specs.declared.QueryRead.{QueryRead}
 
 module _ (s : List ℕ) where
-  -- a paper with its sections, and one without
+  -- a query with its sections, and one without
   pub query-of : {q : Sections} {r : Bool} → sectionsOf s ≡ SectionsRead.Of q → r ≡ recordsGood s q
       → (leb (length s) 4096 && (eqb (q .end) (length s) && r)) ≡ queryGood s
   unfolding queryGood sectionsGood
@@ -25,7 +25,7 @@ module _ (s : List ℕ) where
   unfolding queryGood sectionsGood
   query-none e = rw e (and-false (leb (length s) 4096))
 
-  -- every record of a good paper is good
+  -- every record of a good query is good
   pub query-records : (q : Sections) → sectionsOf s ≡ SectionsRead.Of q → queryGood s ≡ true → recordsGood s q ≡ true
   query-records q e g =
       and-right (eqb (q .end) (length s)) (recordsGood s q) (and-right (leb (length s) 4096) _ (query-of e refl ∙ g))
@@ -44,7 +44,7 @@ module _ (s : List ℕ) where
     unfolding queryRead placed
     read-of m = rw (g, e, m)
 
-  -- and what each says: 4 exactly where the paper is not good, 5 where it is good and a range is misplaced
+  -- and what each says: 4 exactly where the query is not good, 5 where it is good and a range is misplaced
   placed-says : (r : SectionsRead) → sectionsOf s ≡ r → queryGood s ≡ true → ReadSays s (queryRead s)
   placed-says SectionsRead.Bad e g = clash g (query-none e)
   placed-says (SectionsRead.Of q) e g = go (rangeMisplaced s q) refl
@@ -60,7 +60,7 @@ module _ (s : List ℕ) where
       go true g = placed-says (sectionsOf s) refl g
       go false g = rw (read-bad g) g
 
-  -- the sections of a paper that is answered with them lie inside it
+  -- the sections of a query that is answered with them lie inside it
   pub read-fits : (q : Sections) → queryRead s ≡ QueryRead.Of q → Fits s q
   read-fits q e = let h : ReadSays s (QueryRead.Of q) = subst (ReadSays s) e read-says in sections-fit s q (h .1)
 

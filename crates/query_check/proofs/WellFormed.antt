@@ -1,4 +1,4 @@
--- The theorems for the reader: `queryGood` holds of exactly the papers that are well formed sentence by sentence, and
+-- The theorems for the reader: `queryGood` holds of exactly the queries that are well formed sentence by sentence, and
 -- `rangeMisplaced` fails of exactly those whose ranges all stand where they may.
 use Prim.Native.Nat.{ℕ, zero, suc, _<_}
 use mathlib.Core.Path.{_≡_, refl, sym, ap, _∙_}
@@ -263,7 +263,7 @@ module _ (s : List ℕ) (q : Sections) where
       (and-both (and-both (and-both (lt-ltb _ _ (g .owner-there)) (name-tests (r .name) (g .name-good))) (le-leb _ _ (g .text-there))) (le-leb _ _ (g .collation-known)))
       (flag-tests _ _ (g .flag-good))
 
-  -- every record: what a caller may lean on once the paper is read
+  -- every record: what a caller may lean on once the query is read
   pub records-say : recordsGood s q ≡ true → GoodRecords s q
   unfolding recordsGood rangesGood componentsGood propertiesGood parametersGood
   records-say e =
@@ -291,9 +291,9 @@ module _ (s : List ℕ) (q : Sections) where
       (every-all (parameterHolds s q) _ (λ i h. parameter-tests (parameterAt s q i) (g .parameters-good i h)))
 
 module _ (s : List ℕ) where
-  paper-says : (r : SectionsRead) → sectionsOf s ≡ r → queryGood s ≡ true → WellFormedQuery s
-  paper-says SectionsRead.Bad e g = clash g (query-none s e)
-  paper-says (SectionsRead.Of q) e g =
+  whole-query-says : (r : SectionsRead) → sectionsOf s ≡ r → queryGood s ≡ true → WellFormedQuery s
+  whole-query-says SectionsRead.Bad e g = clash g (query-none s e)
+  whole-query-says (SectionsRead.Of q) e g =
       let all : (leb (length s) 4096 && (eqb (q .end) (length s) && recordsGood s q)) ≡ true = query-of s e refl ∙ g in
       let rest = and-right (leb (length s) 4096) (eqb (q .end) (length s) && recordsGood s q) all in
       record {
@@ -304,14 +304,14 @@ module _ (s : List ℕ) where
         records-good = records-say s q (and-right (eqb (q .end) (length s)) (recordsGood s q) rest);
       }
 
-  paper-tests : WellFormedQuery s → queryGood s ≡ true
-  paper-tests w =
+  whole-query-tests : WellFormedQuery s → queryGood s ≡ true
+  whole-query-tests w =
       sym (query-of s (layout-sections s (w .sections) (w .layout)) refl)
       ∙ and-both (le-leb _ _ (w .size)) (and-both (eq-eqb _ _ (w .nothing-follows)) (records-test s (w .sections) (w .records-good)))
 
-  -- the test of a query paper holds of exactly the well-formed ones
+  -- the test of a query holds of exactly the well-formed ones
   pub queryGood-iff : (queryGood s ≡ true) ↔ WellFormedQuery s
-  queryGood-iff = (paper-says (sectionsOf s) refl, paper-tests)
+  queryGood-iff = (whole-query-says (sectionsOf s) refl, whole-query-tests)
 
 -- one of two tests that together hold
 either : (a b : Bool) → (a || b) ≡ true → (a ≡ true) ⊎ (b ≡ true)

@@ -1,4 +1,4 @@
--- A well-formed query paper, said sentence by sentence (document 01, The query paper). It is what `queryGood` tests.
+-- A well-formed query, said sentence by sentence (document 01, The query paper). It is what `queryGood` tests.
 use Prim.Native.Nat.{ℕ, _≤_, _<_}
 use mathlib.Core.Path.{_≡_}
 use mathlib.Core.Bool.{true}
@@ -77,7 +77,7 @@ pub record GoodParameter (s : List ℕ) (q : Sections) (r : ParameterRecord) : T
   pub collation-known : r .collation ≤ 1
   pub flag-good : GoodFlag (r .flag) (r .text)
 
--- every record of a paper, used or not
+-- every record of a query, used or not
 pub record GoodRecords (s : List ℕ) (q : Sections) : Type 0 where
   pub ranges-good : (i : ℕ) → i < q .ranges .count → GoodRange s q i
   pub components-good : (i : ℕ) → i < q .components .count → GoodComponent s q i (componentAt s q i)

@@ -1,4 +1,4 @@
--- Is a query paper well formed (refusal 4), and does it ask for a time range where none can be (refusal 5)?
+-- Is a query well formed (refusal 4), and does it ask for a time range where none can be (refusal 5)?
 -- (document 01, The query paper.) Every record counts, used or not.
 use Prim.Native.Nat.{ℕ, zero, suc}
 use mathlib.Core.Path.{_≡_}
@@ -42,7 +42,7 @@ hasProperty s q i = someBelow (q .properties .count) (λ k. eqb (propertyAt s q 
 unfoldable pub hasParameterRecord : List ℕ → Sections → ℕ → Bool
 hasParameterRecord s q i = someBelow (q .parameters .count) (λ k. eqb (parameterAt s q k .property) i)
 
--- component 0 has parent 0, name VCALENDAR, flag 0; each other parent is smaller than its own number
+-- the first record is VCALENDAR, its own parent and without a flag; any other has an earlier one as its parent
 unfoldable pub parentGood : List ℕ → Sections → ℕ → ComponentRecord → Bool
 parentGood s q zero r = eqb (r .parent) 0 && sameName (textOf s q (r .name)) (ascii "VCALENDAR") && eqb (r .flag) 0
 parentGood s q (suc i) r = ltb (r .parent) (suc i)
@@ -99,7 +99,7 @@ queryGood s = leb (length s) 4096 && sectionsGood s (sectionsOf s)
 
 -- ---- refusal 5
 
--- a range on a component other than VEVENT or VFREEBUSY
+-- a range on a component that is neither VEVENT nor VFREEBUSY
 unfoldable pub componentMisplaced : List ℕ → Sections → ComponentRecord → Bool
 componentMisplaced s q r =
     ltb 0 (r .range) && not (sameName (textOf s q (r .name)) (ascii "VEVENT") || sameName (textOf s q (r .name)) (ascii "VFREEBUSY"))
@@ -114,7 +114,7 @@ propertiesMisplaced s q = someBelow (q .properties .count) (λ i. ltb 0 (propert
 unfoldable pub rangeMisplaced : List ℕ → Sections → Bool
 rangeMisplaced s q = componentsMisplaced s q || propertiesMisplaced s q
 
--- refusal 4 goes before refusal 5; a paper with neither has its sections
+-- refusal 4 goes before refusal 5; a query with neither has its sections
 unfoldable pub placed : List ℕ → SectionsRead → QueryRead
 placed s (SectionsRead.Of q) = cond (rangeMisplaced s q) QueryRead.Misplaced (QueryRead.Of q)
 placed s SectionsRead.Bad = QueryRead.Bad
@@ -122,7 +122,7 @@ placed s SectionsRead.Bad = QueryRead.Bad
 unfoldable pub queryRead : List ℕ → QueryRead
 queryRead s = cond (queryGood s) (placed s (sectionsOf s)) QueryRead.Bad
 
--- what each answer says of the paper
+-- what each answer says of the query
 abbrev pub ReadSays : List ℕ → QueryRead → Type 0
 ReadSays s (QueryRead.Of q) = (queryGood s ≡ true) × (sectionsOf s ≡ SectionsRead.Of q) × (rangeMisplaced s q ≡ false)
 ReadSays s QueryRead.Bad = queryGood s ≡ false

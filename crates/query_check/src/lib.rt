@@ -1,4 +1,4 @@
-// Is a query paper well formed (refusal 4), and does it ask for a time range where none can be (refusal 5)?
+// Is a query well formed (refusal 4), and does it ask for a time range where none can be (refusal 5)?
 // Each function equals one definition of specs/.
 use query::ComponentRecord;
 use query::ParameterRecord;
@@ -17,7 +17,7 @@ ghost use Rattle.query_check.specs.WellFormed.{flagGood, propertyGood, p
 ghost use Rattle.query_check.specs.WellFormed.{parametersGood, recordsGood, queryGood, componentMisplaced, componentsMisplaced};
 ghost use Rattle.query_check.specs.WellFormed.{propertiesMisplaced, rangeMisplaced, queryRead};
 
-// What a query paper is: good, with its sections; badly formed; or with a time range where none can be.
+// What a query is: good, with its sections; badly formed; or with a time range where none can be.
 pub enum QueryRead {
     Of(Sections),
     Bad,
@@ -249,7 +249,7 @@ fn parameters_good(s: &[u8], q: Sections) -> bool
     true
 }
 
-// Every record of the paper.
+// Every record of the query.
 fn records_good(s: &[u8], q: Sections) -> bool
     requires { ⌜ Fits (now s) q ⌝ }
     ensures { λ r. ⌜ r ≡ recordsGood (now (s .entry)) q ⌝ }
@@ -257,8 +257,8 @@ fn records_good(s: &[u8], q: Sections) -> bool
     ranges_good(s, q) & components_good(s, q) & properties_good(s, q) & parameters_good(s, q)
 }
 
-// Is the paper well formed? Where not, that is refusal 4.
-pub fn query_good(s: &[u8]) -> bool
+// Is the query well formed? Where not, that is refusal 4.
+fn query_good(s: &[u8]) -> bool
     ensures { λ r. ⌜ r ≡ queryGood (now (s .entry)) ⌝ }
 {
     match place::sections_of(s) {
@@ -319,7 +319,7 @@ fn properties_misplaced(s: &[u8], q: Sections) -> bool
 }
 
 // Is there a time range where none can be? That is refusal 5.
-pub fn range_misplaced(s: &[u8], q: Sections) -> bool
+fn range_misplaced(s: &[u8], q: Sections) -> bool
     requires { ⌜ Fits (now s) q ⌝ }
     requires { ⌜ recordsGood (now s) q ≡ true ⌝ }
     ensures { λ r. ⌜ r ≡ rangeMisplaced (now (s .entry)) q ⌝ }
@@ -327,7 +327,7 @@ pub fn range_misplaced(s: &[u8], q: Sections) -> bool
     components_misplaced(s, q) | properties_misplaced(s, q)
 }
 
-// The sections of a paper that has neither fault, or which fault it has.
+// The sections of a query that has neither fault, or which fault it has.
 pub fn read_query(s: &[u8]) -> QueryRead
     ensures { λ r. ⌜ r ≡ queryRead (now (s .entry)) ⌝ }
 {

@@ -94,7 +94,7 @@ unfolding periodsBy goodPeriods
 period-given c {t} g =
     ap (λ (s : PropertyValue). periodsBy s (periodLine t)) (period-value c g) ∙ ap (λ (ps : List PeriodRead). typed (t .busy) (goodPeriods ps)) (value-read g)
 
--- ---- any number of periods: no fault, nothing gathered, and each of them given
+-- ---- any number of periods: no fault, no property that counts, and each of them given
 
 module _ (c : Context) where
   pub periods-faultless : (i : ℕ) (v : ValueCheck) {ts : List BusyPeriod} → AllGood ts

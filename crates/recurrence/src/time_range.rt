@@ -38,7 +38,7 @@ pub fn instance_in(e: Event, a: u64, b: u64, k: u64) -> bool
 }
 
 // The least k with a < s + span + k * d.
-pub fn first_at(s: u64, d: u64, span: u64, a: u64) -> u64
+fn first_at(s: u64, d: u64, span: u64, a: u64) -> u64
     requires { ⌜ s ≤ 10000000000 ⌝ }
     requires { ⌜ 1 ≤ d ⌝ }
     requires { ⌜ span ≤ 10000000000 ⌝ }

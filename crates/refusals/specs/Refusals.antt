@@ -52,7 +52,7 @@ pub data NumbersRise : ℕ → List Row → Type 0 where
 
 -- ---- the rows of sizes
 
--- 2: calendar longer than 65,536 bytes; 3: work buffer shorter than the calendar
+-- 2: more than 65,536 bytes of calendar; 3: too little work buffer for it
 unfoldable pub sizeRows : List ℕ → List ℕ → List Row → List Row
 sizeRows cal work rows = row 2 0 (ltb 65536 (length cal)) ∷ row 3 0 (ltb (length work) (length cal)) ∷ rows
 

@@ -28,6 +28,6 @@ unfoldable pub earlyFault : Fault → Bool
 earlyFault Fault.None = false
 earlyFault (Fault.At n i) = leb n 5
 
--- the work buffer by the refusal: unchanged on 1 to 5; otherwise the unfolded calendar stands first and later bytes are unchanged
+-- the work buffer by the refusal: as it was on 1 to 5, else the unfolded calendar and behind it what was there
 unfoldable pub workBy : Fault → List ℕ → List ℕ → List ℕ
 workBy f cal work = elim (earlyFault f) [ true ↦ work | false ↦ unfolded cal ++ drop (length (unfolded cal)) work ]

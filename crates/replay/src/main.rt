@@ -1,16 +1,15 @@
-// Runs cases of the public calls: one a line on standard input, a line with its answer on standard output.
-// A case: match or report, calendar in hex, query in hex or -, start, end, offset, stamp, work length, output length, a tab between two;
-// an empty byte string is a dot. Both buffers are filled with 0xA5 before the call. The answer: its kind, its number, a line (0),
+// Runs cases of the public calls: one a line on standard input (`cases::case`), a line with its answer on standard output.
+// Both buffers are filled with 0xA5 before the call. The answer: its kind, its number, a line (0),
 // Adler-32 of the whole work buffer, and of the whole output buffer.
 mod adler;
-mod case;
-mod out;
 
-use case::Case;
-use case::Offset;
+use cases::case;
+use cases::case::Case;
+use cases::case::Offset;
+use cases::out::print;
+use cases::out::print_number;
+use cases::out::print_unreadable;
 use engine::Answer;
-use out::print;
-use out::print_number;
 
 fn print_answer(a: Answer) {
     match a {
@@ -36,12 +35,6 @@ fn print_sums(work: &[u8], out: &[u8]) {
     print(b"\t");
     print_number(adler::adler(out));
     print(b"\n");
-}
-
-fn print_unreadable(line: u64) {
-    print(b"line ");
-    print_number(line);
-    print(b" cannot be read\n");
 }
 
 // The call that the case asks for.
@@ -85,7 +78,7 @@ fn answer(c: Case, cal: &[u8], query: &[u8], work: &mut [u8], out: &mut [u8]) {
     let n = c.cal;
     let m = c.query;
     let line = c.line;
-    if c.bad | (c.field != 9) {
+    if !case::is_whole(c) {
         print_unreadable(line);
         return;
     }
@@ -100,17 +93,15 @@ fn answer(c: Case, cal: &[u8], query: &[u8], work: &mut [u8], out: &mut [u8]) {
 
 // One byte of the input; a line that is empty is passed over.
 fn step(cal: &mut [u8], query: &mut [u8], work: &mut [u8], out: &mut [u8], c: Case, b: u8) -> Case {
-    match b {
-        9 => case::end_field(c),
-        10 => {
-            if c.field == 0 && !c.begun {
-                return case::begin(c.line);
-            }
-            answer(case::end_field(c), cal, query, work, out);
-            case::begin(std::num::wrapping_add_u64(c.line, 1))
-        }
-        _ => case::feed(cal, query, c, b),
+    let next = case::read_byte(cal, query, c, b);
+    if b != 10 {
+        return next;
     }
+    if case::is_empty(c) {
+        return c;
+    }
+    answer(next, cal, query, work, out);
+    case::next_line(c)
 }
 
 // One block of the input.

@@ -1,23 +1,28 @@
 -- Laws of a fixed string at a place: where it stands, the loop that compares it, and that a report's heads stand in a report.
 use Prim.Native.Nat.{ℕ, zero, suc, _+_, _-_, _≤_, _<_}
 use mathlib.Core.Path.{_≡_, refl, sym, ap, _∙_}
-use mathlib.Core.Bool.{Bool, true, false, cond, true≢false, _&&_, and-false}
+use mathlib.Core.Bool.{Bool, true, false, cond, true≢false, _&&_, _||_, not, and-false}
 use mathlib.Core.Logic.{_↔_}
 use mathlib.Core.List.{List, [], _∷_, _++_, append-assoc}
 use native.Mathlib.Omega.{arith}
-use lib.Dec.{eqb}
+use lib.Dec.{eqb, leb}
 use lib.ListN.{length, take, drop, getD, length-drop, length-append}
-use lib.Seq.{drop-at, take-all, take-length}
-use borrow.Author.Tests.{eqb-true, eq-eqb, ne-eqb}
-use Rattle.ascii.proofs.Bools.{and-left, and-right, and-both}
-use Rattle.ascii.proofs.Lists.{drop-next, drop-end}
-use Rattle.text.specs.Lines.{joined}
-use Rattle.time.specs.Writing.{utcText, dateText, timeText}
+use lib.Seq.{drop-at, take-at, take-all, take-length}
+use borrow.Author.Tests.{eqb-true, eq-eqb, ne-eqb, le-leb, lt-leb}
+use Rattle.ascii.proofs.Bools.{and-left, and-right, and-both, apart}
+use Rattle.ascii.proofs.Lists.{drop-next, drop-end, every-append}
+use Rattle.ascii.specs.Names.{every}
+use Rattle.ascii.specs.Bytes.{isDigit}
+use Rattle.text.specs.Lines.{joined, part, everyLine, contentLines, allLines, holdsNoCR, LineFrom, NoLineFrom}
+use Rattle.text.proofs.Lines.{cut-line, contentLines-none}
+use Rattle.time.specs.Writing.{utcText, dateText, timeText, isUtcByte}
+use Rattle.time.proofs.WritingLaws.{utcText-bytes}
 use Rattle.periods.specs.declared.Period.{Period}
 use Rattle.periods.specs.declared.BusyType.{BusyType}
+use Rattle.periods.specs.BusyTypes.{reportPlace, isBusy}
 use Rattle.report.specs.Bytes.{Report, periodHead, periodText, periodLines, busyLines, reportBytes}
-use Rattle.report.specs.Heads.{begins, hasBytesAt, stampHead, startHead, endHead, timed, opening, closing, opensReport, closesReport}
-use Rattle.report.proofs.Bytes.{report-parts, closing-length}
+use Rattle.report.specs.Heads.{begins, hasBytesAt, stampHead, startHead, endHead, timed, opening, closing, opensReport, closesReport, isBusyLine, allBusyLines, BusyLines, none, then, headsMatch}
+use Rattle.report.proofs.Bytes.{report-parts, parts-length, opening-length, closing-length}
 
 -- beginning with a string is being it, as far as it goes
 begins-take : (s h : List ℕ) → begins s h ≡ true → take (length h) s ≡ h
@@ -169,3 +174,149 @@ unfolding hasBytesAt periodLines
 period-at-line f h z p ps =
     rw (drop-at f (joined (periodLines h (p ∷ ps)) ++ z) (length f) refl, append-assoc (h ++ periodText p) (13 ∷ 10 ∷ joined (periodLines h ps)) z, append-assoc h (periodText p) ((13 ∷ 10 ∷ joined (periodLines h ps)) ++ z))
     (begins-append h (periodText p ++ ((13 ∷ 10 ∷ joined (periodLines h ps)) ++ z)))
+
+-- ---- the lines between the opening and the closing
+
+-- by the three types
+pub isBusyLine-by : (l : List ℕ) {a b c : Bool} → a ≡ hasBytesAt l (periodHead BusyType.Busy) 0 → b ≡ hasBytesAt l (periodHead BusyType.Tentative) 0
+    → c ≡ hasBytesAt l (periodHead BusyType.Unavailable) 0 → (a || b || c) ≡ isBusyLine l
+unfolding isBusyLine hasBytesAt
+isBusyLine-by l p q r = rw (p, q, r)
+
+-- a line of busy time is one of a busy type
+busy-line : (l : List ℕ) (ls : List (List ℕ)) (x y z : Bool) → begins l (periodHead BusyType.Busy) ≡ x → begins l (periodHead BusyType.Tentative) ≡ y
+    → begins l (periodHead BusyType.Unavailable) ≡ z → (x || y || z) ≡ true → BusyLines ls → BusyLines (l ∷ ls)
+unfolding isBusy reportPlace
+busy-line l ls true y z p q r e k = then BusyType.Busy refl p k
+busy-line l ls false true z p q r e k = then BusyType.Tentative refl q k
+busy-line l ls false false z p q r e k = then BusyType.Unavailable refl (r ∙ e) k
+
+or-true : (x : Bool) → (x || true) ≡ true
+or-true true = refl
+or-true false = refl
+
+line-busy : (l : List ℕ) (b : BusyType) → isBusy b ≡ true → begins l (periodHead b) ≡ true → isBusyLine l ≡ true
+unfolding isBusyLine isBusy reportPlace
+line-busy l BusyType.Busy h e = rw e
+line-busy l BusyType.Tentative h e = rw (e, or-true (begins l (periodHead BusyType.Busy)))
+line-busy l BusyType.Unavailable h e = rw (e, or-true (begins l (periodHead BusyType.Busy) || begins l (periodHead BusyType.Tentative)))
+line-busy l BusyType.Free h e = absurd (true≢false (sym h))
+
+lines-of-types : (ls : List (List ℕ)) → everyLine isBusyLine ls ≡ true → BusyLines ls
+unfolding isBusyLine
+lines-of-types [] e = none
+lines-of-types (l ∷ ls) e = busy-line l ls _ _ _ refl refl refl (and-left (isBusyLine l) _ e) (lines-of-types ls (and-right (isBusyLine l) _ e))
+
+types-of-lines : {ls : List (List ℕ)} → BusyLines ls → everyLine isBusyLine ls ≡ true
+types-of-lines none = refl
+types-of-lines (then b h e k) = and-both (line-busy _ b h e) (types-of-lines k)
+
+pub allBusyLines-iff : (s : List ℕ) → (allBusyLines s ≡ true) ↔ BusyLines (contentLines s)
+unfolding allBusyLines
+allBusyLines-iff s = (λ e. lines-of-types (contentLines s) e, λ k. types-of-lines k)
+
+-- the loop: the lines that are left decide
+pub record HeadsLeft (s : List ℕ) (at : ℕ) : Type 0 where
+  pub inside : at ≤ length s
+  pub left-decide : everyLine isBusyLine (contentLines (drop at s)) ≡ allBusyLines s
+
+pub heads-start : (s : List ℕ) → HeadsLeft s 0
+unfolding allBusyLines
+heads-start s = record { inside = omega arith; left-decide = refl }
+
+module _ {s : List ℕ} {at e next : ℕ} (p : HeadsLeft s at) (l : LineFrom s at e next) where
+  line-decides : (isBusyLine (part s at e) && everyLine isBusyLine (contentLines (drop next s))) ≡ allBusyLines s
+  line-decides = sym (ap (everyLine isBusyLine) (l .lines)) ∙ p .left-decide
+
+  pub heads-next : isBusyLine (part s at e) ≡ true → HeadsLeft s next
+  heads-next h = record {
+    inside = l .inside;
+    left-decide = sym (ap (λ (t : Bool). t && everyLine isBusyLine (contentLines (drop next s))) h) ∙ line-decides;
+  }
+
+  pub heads-stop : isBusyLine (part s at e) ≡ false → false ≡ allBusyLines s
+  heads-stop h = sym (ap (λ (t : Bool). t && everyLine isBusyLine (contentLines (drop next s))) h) ∙ line-decides
+
+pub heads-end : {s : List ℕ} {at : ℕ} → HeadsLeft s at → NoLineFrom s at → true ≡ allBusyLines s
+heads-end p l = sym (ap (everyLine isBusyLine) (l .lines)) ∙ p .left-decide
+
+-- by its parts
+pub headsMatch-short : (s : List ℕ) → length s < 190 → headsMatch s ≡ false
+unfolding headsMatch
+headsMatch-short s h = rw (lt-leb 190 (length s) h)
+
+pub headsMatch-by : (s : List ℕ) {a b c : Bool} → 190 ≤ length s → a ≡ opensReport s → b ≡ closesReport s → c ≡ allBusyLines (part s 160 (length s - 30))
+    → (a && b && c) ≡ headsMatch s
+unfolding headsMatch
+headsMatch-by s h p q r = rw (le-leb 190 (length s) h, p, q, r)
+
+-- lines without CR, each written with CR LF, are the content lines of what they make
+lines-joined : (ls : List (List ℕ)) → everyLine holdsNoCR ls ≡ true → contentLines (joined ls) ≡ ls
+unfolding contentLines
+lines-joined [] e = contentLines-none
+lines-joined (l ∷ ls) e =
+    ap allLines (cut-line l (joined ls) (and-left (holdsNoCR l) _ e)) ∙ ap (λ (ms : List (List ℕ)). l ∷ ms) (lines-joined ls (and-right (holdsNoCR l) _ e))
+
+everyLine-append : (f : List ℕ → Bool) (ls ms : List (List ℕ)) → everyLine f ls ≡ true → everyLine f ms ≡ true → everyLine f (ls ++ ms) ≡ true
+everyLine-append f [] ms p q = q
+everyLine-append f (l ∷ ls) ms p q = and-both (and-left (f l) _ p) (everyLine-append f ls ms (and-right (f l) _ p) q)
+
+-- no byte of a time is CR
+utc-noCR : (s : List ℕ) → every isUtcByte s ≡ true → holdsNoCR s ≡ true
+unfolding isUtcByte isDigit
+utc-noCR [] e = refl
+utc-noCR (b ∷ s) e =
+    and-both (ap not (ne-eqb b 13 (apart isUtcByte b 13 (and-left (isUtcByte b) _ e) refl))) (utc-noCR s (and-right (isUtcByte b) _ e))
+
+period-noCR : (p : Period) → holdsNoCR (periodText p) ≡ true
+unfolding periodText
+period-noCR p =
+    every-append (λ b. not (eqb b 13)) (utcText (p .start)) (47 ∷ utcText (p .end))
+    (utc-noCR (utcText (p .start)) (utcText-bytes (p .start)))
+    (utc-noCR (utcText (p .end)) (utcText-bytes (p .end)))
+
+-- what holds of the line of any period behind each of the three heads holds of every line between
+each-line : (f : List ℕ → Bool) (h : List ℕ) → ((p : Period) → f (h ++ periodText p) ≡ true) → (ps : List Period) → everyLine f (periodLines h ps) ≡ true
+unfolding periodLines
+each-line f h k [] = refl
+each-line f h k (p ∷ ps) = and-both (k p) (each-line f h k ps)
+
+each-busy-line : (f : List ℕ → Bool) → ((p : Period) → f (periodHead BusyType.Busy ++ periodText p) ≡ true)
+    → ((p : Period) → f (periodHead BusyType.Tentative ++ periodText p) ≡ true)
+    → ((p : Period) → f (periodHead BusyType.Unavailable ++ periodText p) ≡ true)
+    → (g : BusyType → List Period) → everyLine f (busyLines g) ≡ true
+unfolding busyLines
+each-busy-line f x y z g =
+    everyLine-append f (periodLines (periodHead BusyType.Busy) (g BusyType.Busy)) _
+    (each-line f (periodHead BusyType.Busy) x (g BusyType.Busy))
+    (everyLine-append f (periodLines (periodHead BusyType.Tentative) (g BusyType.Tentative)) _
+    (each-line f (periodHead BusyType.Tentative) y (g BusyType.Tentative))
+    (each-line f (periodHead BusyType.Unavailable) z (g BusyType.Unavailable)))
+
+busy-noCR : (g : BusyType → List Period) → everyLine holdsNoCR (busyLines g) ≡ true
+unfolding periodHead
+busy-noCR g = each-busy-line holdsNoCR period-noCR period-noCR period-noCR g
+
+busy-headed : (g : BusyType → List Period) → everyLine isBusyLine (busyLines g) ≡ true
+unfolding periodHead isBusyLine begins
+busy-headed g = each-busy-line isBusyLine (λ p. refl) (λ p. refl) (λ p. refl) g
+
+pub busy-lines-match : (g : BusyType → List Period) → allBusyLines (joined (busyLines g)) ≡ true
+unfolding allBusyLines
+busy-lines-match g = ap (everyLine isBusyLine) (lines-joined (busyLines g) (busy-noCR g)) ∙ busy-headed g
+
+-- between the opening and the closing stand the lines of the periods
+report-between : (r : Report) → part (reportBytes r) 160 (length (reportBytes r) - 30) ≡ joined (busyLines (r .periods))
+report-between r =
+    let j : List ℕ = joined (busyLines (r .periods)) in
+    let n : length (reportBytes r) - 30 - 160 ≡ length j = omega (arith, parts-length r) in
+    let d : drop 160 (reportBytes r) ≡ j ++ closing =
+    ap (drop 160) (report-parts r) ∙ drop-at (opening (r .start) (r .end) (r .stamp)) (j ++ closing) 160 (opening-length _ _ _) in
+    rw (d, n) (take-at j closing (length j) refl)
+
+-- every line of every report has its head
+pub report-heads-match : (r : Report) → headsMatch (reportBytes r) ≡ true
+report-heads-match r =
+    sym
+    (headsMatch-by (reportBytes r) (omega (arith, parts-length r)) (sym (report-opens r)) (sym (report-closes r))
+    (sym (ap allBusyLines (report-between r) ∙ busy-lines-match (r .periods))))

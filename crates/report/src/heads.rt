@@ -1,9 +1,10 @@
 // The fixed byte strings of a report: written by lines, compared here with the bytes at a place.
 // Each string stands once, for the writer and for the reader.
 use periods::BusyType;
+use text::Span;
 ghost use mathlib.Core.Path.{_≡_};
 ghost use Rattle.report.specs.Bytes.{periodHead};
-ghost use Rattle.report.specs.Heads.{begins, hasBytesAt, opensReport, closesReport};
+ghost use Rattle.report.specs.Heads.{begins, hasBytesAt, opensReport, closesReport, isBusyLine, allBusyLines, headsMatch};
 
 // What stands before the stamp, before the start of the range and before its end.
 pub const STAMP_HEAD: [u8; 92] =
@@ -54,7 +55,7 @@ pub fn has_bytes_at(s: &[u8], at: usize, head: &[u8]) -> bool
 }
 
 // Does the line of a period of this type begin at this place?
-pub fn period_at(s: &[u8], at: usize, kind: BusyType) -> bool
+fn period_at(s: &[u8], at: usize, kind: BusyType) -> bool
     ensures { λ r. ⌜ r ≡ hasBytesAt (now (s .entry)) (periodHead kind) at ⌝ }
 {
     match kind {
@@ -66,7 +67,7 @@ pub fn period_at(s: &[u8], at: usize, kind: BusyType) -> bool
 }
 
 // Do the bytes begin as a report does, up to the end of its range?
-pub fn opens_report(s: &[u8]) -> bool
+fn opens_report(s: &[u8]) -> bool
     ensures { λ r. ⌜ r ≡ opensReport (now (s .entry)) ⌝ }
 {
     has_bytes_at(s, 0, &STAMP_HEAD)
@@ -75,11 +76,49 @@ pub fn opens_report(s: &[u8]) -> bool
 }
 
 // Are the last bytes those that end a report?
-pub fn closes_report(s: &[u8]) -> bool
+fn closes_report(s: &[u8]) -> bool
     ensures { λ r. ⌜ r ≡ closesReport (now (s .entry)) ⌝ }
 {
     if s.len() < 30 {
         return false;
     }
     has_bytes_at(s, s.len() - 30, &CLOSING)
+}
+
+// Is it a line of busy time, by its head?
+fn is_busy_line(line: &[u8]) -> bool
+    ensures { λ r. ⌜ r ≡ isBusyLine (now (line .entry)) ⌝ }
+{
+    period_at(line, 0, BusyType::Busy)
+        | period_at(line, 0, BusyType::Tentative)
+        | period_at(line, 0, BusyType::Unavailable)
+}
+
+// Is every line one of busy time?
+fn all_busy_lines(s: &[u8]) -> bool
+    ensures { λ r. ⌜ r ≡ allBusyLines (now (s .entry)) ⌝ }
+{
+    let mut at = 0;
+    loop {
+        match text::next_line(s, at) {
+            Span::End => return true,
+            Span::Line(e, next) => {
+                if !is_busy_line(&s[at..e]) {
+                    return false;
+                }
+                at = next;
+            }
+        }
+    }
+}
+
+// Does every line begin as a report's does? Those of the periods stand between the opening and the closing.
+pub fn heads_match(s: &[u8]) -> bool
+    ensures { λ r. ⌜ r ≡ headsMatch (now (s .entry)) ⌝ }
+{
+    if s.len() < 190 {
+        return false;
+    }
+    let end = s.len() - 30;
+    opens_report(s) & closes_report(s) & all_busy_lines(&s[160..end])
 }

@@ -131,7 +131,7 @@ passes a b (s ∷ ss) (e ∷ es) h = go (ltb e a) (passes a b ss es (omega arith
     go true rest = ap (λ (l : List Period). period s e ∷ l) rest
     go false rest = refl
 
--- the stretch from a to b has become start to end, with the rows from i up to the next
+-- the span from a to b has become start to end, with the rows from i up to the next
 pub record Taking (ss es : List ℕ) (n i a b next start end : ℕ) : Type 0 where
   pub from : i ≤ next
   pub upto : next ≤ n
@@ -168,7 +168,7 @@ module _ {ss es : List ℕ} {n i a b next start end : ℕ} where
   unfolding absorbed
   taking-end t h = record { from = t .from; upto = t .upto; list = sym (t .list) ∙ rw (take-end (rows ss es) n next h) }
 
--- the rows that end before, the widened stretch, and the rows behind what it took in
+-- the rows that end before, the widened span, and the rows behind what it took in
 pub added-rows : {ss es us vs : List ℕ} {n i a b : ℕ} {w : Widened}
     → n ≤ length ss → n ≤ length es → i ≡ endsBefore a (take n es) → TookIn ss es n i a b w
     → Spliced ss us i (w .next) n (w .start) → Spliced es vs i (w .next) n (w .end)

@@ -1,4 +1,4 @@
--- Stretches that touch become one period in either order, stretches a second apart stay two.
+-- Spans that touch become one period in either order, spans a second apart stay two.
 use mathlib.Core.Path.{_≡_, refl}
 use mathlib.Core.List.{[], _∷_}
 use Rattle.periods.specs.Periods.{period}

@@ -1,4 +1,4 @@
--- Adding a stretch: the list stays rising, covers the stretch besides, and grows by one period at most.
+-- Adding a span: the list stays rising, covers the span besides, and grows by one period at most.
 use Prim.Native.Nat.{ℕ, suc, _+_, _≤_, _<_, min, max}
 use mathlib.Core.Path.{_≡_, refl, sym, ap, _∙_}
 use mathlib.Core.Bool.{Bool, true, false, _||_, or-assoc, or-false}
@@ -16,7 +16,7 @@ use Rattle.table.specs.Inserting.{absorbed, inserted, insertedAll}
 use Rattle.periods.proofs.Periods.{joined}
 use Rattle.table.proofs.Runs.{runs-rising, runs-here, runs-only, runs-same, runs-none}
 
--- one step of taking in: the first period becomes one with the stretch, or stays behind it
+-- one step of taking in: the first period becomes one with the span, or stays behind it
 abbrev Stepped : Bool → ℕ → ℕ → Period → List Period → List Period
 Stepped t a b p ps = elim t [ true ↦ absorbed (min a (p .start)) (max b (p .end)) ps | false ↦ period a b ∷ p ∷ ps ]
 
@@ -42,7 +42,7 @@ absorbed-rising a b {lo} {hi = hi} g h k l (then {p = p} {ps = ps} x y z r) =
         let apart : b + 1 ≤ p .start = omega (arith, leb-false (p .start) b e) in
         then h k l (then apart y z r)
 
--- one step of adding: the first period ends before, or the stretch takes in from it on
+-- one step of adding: the first period ends before, or the span takes in from it on
 abbrev Placed : Bool → ℕ → ℕ → Period → List Period → List Period
 Placed t a b p ps = elim t [ true ↦ p ∷ inserted a b ps | false ↦ absorbed a b (p ∷ ps) ]
 
@@ -90,7 +90,7 @@ swapped true false r = refl
 swapped false true r = refl
 swapped false false r = refl
 
--- it covers the stretch besides
+-- it covers the span besides
 pub inserted-covers : (a b x : ℕ) {lo hi : ℕ} {ps : List Period} → Rising lo ps hi → covers (inserted a b ps) x ≡ (secondIn a b x || covers ps x)
 unfolding inserted covers
 inserted-covers a b x none = refl
@@ -101,7 +101,7 @@ inserted-covers a b x (then {p = p} {ps = ps} i j k r) = go (ltb (p .end) a) ref
     go true e rest = rw rest (swapped (secondIn (p .start) (p .end) x) (secondIn a b x) (covers ps x))
     go false e rest = absorbed-covers a b x (then {p = p} i j k r) (ltb-false (p .end) a e)
 
--- adding a stretch to runs gives the runs of one set more
+-- adding a span to runs gives the runs of one set more
 pub inserted-runs : (f : ℕ → Bool) (s n a b : ℕ) → s ≤ a → a < b → b ≤ s + n
     → inserted a b (runs f s n) ≡ runs (λ x. secondIn a b x || f x) s n
 inserted-runs f s n a b h k l =

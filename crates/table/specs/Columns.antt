@@ -15,7 +15,7 @@ unfoldable pub endsBefore : ℕ → List ℕ → ℕ
 endsBefore a [] = zero
 endsBefore a (e ∷ es) = elim (ltb e a) [ true ↦ suc (endsBefore a es) | false ↦ zero ]
 
--- the stretch from a to b took in the rows from i on, of the first n: those before the next, and none after it
+-- the span from a to b took in the rows from i on, of the first n: those before the next, and none after it
 pub record TookIn (ss es : List ℕ) (n i a b : ℕ) (w : Widened) : Type 0 where
   pub from : i ≤ w .next
   pub upto : w .next ≤ n

@@ -1,4 +1,4 @@
--- Adding a stretch of seconds to a list of periods: those that end before it stay, those that it meets or touches become one with it.
+-- Adding a span of seconds to a list of periods: those that end before it stay, those that it overlaps or touches become one with it.
 use Prim.Native.Nat.{ℕ, min, max}
 use mathlib.Core.Bool.{true, false, cond}
 use mathlib.Core.List.{List, [], _∷_}

@@ -29,12 +29,8 @@ pub record Empty (r : Table) : Type 0 where
   pub count : r .count ≡ 0
   pub sound : Sound r
 
--- a stretch was added: the list says so, and it has one period more at most
+-- a span was added: the list says so, and it has one period more at most
 pub record Added (t : Table) (a b : ℕ) (r : Table) : Type 0 where
   pub list : listed r ≡ inserted a b (listed t)
   pub count : r .count ≤ t .count + 1
   pub sound : Sound r
-
--- row i of a table is a period: it stands first in what is left from i on
-pub record RowAt (t : Table) (i : ℕ) (p : Period) : Type 0 where
-  pub left : drop i (listed t) ≡ p ∷ drop (i + 1) (listed t)

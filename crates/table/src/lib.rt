@@ -1,10 +1,9 @@
 // The period table of one busy type: at most 512 periods, rising, never touching.
 // Adding a piece takes the table and hands it back.
-use periods::Period;
 ghost use mathlib.Core.Path.{_≡_};
 ghost use Prim.Native.Nat.{_+_, _≤_, _<_, min, max};
 ghost use lib.ListN.{length, take};
-ghost use Rattle.table.specs.Tables.{Empty, Added, RowAt};
+ghost use Rattle.table.specs.Tables.{Empty, Added};
 ghost use Rattle.table.specs.Columns.{endsBefore, TookIn, Moved, Spliced};
 
 pub struct Table {
@@ -13,7 +12,7 @@ pub struct Table {
     pub ends: [u32; 512],
 }
 
-// A stretch with what it took in, and the first row behind it.
+// A span with what it took in, and the first row behind it.
 struct Widened {
     next: usize,
     start: u32,
@@ -29,12 +28,6 @@ pub fn empty() -> Table
         starts: [0; 512],
         ends: [0; 512],
     }
-}
-
-fn wide(x: u32) -> u64
-    ensures { λ r. ⌜ r ≡ x ⌝ }
-{
-    x as u64
 }
 
 fn lesser_of(a: u32, b: u32) -> u32
@@ -64,7 +57,7 @@ fn skip(ends: &[u32], n: usize, from: u32) -> usize
     i
 }
 
-// Rows from i on that the stretch meets or touches become one with it.
+// Rows from i on that the span overlaps or touches become one with it.
 fn take_in<'a>(
     starts: &'a [u32],
     ends: &'a [u32],
@@ -128,7 +121,7 @@ fn splice(column: &mut [u32; 512], i: usize, j: usize, n: usize, v: u32)
 }
 
 impl Table {
-    // A stretch of seconds put in: rows that it meets or touches become one with it.
+    // A span of seconds put in: rows that it overlaps or touches become one with it.
     pub fn add(mut self, from: u32, to: u32) -> Table
         requires { ⌜ self .count < 512 ⌝ }
         ensures { λ r. ⌜ Added self from to r ⌝ }
@@ -141,16 +134,5 @@ impl Table {
         splice(&mut self.ends, i, j, n, w.end);
         self.count = i + 1 + (n - j);
         self
-    }
-
-    // Row i, the earliest first.
-    pub fn row(self, i: usize) -> Period
-        requires { ⌜ (i < self .count) × (self .count ≤ 512) ⌝ }
-        ensures { λ r. ⌜ RowAt self i r ⌝ }
-    {
-        Period {
-            start: wide(self.starts[i]),
-            end: wide(self.ends[i]),
-        }
     }
 }

@@ -1,4 +1,4 @@
--- The period table of one busy type, from the busy pieces that were noted (document 01, The report's bytes).
+-- The period table of one busy type, from the busy pieces that were stored (document 01, The report's bytes).
 use Prim.Native.Nat.{ℕ, zero, suc, _≤_}
 use mathlib.Core.Path.{_≡_}
 use mathlib.Core.Bool.{true, false}

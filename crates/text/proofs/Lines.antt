@@ -11,7 +11,7 @@ use borrow.Author.Tests.{eqb-true, not-true, ne-eqb, ltb-true, ltb-false}
 use Rattle.ascii.proofs.Bools.{and-left, and-right, and-both, not-so}
 use Rattle.ascii.proofs.Lists.{drop-next, drop-end}
 use Rattle.text.specs.Unfolding.{isBreak, isBlank, isFold, unfolded, Nowhere, noFold}
-use Rattle.text.specs.Lines.{Pieces, end, unended, line, grow, cut, breakAt, part, LineAt, UnendedAt, NothingAt, EndsAt, lineCount, bytesOf, joined, linesOf, allLines, contentLines, LineFrom, NoLineFrom, StepsTo, everyLine, holdsNoCR, noLeadingBlank, isWholeLine}
+use Rattle.text.specs.Lines.{CutLines, end, unended, line, grow, cut, breakAt, part, LineAt, UnendedAt, NothingAt, EndsAt, lineCount, bytesOf, joined, linesOf, allLines, contentLines, LineFrom, NoLineFrom, StepsTo, everyLine, holdsNoCR, noLeadingBlank, isWholeLine}
 use Rattle.text.specs.declared.LineEnd.{LineEnd}
 use Rattle.text.specs.declared.LineEnd.the-variants.{At, Unended, None}
 use Rattle.text.specs.declared.Span.{Span}
@@ -20,9 +20,9 @@ use Rattle.text.proofs.Unfolding.{unfolded-same, getD-inside, nowhere-n
 
 -- at CR LF a line ends, and any other byte belongs to the first piece of what follows
 cut-by : (b c : ℕ) (s : List ℕ) (x : Bool) → isBreak b c ≡ x
-    → cut (b ∷ c ∷ s) ≡ elim x as (λ y. Pieces) [ true ↦ line [] (cut s) | false ↦ grow b (cut (c ∷ s)) ]
+    → cut (b ∷ c ∷ s) ≡ elim x as (λ y. CutLines) [ true ↦ line [] (cut s) | false ↦ grow b (cut (c ∷ s)) ]
 unfolding cut
-cut-by b c s x e = ap (λ (y : Bool). elim y as (λ z. Pieces) [ true ↦ line [] (cut s) | false ↦ grow b (cut (c ∷ s)) ]) e
+cut-by b c s x e = ap (λ (y : Bool). elim y as (λ z. CutLines) [ true ↦ line [] (cut s) | false ↦ grow b (cut (c ∷ s)) ]) e
 
 pub cut-break : (b c : ℕ) (s : List ℕ) → isBreak b c ≡ true → cut (b ∷ c ∷ s) ≡ line [] (cut s)
 cut-break b c s e = cut-by b c s true e
@@ -62,11 +62,11 @@ cut-grow-at s i h e =
     rw (drop-next s i h) (cut-grow (getD s i 0) (drop (i + 1) s) (rw (getD-drop (i + 1) s 0 0, one) e))
 
 -- several bytes more in front of the first piece
-abbrev pub grown : List ℕ → Pieces → Pieces
+abbrev pub grown : List ℕ → CutLines → CutLines
 grown [] p = p
 grown (b ∷ l) p = grow b (grown l p)
 
-grown-line : (l t : List ℕ) (p : Pieces) → grown l (line t p) ≡ line (l ++ t) p
+grown-line : (l t : List ℕ) (p : CutLines) → grown l (line t p) ≡ line (l ++ t) p
 grown-line [] t p = refl
 grown-line (a ∷ l) t p = ap (grow a) (grown-line l t p)
 
@@ -108,7 +108,7 @@ unfolding EndsAt
 searched-found {s} {from} {i} p e = record {
   starts = p .order;
   inside = break-inside s i e;
-  pieces =
+  cuts =
       no-break-pieces p
       ∙ ap (grown (part s from i)) (cut-break-at s i e)
       ∙ grown-line (part s from i) [] (cut (drop (i + 2) s))
@@ -125,7 +125,7 @@ searched-all {s} {from} {i} g p h =
     sym (append-nil (part s from i)) ∙ ap (λ (l : List ℕ). part s from i ++ l) (sym none) ∙ part-rest s from i (p .order) in
     record {
       starts = g;
-      pieces =
+      cuts =
           no-break-pieces p
           ∙ ap (λ (l : List ℕ). grown (part s from i) (cut l)) none
           ∙ ap (grown (part s from i)) cut-none
@@ -143,7 +143,7 @@ searched-end {s} {from} {i} g p h = go (ltb i (length s)) refl
 
 pub searched-none : (s : List ℕ) (from : ℕ) → length s ≤ from → EndsAt s from None
 unfolding EndsAt
-searched-none s from h = record { past = h; pieces = ap cut (drop-end s from h) ∙ cut-none }
+searched-none s from h = record { past = h; cuts = ap cut (drop-end s from h) ∙ cut-none }
 
 -- what a caller learns from each answer
 pub line-at : {s : List ℕ} {from : ℕ} {r : LineEnd} (e : ℕ) → EndsAt s from r → r ≡ At e → LineAt s from e
@@ -186,16 +186,16 @@ first-later b c s n e f = record {
     go zero h = e
     go (suc k) h = breakAt-suc b (c ∷ s) k ∙ f .earlier k (omega arith) (omega arith)
 
-first-grown : (b c : ℕ) (s l : List ℕ) (p q : Pieces) → isBreak b c ≡ false → grow b q ≡ line l p
-    → ((t : List ℕ) (r : Pieces) → q ≡ line t r → FirstBreak (c ∷ s) 0 (length t)) → FirstBreak (b ∷ c ∷ s) 0 (length l)
+first-grown : (b c : ℕ) (s l : List ℕ) (p q : CutLines) → isBreak b c ≡ false → grow b q ≡ line l p
+    → ((t : List ℕ) (r : CutLines) → q ≡ line t r → FirstBreak (c ∷ s) 0 (length t)) → FirstBreak (b ∷ c ∷ s) 0 (length l)
 first-grown b c s l p end e g k = let z : _≡_ {A = ℕ} 0 1 = cc in absurd (omega arith)
 first-grown b c s l p (unended t) e g k = let z : _≡_ {A = ℕ} 0 1 = cc in absurd (omega arith)
 first-grown b c s l p (line t r) e g k =
     let n : b ∷ t ≡ l = cc in
     subst (λ (x : List ℕ). FirstBreak (b ∷ c ∷ s) 0 (length x)) n (first-later b c s (length t) e (k t r refl))
 
-first-either : (b c : ℕ) (s l : List ℕ) (p : Pieces) (x : Bool) → isBreak b c ≡ x → cut (b ∷ c ∷ s) ≡ line l p
-    → ((t : List ℕ) (r : Pieces) → cut (c ∷ s) ≡ line t r → FirstBreak (c ∷ s) 0 (length t)) → FirstBreak (b ∷ c ∷ s) 0 (length l)
+first-either : (b c : ℕ) (s l : List ℕ) (p : CutLines) (x : Bool) → isBreak b c ≡ x → cut (b ∷ c ∷ s) ≡ line l p
+    → ((t : List ℕ) (r : CutLines) → cut (c ∷ s) ≡ line t r → FirstBreak (c ∷ s) 0 (length t)) → FirstBreak (b ∷ c ∷ s) 0 (length l)
 unfolding breakAt
 first-either b c s l p true e g k =
     let q : line [] (cut s) ≡ line l p = sym (cut-break b c s e) ∙ g in
@@ -203,7 +203,7 @@ first-either b c s l p true e g k =
     subst (λ (x : List ℕ). FirstBreak (b ∷ c ∷ s) 0 (length x)) n (record { here = e; earlier = λ j z h. absurd (omega arith) })
 first-either b c s l p false e g k = first-grown b c s l p (cut (c ∷ s)) e (sym (cut-grow b (c ∷ s) e) ∙ g) k
 
-pub cut-first : (s l : List ℕ) (p : Pieces) → cut s ≡ line l p → FirstBreak s 0 (length l)
+pub cut-first : (s l : List ℕ) (p : CutLines) → cut s ≡ line l p → FirstBreak s 0 (length l)
 unfolding cut
 cut-first [] l p e = let z : _≡_ {A = ℕ} 0 1 = cc in absurd (omega arith)
 cut-first (b ∷ []) l p e = let z : _≡_ {A = ℕ} 0 1 = cc in absurd (omega arith)
@@ -212,7 +212,7 @@ cut-first (b ∷ c ∷ s) l p e = first-either b c s l p (isBreak b c) refl e (c
 pub line-at-first : {s : List ℕ} {from e : ℕ} → LineAt s from e → FirstBreak s from e
 line-at-first {s} {from} {e} h =
     let n : length (part s from e) ≡ e - from = length-part s from e (h .starts) (omega (arith, h .inside)) in
-    let f : FirstBreak (drop from s) 0 (length (part s from e)) = cut-first (drop from s) _ _ (h .pieces) in
+    let f : FirstBreak (drop from s) 0 (length (part s from e)) = cut-first (drop from s) _ _ (h .cuts) in
     let m : from + (e - from) ≡ e = omega (arith, h .starts) in
     record {
       here =
@@ -225,7 +225,7 @@ line-at-first {s} {from} {e} h =
     }
 
 -- cutting loses nothing: each piece with its CR LF again gives the bytes
-bytesOf-grow : (b : ℕ) (p : Pieces) → bytesOf (grow b p) ≡ b ∷ bytesOf p
+bytesOf-grow : (b : ℕ) (p : CutLines) → bytesOf (grow b p) ≡ b ∷ bytesOf p
 bytesOf-grow b end = refl
 bytesOf-grow b (unended t) = refl
 bytesOf-grow b (line t p) = refl
@@ -251,7 +251,7 @@ bytesOf-cut (b ∷ []) = refl
 bytesOf-cut (b ∷ c ∷ s) = bytesOf-either b c s (isBreak b c) refl (bytesOf-cut s) (bytesOf-cut (c ∷ s))
 
 -- so a line and what follows it have two bytes less than the whole, and a piece that is not ended is the whole
-pub cut-length : (s l : List ℕ) (p : Pieces) → cut s ≡ line l p → length l + 2 + length (bytesOf p) ≡ length s
+pub cut-length : (s l : List ℕ) (p : CutLines) → cut s ≡ line l p → length l + 2 + length (bytesOf p) ≡ length s
 cut-length s l p e =
     let whole : l ++ (13 ∷ 10 ∷ bytesOf p) ≡ s = sym (ap bytesOf e) ∙ bytesOf-cut s in
     omega (arith, simp length-append at (ap length whole))
@@ -265,7 +265,7 @@ unfolding cut
 cut-unended-some [] t e = let z : _≡_ {A = ℕ} 0 1 = cc in absurd (omega arith)
 cut-unended-some (b ∷ s) t e = rw (cut-unended (b ∷ s) t e) (omega arith)
 
-lineCount-bytes : (p : Pieces) → lineCount p + lineCount p ≤ length (bytesOf p)
+lineCount-bytes : (p : CutLines) → lineCount p + lineCount p ≤ length (bytesOf p)
 lineCount-bytes end = omega arith
 lineCount-bytes (unended t) = omega arith
 lineCount-bytes (line l p) = simp length-append (omega (arith, lineCount-bytes p))
@@ -360,7 +360,7 @@ steps-at {s} {from} {e} h =
       ends = omega arith;
       goes-on = omega (arith, h .starts);
       inside = h .inside;
-      lines = ap allLines (h .pieces);
+      lines = ap allLines (h .cuts);
     }
 
 pub steps-last : {s : List ℕ} {from : ℕ} → UnendedAt s from → StepsTo s from (Line (length s) (length s))
@@ -373,7 +373,7 @@ steps-last {s} {from} h =
       goes-on = h .starts;
       inside = omega arith;
       lines =
-          ap allLines (h .pieces)
+          ap allLines (h .cuts)
           ∙ ap (λ (l : List ℕ). l ∷ []) (sym whole)
           ∙ ap (λ (ls : List (List ℕ)). part s from (length s) ∷ ls)
           (sym (ap (λ (l : List ℕ). allLines (cut l)) (drop-end s (length s) (omega arith)) ∙ ap allLines cut-none));
@@ -381,7 +381,7 @@ steps-last {s} {from} h =
 
 pub steps-none : {s : List ℕ} {from : ℕ} → NothingAt s from → StepsTo s from End
 unfolding StepsTo contentLines
-steps-none h = record { past = h .past; lines = ap allLines (h .pieces) }
+steps-none h = record { past = h .past; lines = ap allLines (h .cuts) }
 
 -- what a caller knows of each answer
 pub line-from : {s : List ℕ} {from : ℕ} {r : Span} (e next : ℕ) → StepsTo s from r → r ≡ Line e next → LineFrom s from e next

@@ -13,19 +13,19 @@ use Rattle.text.specs.declared.Span.{Span}
 use Rattle.text.specs.declared.Span.the-variants.{Line, End}
 
 -- the pieces of a file in order: lines that CR LF ends, then perhaps a last piece that it does not end, which is badly formed
-pub data Pieces : Type 0 where
-  end : Pieces
-  unended : List ℕ → Pieces
-  line : List ℕ → Pieces → Pieces
+pub data CutLines : Type 0 where
+  end : CutLines
+  unended : List ℕ → CutLines
+  line : List ℕ → CutLines → CutLines
 
 -- one byte more in front of the first piece
-abbrev pub grow : ℕ → Pieces → Pieces
+abbrev pub grow : ℕ → CutLines → CutLines
 grow b end = unended (b ∷ [])
 grow b (unended t) = unended (b ∷ t)
 grow b (line t p) = line (b ∷ t) p
 
 -- a line ends at each CR LF; zero bytes are zero lines, and bytes that end in CR LF have no piece after it
-unfoldable pub cut : List ℕ → Pieces
+unfoldable pub cut : List ℕ → CutLines
 cut [] = end
 cut (b ∷ []) = unended (b ∷ [])
 cut (b ∷ c ∷ s) = elim (isBreak b c) [ true ↦ line [] (cut s) | false ↦ grow b (cut (c ∷ s)) ]
@@ -42,17 +42,17 @@ part s a e = take (e - a) (drop a s)
 pub record LineAt (s : List ℕ) (from e : ℕ) : Type 0 where
   pub starts : from ≤ e
   pub inside : e + 2 ≤ length s
-  pub pieces : cut (drop from s) ≡ line (part s from e) (cut (drop (e + 2) s))
+  pub cuts : cut (drop from s) ≡ line (part s from e) (cut (drop (e + 2) s))
 
 -- what stands from `from` on is one piece without CR LF
 pub record UnendedAt (s : List ℕ) (from : ℕ) : Type 0 where
   pub starts : from < length s
-  pub pieces : cut (drop from s) ≡ unended (drop from s)
+  pub cuts : cut (drop from s) ≡ unended (drop from s)
 
 -- nothing stands at `from` or after it
 pub record NothingAt (s : List ℕ) (from : ℕ) : Type 0 where
   pub past : length s ≤ from
-  pub pieces : cut (drop from s) ≡ end
+  pub cuts : cut (drop from s) ≡ end
 
 -- what a search for the end of the line at `from` answers
 unfoldable pub EndsAt : List ℕ → ℕ → LineEnd → Type 0
@@ -61,7 +61,7 @@ EndsAt s from Unended = UnendedAt s from
 EndsAt s from None = NothingAt s from
 
 -- every line of a file in order, a last piece that CR LF does not end among them
-abbrev pub allLines : Pieces → List (List ℕ)
+abbrev pub allLines : CutLines → List (List ℕ)
 allLines end = []
 allLines (unended t) = t ∷ []
 allLines (line l p) = l ∷ allLines p
@@ -88,13 +88,13 @@ StepsTo s from (Line e next) = LineFrom s from e next
 StepsTo s from End = NoLineFrom s from
 
 -- how many lines end in CR LF
-abbrev pub lineCount : Pieces → ℕ
+abbrev pub lineCount : CutLines → ℕ
 lineCount end = 0
 lineCount (unended t) = 0
 lineCount (line l p) = suc (lineCount p)
 
 -- the bytes that pieces were cut from
-abbrev pub bytesOf : Pieces → List ℕ
+abbrev pub bytesOf : CutLines → List ℕ
 bytesOf end = []
 bytesOf (unended t) = t
 bytesOf (line l p) = l ++ (13 ∷ 10 ∷ bytesOf p)
@@ -105,7 +105,7 @@ joined [] = []
 joined (l ∷ ls) = l ++ (13 ∷ 10 ∷ joined ls)
 
 -- lines, each ended, as pieces
-abbrev pub linesOf : List (List ℕ) → Pieces
+abbrev pub linesOf : List (List ℕ) → CutLines
 linesOf [] = end
 linesOf (l ∷ ls) = line l (linesOf ls)
 

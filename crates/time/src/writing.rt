@@ -43,7 +43,7 @@ fn month_in(leap: bool, n: u64) -> u64
 }
 
 // The day that is d days after 1 January 1970, up to the last of 2099.
-pub fn day_of(d: u64) -> Day
+fn day_of(d: u64) -> Day
     requires { ⌜ d ≤ 47481 ⌝ }
     ensures { λ r. ⌜ r ≡ dayOf d ⌝ }
 {

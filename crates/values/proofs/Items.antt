@@ -8,7 +8,7 @@ use lib.Dec.{ltb}
 use lib.ListN.{length, take, drop}
 use lib.Seq.{length-take-le}
 use Rattle.line.specs.Splitting.{firstOutside, nextPlace, before, splitAfter, plainSplit}
-use Rattle.line.proofs.Splitting.{firstOutside-le, nextPlace-ge, nextPlace-le, pieces-from, splitAfter-in, splitAfter-out, before-is}
+use Rattle.line.proofs.Splitting.{firstOutside-le, nextPlace-ge, nextPlace-le, parts-from, splitAfter-in, splitAfter-out, before-is}
 
 -- the item from a place up to the next separator
 abbrev pub itemAt : List ℕ → ℕ → ℕ → List ℕ
@@ -26,7 +26,7 @@ pub item-first : (sep : ℕ) (v : List ℕ) (from e : ℕ) → from ≤ length v
     → plainSplit sep (drop from v) ≡ itemAt v from e ∷ splitAfter false sep v e
 unfolding plainSplit
 item-first sep v from e h q =
-    pieces-from false sep v from h ∙ ap (λ (i : ℕ). itemAt v from i ∷ splitAfter false sep v i) (sym q)
+    parts-from false sep v from h ∙ ap (λ (i : ℕ). itemAt v from i ∷ splitAfter false sep v i) (sym q)
 
 -- where there is a separator, the rest of the list stands behind it
 pub item-more : (sep : ℕ) (v : List ℕ) (from e : ℕ) → from ≤ length v → e ≡ nextPlace false sep v from → e < length v

@@ -10,7 +10,7 @@ use borrow.Author.Tests.{lt-ltb, le-ltb, ltb-true}
 use Rattle.ascii.specs.Bytes.{isDigit}
 use Rattle.ascii.proofs.Bools.{clash}
 use Rattle.line.specs.Splitting.{firstOutside, nextPlace, before, after, splitAfter, plainSplit}
-use Rattle.line.proofs.Splitting.{closed, closed-append, closed-class, pieces-one, before-closed, after-closed, before-fits, after-part}
+use Rattle.line.proofs.Splitting.{closed, closed-append, closed-class, parts-one, before-closed, after-closed, before-fits, after-part}
 use Rattle.time.specs.DateTime.{readDateTime}
 use Rattle.time.specs.Limits.{lastSecond}
 use Rattle.time.specs.Duration.{durationSeconds, readDuration}
@@ -183,7 +183,7 @@ pub periodItems-written : (s e : ℕ) → s < e → e ≤ lastSecond
     → periodItems (utcText s ++ (47 ∷ utcText e)) ≡ PeriodRead.Of (record { start = s; end = e }) ∷ []
 unfolding periodItems plainSplit
 periodItems-written s e h k =
-    ap (map periodOf) (pieces-one false 44 false (utcText s ++ (47 ∷ utcText e))
+    ap (map periodOf) (parts-one false 44 false (utcText s ++ (47 ∷ utcText e))
     (closed-append false 44 false (utcText s) (47 ∷ utcText e) (no-comma s) (no-comma e)))
     ∙ ap (λ (r : PeriodRead). r ∷ []) (periodOf-written s e h k)
 

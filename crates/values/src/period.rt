@@ -36,7 +36,7 @@ fn utc_by(read: DateTime) -> Second
 }
 
 // The second of a UTC DATE-TIME within the limits.
-pub fn utc_at(s: &[u8]) -> Second
+fn utc_at(s: &[u8]) -> Second
     ensures { λ r. ⌜ r ≡ utcAt (now (s .entry)) ⌝ }
 {
     utc_by(date_time::read_date_time(s))

@@ -57,7 +57,7 @@ pub enum RuleRead {
 }
 
 // The number of one to four digits, from 1 to the given one.
-pub fn number_to(most: u64, s: &[u8]) -> Number
+fn number_to(most: u64, s: &[u8]) -> Number
     ensures { λ r. ⌜ r ≡ numberTo most (now (s .entry)) ⌝ }
 {
     if (s.len() < 1) | (4 < s.len()) {
@@ -80,7 +80,7 @@ pub fn number_to(most: u64, s: &[u8]) -> Number
 }
 
 // FREQ: any word but these two is unsupported.
-pub fn frequency_part(v: &[u8]) -> Part
+fn frequency_part(v: &[u8]) -> Part
     ensures { λ r. ⌜ r ≡ frequencyPart (now (v .entry)) ⌝ }
 {
     if ascii::same_name(v, b"DAILY") {
@@ -131,7 +131,7 @@ fn until_part(c: Context, v: &[u8]) -> Part
 }
 
 // A part by its name: any name but these four is unsupported.
-pub fn named_part(c: Context, name: &[u8], value: &[u8]) -> Part
+fn named_part(c: Context, name: &[u8], value: &[u8]) -> Part
     requires { ⌜ ContextGood c ⌝ }
     ensures { λ r. ⌜ r ≡ namedPart c (now (name .entry)) (now (value .entry)) ⌝ }
 {
@@ -151,7 +151,7 @@ pub fn named_part(c: Context, name: &[u8], value: &[u8]) -> Part
 }
 
 // A part: a name, the first equals sign and a value.
-pub fn part_of(c: Context, s: &[u8]) -> Part
+fn part_of(c: Context, s: &[u8]) -> Part
     requires { ⌜ ContextGood c ⌝ }
     ensures { λ r. ⌜ r ≡ partOf c (now (s .entry)) ⌝ }
 {
@@ -194,7 +194,7 @@ fn with_limit(p: Parts, limit: Limit) -> Parts
 }
 
 // One part more: a second one of a name, or of COUNT and UNTIL, is bad.
-pub fn with_part(p: Parts, x: Part) -> Parts
+fn with_part(p: Parts, x: Part) -> Parts
     ensures { λ r. ⌜ r ≡ withPart p x ⌝ }
 {
     let mut q = p;
@@ -228,7 +228,7 @@ fn at_least_one(n: u64) -> u64
 }
 
 // The rule that the parts make. Unsupported goes before bad.
-pub fn rule_by(p: Parts) -> RuleRead
+fn rule_by(p: Parts) -> RuleRead
     ensures { λ r. ⌜ r ≡ ruleBy p ⌝ }
 {
     let unsupported = p.unsupported;

@@ -33,7 +33,7 @@ pub enum Form {
 }
 
 // The form that a word names, ASCII case disregarded.
-pub fn form_named(w: &[u8]) -> Form
+fn form_named(w: &[u8]) -> Form
     ensures { λ r. ⌜ r ≡ formNamed (now (w .entry)) ⌝ }
 {
     if ascii::same_name(w, b"DATE") {

@@ -94,7 +94,7 @@ fn show_lines(s: &[u8]) {
 }
 
 fn show_check(s: &[u8]) {
-    match line::check::check_lines(s) {
+    match line::check::check_lines_from(s, 0, 1) {
         LineCheck::Good => print(b" good"),
         LineCheck::BadLine(n) => {
             print(b" bad line ");

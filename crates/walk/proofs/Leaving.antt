@@ -1,4 +1,4 @@
--- What is left to note: noting the rest notes the whole, so that a loop may stop when nothing, or no room, is left.
+-- What is left to store: storing the rest stores the whole, so that a loop may stop when nothing, or no room, is left.
 use Prim.Native.Nat.{ℕ, _+_, _≤_}
 use mathlib.Core.Path.{_≡_, refl, sym, ap, _∙_}
 use mathlib.Core.Bool.{Bool, true, false}
@@ -42,7 +42,7 @@ use Rattle.pieces.proofs.Pieces.{piecesOf-none, piecesOf-append}
 use Rattle.walk.specs.Walks.{valuePeriods, typeGiven}
 use Rattle.walk.specs.declared.blocks.PeriodType.{PeriodType}
 
--- n pieces stand in o: noting those of `left` behind them makes those of `whole` behind n₀ in o₀
+-- n pieces stand in o: storing those of `left` behind them makes those of `whole` behind n₀ in o₀
 pub record Left (o₀ : List ℕ) (n₀ : ℕ) (whole : List BusyPeriod) (o : List ℕ) (n : ℕ) (left : List BusyPeriod) : Type 0 where
   pub few : n ≤ 513
   pub long : Room o
@@ -52,7 +52,7 @@ pub left-start : (o : List ℕ) (n : ℕ) (whole : List BusyPeriod) → n ≤ 51
 left-start o n whole h l = record { few = h; long = l; rest = λ o′ r m. m }
 
 module _ {o₀ : List ℕ} {n₀ : ℕ} {whole : List BusyPeriod} {o : List ℕ} {n : ℕ} {left : List BusyPeriod} (l : Left o₀ n₀ whole o n left) where
-  -- the first of what is left is noted
+  -- the first of what is left is stored
   pub left-then : {o′ : List ℕ} {r : ℕ} {ps qs : List BusyPeriod} → left ≡ ps ++ qs → Stored o n ps o′ r → Left o₀ n₀ whole o′ r qs
   left-then e h =
       record {

@@ -1,4 +1,4 @@
--- What each step of the walk over a calendar notes.
+-- What each step of the walk over a calendar stores.
 use Prim.Native.Nat.{ℕ}
 use mathlib.Core.Path.{_≡_}
 use mathlib.Core.List.{List, []}
@@ -53,7 +53,7 @@ pub record StoresFrom (c : Context) (s : List ℕ) (from first a b : ℕ) (o o�
   pub fault-is : r .fault ≡ contentsFault c (componentsFrom s from first)
   pub stored : r .fault ≡ Fault.None → Stored o 0 (busyPieces a b (entriesOf c (componentsFrom s from first))) o′ (r .count)
 
--- what one walk over the components of a calendar answers: the lowest of refusals 8 to 10, and where there is none the pieces that were noted
+-- what one walk over the components of a calendar answers: the lowest of refusals 8 to 10, and where there is none the pieces that were stored
 pub record StoresContents (c : Context) (s : List ℕ) (a b : ℕ) (o o′ : List ℕ) (r : ContentsStored) : Type 0 where
   pub fault-is : r .fault ≡ faultOf (contentsOf c s)
   pub stored : r .fault ≡ Fault.None → Stored o 0 (busyPieces a b (entriesOf c (componentsOf s))) o′ (r .count)

@@ -1,4 +1,4 @@
-// Noting the busy pieces of a FREEBUSY value, of a line and of a block.
+// Storing the busy pieces of a FREEBUSY value, of a line and of a block.
 // A block's own ends play no part: its periods alone are busy time.
 use calendar::period_list;
 use calendar::period_list::PeriodStep;
@@ -32,14 +32,7 @@ pub enum PeriodType {
 }
 
 // Every period of a FREEBUSY value.
-pub fn store_value(
-    column: &mut [u32],
-    first: usize,
-    busy: BusyType,
-    v: &[u8],
-    a: u64,
-    b: u64,
-) -> usize
+fn store_value(column: &mut [u32], first: usize, busy: BusyType, v: &[u8], a: u64, b: u64) -> usize
     requires { ⌜ Room (now column) ⌝ }
     requires { ⌜ first ≤ 513 ⌝ }
     requires { ⌜ b ≤ lastSecond ⌝ }
@@ -77,7 +70,7 @@ fn type_given(value: PropertyValue) -> PeriodType
 }
 
 // The periods of a line. Most lines of a block are read, so the first byte is not asked beforehand.
-pub fn store_line(column: &mut [u32], n: usize, line: &[u8], c: Context, a: u64, b: u64) -> usize
+fn store_line(column: &mut [u32], n: usize, line: &[u8], c: Context, a: u64, b: u64) -> usize
     requires { ⌜ Room (now column) ⌝ }
     requires { ⌜ n ≤ 513 ⌝ }
     requires { ⌜ ContextGood c ⌝ }

@@ -1,5 +1,5 @@
 // From component to component of a calendar, each read once: its refusal, and all of its busy pieces,
-// of which no more than 513 are noted.
+// of which no more than 513 are stored.
 pub mod blocks;
 
 use calendar::Fault;
@@ -33,7 +33,7 @@ ghost use Rattle.walk.specs.Walks.{StoresRead, StoresFrom, StoresContent
 pub struct ContentsStored {
     // The lowest of refusals 8 to 10.
     pub fault: Fault,
-    // How many pieces were noted.
+    // How many pieces were stored.
     pub count: usize,
 }
 

@@ -1,11 +1,11 @@
-//! Makes query papers: well formed ones that often fit the calendar, and damaged ones.
+//! Makes queries: well formed ones that often fit the calendar, and damaged ones.
 //! Records refer to the texts by number; a text is put in when first referred to.
 
 use crate::calendars::LAST_SECOND;
 use crate::damage;
 use crate::random::Random;
 
-struct Paper {
+struct Query {
     ranges: Vec<(u64, u64)>,
     texts: Vec<Vec<u8>>,
     components: Vec<[u8; 4]>,
@@ -13,7 +13,7 @@ struct Paper {
     parameters: Vec<[u8; 5]>,
 }
 
-impl Paper {
+impl Query {
     fn text(&mut self, text: &[u8]) -> u8 {
         let text = &text[..text.len().min(255)];
         if let Some(number) = self.texts.iter().position(|t| t == text) {
@@ -100,17 +100,17 @@ pub fn edgy_range(random: &mut Random) -> (u64, u64) {
     edges[random.below(edges.len())]
 }
 
-/// A paper for the calendar of those lines.
+/// A query for the calendar of those lines.
 pub fn make(random: &mut Random, lines: &[Vec<u8>], marks: &[i64], focus: i64) -> Vec<u8> {
-    let mut paper =
+    let mut query =
         if random.often(450) { fitting(random, lines, marks, focus) } else { well_formed(random, lines, marks, focus) };
     if random.often(90) {
-        spoil(random, &mut paper);
+        spoil(random, &mut query);
     }
     if random.often(15) {
-        lengthen(random, &mut paper);
+        lengthen(random, &mut query);
     }
-    let mut bytes = paper.written();
+    let mut bytes = query.written();
     match random.below(30) {
         0 => (0..1 + random.below(2)).for_each(|_| damage::bytes(random, &mut bytes)),
         1 if random.often(300) => {
@@ -129,8 +129,8 @@ pub fn make(random: &mut Random, lines: &[Vec<u8>], marks: &[i64], focus: i64) -
     bytes
 }
 
-fn well_formed(random: &mut Random, lines: &[Vec<u8>], marks: &[i64], focus: i64) -> Paper {
-    let mut paper = Paper {
+fn well_formed(random: &mut Random, lines: &[Vec<u8>], marks: &[i64], focus: i64) -> Query {
+    let mut query = Query {
         ranges: Vec::new(),
         texts: Vec::new(),
         components: Vec::new(),
@@ -142,12 +142,12 @@ fn well_formed(random: &mut Random, lines: &[Vec<u8>], marks: &[i64], focus: i64
         2 => 8,
         _ => 1 + random.below(3),
     };
-    paper.ranges = (0..ranges).map(|_| range(random, marks, focus)).collect();
+    query.ranges = (0..ranges).map(|_| range(random, marks, focus)).collect();
     if random.often(80) {
-        paper.text(b"spare text \xff");
+        query.text(b"spare text \xff");
     }
-    let calendar = paper.text(if random.often(950) { b"VCALENDAR" } else { b"vCalendar" });
-    paper.components.push([0, calendar, 0, 0]);
+    let calendar = query.text(if random.often(950) { b"VCALENDAR" } else { b"vCalendar" });
+    query.components.push([0, calendar, 0, 0]);
 
     let more = match random.below(40) {
         0 => 15,
@@ -156,8 +156,8 @@ fn well_formed(random: &mut Random, lines: &[Vec<u8>], marks: &[i64], focus: i64
         _ => 2 + random.below(3),
     };
     for _ in 0..more {
-        let parent = if random.often(750) { 0 } else { random.below(paper.components.len()) };
-        if paper.components[parent][3] == 1 {
+        let parent = if random.often(750) { 0 } else { random.below(query.components.len()) };
+        if query.components[parent][3] == 1 {
             continue;
         }
         let own: &[&str] = match parent {
@@ -167,12 +167,12 @@ fn well_formed(random: &mut Random, lines: &[Vec<u8>], marks: &[i64], focus: i64
             _ => &["VALARM", "VALARM", "X-BOX", "VTODO", "STANDARD", "X-1", "VEVENT"],
         };
         let word = random.pick(own);
-        let name = paper.text(word.as_bytes());
+        let name = query.text(word.as_bytes());
         let timed = ["VEVENT", "VFREEBUSY", "vevent"].contains(&word);
         let absent = random.often(130);
         let range =
             if timed && !absent && ranges > 0 && random.often(650) { 1 + random.below(ranges) as u8 } else { 0 };
-        paper.components.push([parent as u8, name, range, u8::from(absent)]);
+        query.components.push([parent as u8, name, range, u8::from(absent)]);
     }
     let properties = match random.below(40) {
         0 => 32,
@@ -181,40 +181,40 @@ fn well_formed(random: &mut Random, lines: &[Vec<u8>], marks: &[i64], focus: i64
         _ => 2 + random.below(3),
     };
     for _ in 0..properties {
-        let owner = random.below(paper.components.len());
-        if paper.components[owner][3] == 1 {
+        let owner = random.below(query.components.len());
+        if query.components[owner][3] == 1 {
             continue;
         }
         let (name, text, _) = hint(random, lines);
-        let (text, collation, flag) = demand(random, &mut paper, &text);
-        let name = paper.text(&name);
-        paper.properties.push([owner as u8, name, 0, text, collation, flag]);
+        let (text, collation, flag) = demand(random, &mut query, &text);
+        let name = query.text(&name);
+        query.properties.push([owner as u8, name, 0, text, collation, flag]);
     }
-    if !paper.properties.is_empty() {
+    if !query.properties.is_empty() {
         let parameters = match random.below(40) {
             0 => 32,
             1..=18 => 0,
             _ => 1 + random.below(3),
         };
         for _ in 0..parameters {
-            let owner = random.below(paper.properties.len());
-            if paper.properties[owner][5] == 1 {
+            let owner = random.below(query.properties.len());
+            if query.properties[owner][5] == 1 {
                 continue;
             }
             let (_, _, line) = hint(random, lines);
             let (name, text) = parameter_hint(random, &line);
-            let (text, collation, flag) = demand(random, &mut paper, &text);
-            let name = paper.text(&name);
-            paper.parameters.push([owner as u8, name, text, collation, flag]);
+            let (text, collation, flag) = demand(random, &mut query, &text);
+            let name = query.text(&name);
+            query.parameters.push([owner as u8, name, text, collation, flag]);
         }
     }
-    paper
+    query
 }
 
-/// A paper made after some lines of one component: its chain of components, and tests that
+/// A query made after some lines of one component: its chain of components, and tests that
 /// those lines pass in most cases.
-fn fitting(random: &mut Random, lines: &[Vec<u8>], marks: &[i64], focus: i64) -> Paper {
-    let mut paper = Paper {
+fn fitting(random: &mut Random, lines: &[Vec<u8>], marks: &[i64], focus: i64) -> Query {
+    let mut query = Query {
         ranges: Vec::new(),
         texts: Vec::new(),
         components: Vec::new(),
@@ -233,53 +233,53 @@ fn fitting(random: &mut Random, lines: &[Vec<u8>], marks: &[i64], focus: i64) ->
         }
     }
     chain.truncate(8);
-    paper.ranges.push(if random.often(300) { (0, LAST_SECOND as u64) } else { range(random, marks, focus) });
-    let calendar = paper.text(b"VCALENDAR");
-    paper.components.push([0, calendar, 0, 0]);
+    query.ranges.push(if random.often(300) { (0, LAST_SECOND as u64) } else { range(random, marks, focus) });
+    let calendar = query.text(b"VCALENDAR");
+    query.components.push([0, calendar, 0, 0]);
     for &number in chain.iter().skip(1) {
         let name = &lines[number][6..];
         let timed = name.eq_ignore_ascii_case(b"VEVENT") || name.eq_ignore_ascii_case(b"VFREEBUSY");
         let range = u8::from(timed && random.often(650));
-        let parent = (paper.components.len() - 1) as u8;
-        let name = paper.text(name);
-        paper.components.push([parent, name, range, 0]);
+        let parent = (query.components.len() - 1) as u8;
+        let name = query.text(name);
+        query.components.push([parent, name, range, 0]);
     }
     if random.often(150) {
-        let parent = random.below(paper.components.len()) as u8;
+        let parent = random.below(query.components.len()) as u8;
         let name = random.pick(&["X-NONE", "VTODO", "VALARM"]);
-        let name = paper.text(name.as_bytes());
-        paper.components.push([parent, name, 0, 1]);
+        let name = query.text(name.as_bytes());
+        query.components.push([parent, name, 0, 1]);
     }
     let Some(&last) = chain.last() else {
-        return paper;
+        return query;
     };
     // At times the range alone decides.
     if random.often(350) {
-        return paper;
+        return query;
     }
     let owner = (chain.len() - 1) as u8;
     for line in lines[last + 1..].iter().take_while(|line| !begins(line) && !ends(line)) {
-        if random.often(500) || paper.properties.len() > 4 {
+        if random.often(500) || query.properties.len() > 4 {
             continue;
         }
         let (name, text, line) = hint(random, std::slice::from_ref(line));
-        let (text, collation, flag) = demand(random, &mut paper, &text);
+        let (text, collation, flag) = demand(random, &mut query, &text);
         let flag = if flag == 2 && random.often(700) { 0 } else { flag };
         let flag = if flag == 1 && random.often(800) { 0 } else { flag };
-        let name = paper.text(&name);
-        paper.properties.push([owner, name, 0, text, collation, flag]);
+        let name = query.text(&name);
+        query.properties.push([owner, name, 0, text, collation, flag]);
         if flag != 1 && line.contains(&b';') && random.often(600) {
             let (name, text) = parameter_hint(random, &line);
-            let (text, collation, flag) = demand(random, &mut paper, &text);
-            let name = paper.text(&name);
-            paper.parameters.push([(paper.properties.len() - 1) as u8, name, text, collation, flag]);
+            let (text, collation, flag) = demand(random, &mut query, &text);
+            let name = query.text(&name);
+            query.parameters.push([(query.properties.len() - 1) as u8, name, text, collation, flag]);
         }
     }
-    paper
+    query
 }
 
 /// What is asked of a property or parameter: text, collation, flag.
-fn demand(random: &mut Random, paper: &mut Paper, text: &[u8]) -> (u8, u8, u8) {
+fn demand(random: &mut Random, query: &mut Query, text: &[u8]) -> (u8, u8, u8) {
     let collation = random.below(2) as u8;
     match random.below(10) {
         0 => (0, collation, 1),
@@ -290,7 +290,7 @@ fn demand(random: &mut Random, paper: &mut Paper, text: &[u8]) -> (u8, u8, u8) {
                 text.make_ascii_uppercase();
             }
             let flag = if form < 5 { 2 } else { 0 };
-            (paper.text(&text) + 1, collation, flag)
+            (query.text(&text) + 1, collation, flag)
         }
     }
 }
@@ -344,138 +344,138 @@ fn piece(random: &mut Random, value: &[u8]) -> Vec<u8> {
 }
 
 /// Sets one field wrong, or at least otherwise.
-fn spoil(random: &mut Random, paper: &mut Paper) {
+fn spoil(random: &mut Random, query: &mut Query) {
     if random.often(500) {
-        breach(random, paper);
+        breach(random, query);
         return;
     }
     let any = random.number(&[0, 1, 2, 3, 15, 16, 31, 32, 33, 255]) as u8;
     match random.below(14) {
         0..=2 => {
-            let at = random.below(paper.components.len());
-            paper.components[at][random.below(4)] = any;
+            let at = random.below(query.components.len());
+            query.components[at][random.below(4)] = any;
         }
-        3..=4 if !paper.properties.is_empty() => {
-            let at = random.below(paper.properties.len());
-            paper.properties[at][random.below(6)] = any;
+        3..=4 if !query.properties.is_empty() => {
+            let at = random.below(query.properties.len());
+            query.properties[at][random.below(6)] = any;
         }
-        5..=6 if !paper.parameters.is_empty() => {
-            let at = random.below(paper.parameters.len());
-            paper.parameters[at][random.below(5)] = any;
+        5..=6 if !query.parameters.is_empty() => {
+            let at = random.below(query.parameters.len());
+            query.parameters[at][random.below(5)] = any;
         }
-        7 if !paper.ranges.is_empty() => {
-            let at = random.below(paper.ranges.len());
-            paper.ranges[at] = edgy_range(random);
+        7 if !query.ranges.is_empty() => {
+            let at = random.below(query.ranges.len());
+            query.ranges[at] = edgy_range(random);
         }
         8 => {
-            let extra = 9usize.saturating_sub(paper.ranges.len()).min(1 + random.below(9));
-            paper.ranges.extend((0..extra).map(|_| (0, 1)));
+            let extra = 9usize.saturating_sub(query.ranges.len()).min(1 + random.below(9));
+            query.ranges.extend((0..extra).map(|_| (0, 1)));
         }
         9 => {
             let extra = random.below(34);
-            paper.texts.extend((0..extra).map(|n| vec![b'a'; n]));
+            query.texts.extend((0..extra).map(|n| vec![b'a'; n]));
         }
         // A range where none may be: refusal 5.
-        10..=11 if !paper.ranges.is_empty() => {
-            let at = random.below(paper.components.len());
-            if paper.components[at][3] == 0 {
-                paper.components[at][2] = 1;
+        10..=11 if !query.ranges.is_empty() => {
+            let at = random.below(query.components.len());
+            if query.components[at][3] == 0 {
+                query.components[at][2] = 1;
             }
         }
-        12..=13 if !paper.ranges.is_empty() && !paper.properties.is_empty() => {
-            let at = random.below(paper.properties.len());
-            if paper.properties[at][5] != 1 {
-                paper.properties[at][2] = 1;
+        12..=13 if !query.ranges.is_empty() && !query.properties.is_empty() => {
+            let at = random.below(query.properties.len());
+            if query.properties[at][5] != 1 {
+                query.properties[at][2] = 1;
             }
         }
         10 => {
-            paper.ranges.push((0, 1));
-            paper.components[0][2] = paper.ranges.len() as u8;
+            query.ranges.push((0, 1));
+            query.components[0][2] = query.ranges.len() as u8;
         }
         11 => {
-            let name = paper.texts.len() as u8;
-            paper.texts.push(random.pick(&["", "A B", "A_B", "\u{e9}", "VCALENDAR"]).as_bytes().to_vec());
-            let at = random.below(paper.components.len());
-            paper.components[at][1] = name;
+            let name = query.texts.len() as u8;
+            query.texts.push(random.pick(&["", "A B", "A_B", "\u{e9}", "VCALENDAR"]).as_bytes().to_vec());
+            let at = random.below(query.components.len());
+            query.components[at][1] = name;
         }
-        12 => paper.components.extend((paper.components.len()..16 + random.below(2)).map(|_| [0, 0, 0, 0])),
-        _ => paper.properties.extend((paper.properties.len()..32 + random.below(2)).map(|_| [0, 0, 0, 0, 0, 0])),
+        12 => query.components.extend((query.components.len()..16 + random.below(2)).map(|_| [0, 0, 0, 0])),
+        _ => query.properties.extend((query.properties.len()..32 + random.below(2)).map(|_| [0, 0, 0, 0, 0, 0])),
     }
 }
 
-/// Breaks one rule of the paper and keeps the others, or stays just within it.
-fn breach(random: &mut Random, paper: &mut Paper) {
-    let name = paper.text(b"X-A");
-    let components = paper.components.len() as u8;
-    let properties = paper.properties.len() as u8;
-    if paper.ranges.is_empty() {
-        paper.ranges.push((0, 1));
+/// Breaks one rule of the query and keeps the others, or stays just within it.
+fn breach(random: &mut Random, query: &mut Query) {
+    let name = query.text(b"X-A");
+    let components = query.components.len() as u8;
+    let properties = query.properties.len() as u8;
+    if query.ranges.is_empty() {
+        query.ranges.push((0, 1));
     }
     let flag = random.below(2) as u8;
     match random.below(16) {
         // Children of a record that may be is-not-defined.
-        0 => paper.components.extend([[0, name, 0, flag], [components, name, 0, 0]]),
+        0 => query.components.extend([[0, name, 0, flag], [components, name, 0, 0]]),
         1 => {
-            paper.components.push([0, name, 0, flag]);
-            paper.properties.push([components, name, 0, 0, 0, 0]);
+            query.components.push([0, name, 0, flag]);
+            query.properties.push([components, name, 0, 0, 0, 0]);
         }
         2 => {
-            paper.properties.push([0, name, 0, 0, 0, flag]);
-            paper.parameters.push([properties, name, 0, 0, 0]);
+            query.properties.push([0, name, 0, 0, 0, flag]);
+            query.parameters.push([properties, name, 0, 0, 0]);
         }
         3 => {
-            paper.components = vec![[0, paper.components[0][1], 0, flag]];
-            paper.properties.clear();
-            paper.parameters.clear();
+            query.components = vec![[0, query.components[0][1], 0, flag]];
+            query.properties.clear();
+            query.parameters.clear();
         }
         // Parents and owners at or just beyond the number of records.
-        4 => paper.components.push([components - flag, name, 0, 0]),
-        5 => paper.properties.push([components - flag, name, 0, 0, 0, 1]),
-        6 => paper.parameters.push([properties.saturating_sub(flag), name, 0, 0, 1]),
+        4 => query.components.push([components - flag, name, 0, 0]),
+        5 => query.properties.push([components - flag, name, 0, 0, 0, 1]),
+        6 => query.parameters.push([properties.saturating_sub(flag), name, 0, 0, 1]),
         // A range beside is-not-defined, or one number too high.
-        7 => paper.components.push([0, paper.components[components as usize - 1][1], 1, flag]),
-        8 => paper.properties.push([0, name, flag, 0, 0, flag]),
-        9 => paper.components.push([0, name, paper.ranges.len() as u8 + flag, 0]),
+        7 => query.components.push([0, query.components[components as usize - 1][1], 1, flag]),
+        8 => query.properties.push([0, name, flag, 0, 0, flag]),
+        9 => query.components.push([0, name, query.ranges.len() as u8 + flag, 0]),
         // Texts, flags and collations.
-        10 => paper.properties.push([0, name, 0, paper.texts.len() as u8 + flag, 0, 2]),
-        11 => paper.properties.push([0, name, 0, flag, 1, 2]),
-        12 => paper.properties.push([0, name, 0, flag, 1 + random.below(2) as u8, random.below(4) as u8]),
+        10 => query.properties.push([0, name, 0, query.texts.len() as u8 + flag, 0, 2]),
+        11 => query.properties.push([0, name, 0, flag, 1, 2]),
+        12 => query.properties.push([0, name, 0, flag, 1 + random.below(2) as u8, random.below(4) as u8]),
         13 => {
-            paper.properties.push([0, name, 0, 0, 0, 0]);
-            let text = random.below(paper.texts.len() + 2) as u8;
-            paper.parameters.push([properties, name, text, random.below(3) as u8, random.below(4) as u8]);
+            query.properties.push([0, name, 0, 0, 0, 0]);
+            let text = random.below(query.texts.len() + 2) as u8;
+            query.parameters.push([properties, name, text, random.below(3) as u8, random.below(4) as u8]);
         }
         // Counts at their limits and one more.
         14 => {
             let target = 32 + usize::from(flag);
             match random.below(3) {
                 0 => {
-                    paper.properties.push([0, name, 0, 0, 0, 0]);
-                    paper.parameters.resize(target, [properties, name, 0, 0, 1]);
+                    query.properties.push([0, name, 0, 0, 0, 0]);
+                    query.parameters.resize(target, [properties, name, 0, 0, 1]);
                 }
-                1 => paper.properties.resize(target, [0, name, 0, 0, 0, 1]),
-                _ => paper.texts.resize(target, b"spare".to_vec()),
+                1 => query.properties.resize(target, [0, name, 0, 0, 0, 1]),
+                _ => query.texts.resize(target, b"spare".to_vec()),
             }
         }
         _ => {
             if random.often(500) {
-                paper.components.resize(16 + usize::from(flag), [0, name, 0, 1]);
+                query.components.resize(16 + usize::from(flag), [0, name, 0, 1]);
             } else {
-                paper.ranges.resize(8 + usize::from(flag), (0, 1));
+                query.ranges.resize(8 + usize::from(flag), (0, 1));
             }
         }
     }
 }
 
-/// Puts in texts that nothing uses until the paper has 4,095 to 4,097 bytes.
-fn lengthen(random: &mut Random, paper: &mut Paper) {
+/// Puts in texts that nothing uses until the query has 4,095 to 4,097 bytes.
+fn lengthen(random: &mut Random, query: &mut Query) {
     let target = random.number(&[4_095, 4_096, 4_096, 4_097]) as usize;
-    while paper.texts.len() < 32 {
-        let missing = target.saturating_sub(paper.written().len());
+    while query.texts.len() < 32 {
+        let missing = target.saturating_sub(query.written().len());
         if missing == 0 {
             break;
         }
         let length = (missing - 1).min(255);
-        paper.texts.push(vec![random.below(256) as u8; length]);
+        query.texts.push(vec![random.below(256) as u8; length]);
     }
 }

@@ -1,4 +1,4 @@
-//! The query paper: reading it (refusals 4 and 5) and its component, property and
+//! The query: reading it (refusals 4 and 5) and its component, property and
 //! parameter tests on a calendar that was read.
 
 use std::ops::Range;
@@ -15,7 +15,7 @@ const BADLY_FORMED: u8 = 4;
 /// Refusal 5.
 const MISPLACED_RANGE: u8 = 5;
 
-/// A query paper that was read.
+/// A query that was read.
 pub struct Query<'q> {
     components: Vec<ComponentTest<'q>>,
     properties: Vec<PropertyTest<'q>>,
@@ -86,9 +86,9 @@ fn contains(value: &[u8], text: &[u8], casemap: bool) -> bool {
 }
 
 impl<'q> Query<'q> {
-    /// Reads the paper, or gives refusal 4 or 5.
-    pub fn read(paper: &'q [u8]) -> Result<Self, u8> {
-        let query = Self::well_formed(paper).ok_or(BADLY_FORMED)?;
+    /// Reads the bytes, or gives refusal 4 or 5.
+    pub fn read(bytes: &'q [u8]) -> Result<Self, u8> {
+        let query = Self::well_formed(bytes).ok_or(BADLY_FORMED)?;
         let timed = |name: &[u8]| name.eq_ignore_ascii_case(b"VEVENT") || name.eq_ignore_ascii_case(b"VFREEBUSY");
         let misplaced = query.components.iter().any(|c| c.range.is_some() && !timed(c.name))
             || query.properties.iter().any(|p| p.ranged);
@@ -100,11 +100,11 @@ impl<'q> Query<'q> {
     }
 
     /// Reads the five sections; nothing if anything about them is bad.
-    fn well_formed(paper: &'q [u8]) -> Option<Self> {
-        if paper.len() > LONGEST_QUERY {
+    fn well_formed(bytes: &'q [u8]) -> Option<Self> {
+        if bytes.len() > LONGEST_QUERY {
             return None;
         }
-        let mut reader = Reader { rest: paper };
+        let mut reader = Reader { rest: bytes };
         let ranges = reader.section(0..=8, |r, _| {
             let (start, end) = (r.eight_bytes()?, r.eight_bytes()?);
             time::range(start, end)
@@ -164,7 +164,7 @@ impl<'q> Query<'q> {
     }
 }
 
-/// The texts of a paper, as records refer to them.
+/// The texts of a query, as records refer to them.
 struct Texts<'q> {
     all: Vec<&'q [u8]>,
 }
@@ -193,7 +193,7 @@ impl<'q> Texts<'q> {
     }
 }
 
-/// Reads a paper from front to back.
+/// Reads a query from front to back.
 struct Reader<'q> {
     rest: &'q [u8],
 }

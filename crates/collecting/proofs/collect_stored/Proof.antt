@@ -1,4 +1,4 @@
--- At most 513 pieces are noted: with 513 there are more than 512, with fewer they are all.
+-- At most 513 pieces are stored: with 513 there are more than 512, with fewer they are all.
 use Rattle.collecting.proofs.CollectStages.{contents-refuse, contents-many, contents-few}
 use borrow.Author.Needs.{needs}
 use Rattle.collecting.proofs.collect_stored.Statement.{statement}

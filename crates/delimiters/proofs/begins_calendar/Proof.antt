@@ -1,4 +1,4 @@
--- `marks::begins_calendar` meets its contract: each arm is the definition's own case.
+-- `delimiters::begins_calendar` meets its contract: each arm is the definition's own case.
 use Rattle.line.specs.Reading.{lineOf}
 use Rattle.delimiters.proofs.Delimiters.{begins-yes, begins-no}
 use Rattle.delimiters.specs.Innermost.{beginsCalendar}

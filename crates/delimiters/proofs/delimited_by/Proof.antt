@@ -1,4 +1,4 @@
--- `marks::delimited_by` meets its contract: behind a colon that follows the name stands the value of a line without parameters;
+-- `delimiters::delimited_by` meets its contract: behind a colon that follows the name stands the value of a line without parameters;
 -- else the count of parameters and the test of the value are the rule's own tests.
 use Rattle.ascii.specs.Names.{isName}
 use Rattle.line.specs.Reading.{Plain}

@@ -1,4 +1,4 @@
--- `marks::delimiter_named` meets its contract: each branch is one case of the tests on the line's name, whose length is then known.
+-- `delimiters::delimiter_named` meets its contract: each branch is one case of the tests on the line's name, whose length is then known.
 use Rattle.delimiters.proofs.Delimiters.{named-length, delimiter-begin, delimiter-end, delimiter-property}
 use borrow.Author.Needs.{needs}
 use Rattle.delimiters.proofs.delimiter_named.Statement.{statement}

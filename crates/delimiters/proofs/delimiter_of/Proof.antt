@@ -1,4 +1,4 @@
--- `marks::delimiter_of` meets its contract: a line that begins with neither B nor E has another name than BEGIN and END.
+-- `delimiters::delimiter_of` meets its contract: a line that begins with neither B nor E has another name than BEGIN and END.
 use Rattle.delimiters.proofs.Delimiters.{delimiter-other}
 use native.Mathlib.Omega.{arith}
 use borrow.Author.Needs.{needs}

@@ -1,4 +1,4 @@
--- `marks::may_begin` meets its contract: the tests are the definition's own.
+-- `delimiters::may_begin` meets its contract: the tests are the definition's own.
 use Rattle.delimiters.specs.Innermost.{mayBegin, isCalendar, isEvent, isFreeBusy}
 use borrow.Author.Needs.{needs}
 use Rattle.delimiters.proofs.may_begin.Statement.{statement}

@@ -1,4 +1,4 @@
--- `marks::meets` meets its contract: each arm is one case of the line's mark.
+-- `delimiters::nesting_step` meets its contract: each arm is one case of the delimiter that the line is.
 use Rattle.delimiters.proofs.Delimiters.{step-opens, step-begin-breaks, step-closes, step-end-breaks, step-stays, step-wrong}
 use borrow.Author.Needs.{needs}
 use Rattle.delimiters.proofs.nesting_step.Statement.{statement}

@@ -2,7 +2,7 @@
 use mir.Syntax.{w64}
 use mir.ValLaws.{toZ-ofZ}
 use Rattle.engine.proofs.ReportingLaws.{reported-at}
-use Rattle.demands.proofs.PairedCalls.{report-room, report-long, read-twice}
+use Rattle.demands.proofs.PairedCalls.{report-room, report-long, read-back-calls}
 use borrow.Author.Needs.{needs}
 use Rattle.demands.proofs.read_back.Statement.{statement}
 use Rattle.demands.proofs.read_back.Tie as tie
@@ -13,29 +13,20 @@ report-requires c κs = search needs
 length-of-requires : tie.Need-length-of-requires
 length-of-requires c κs = search needs
 
-slice-reshare-prefix-opens-report : tie.Need-slice-reshare-prefix-opens-report
-slice-reshare-prefix-opens-report c = report-room (c .before .before .before .before .before .report .ensures) (c .length-of .ensures)
+slice-reshare-prefix-heads-match : tie.Need-slice-reshare-prefix-heads-match
+slice-reshare-prefix-heads-match c = report-room (c .before .before .before .before .before .report .ensures) (c .length-of .ensures)
 
-slice-aggregate-opens-report : tie.Need-slice-aggregate-opens-report
-slice-aggregate-opens-report c = report-long (c .before .before .before .before .before .before .report .ensures) (c .before .length-of .ensures)
+slice-aggregate-heads-match : tie.Need-slice-aggregate-heads-match
+slice-aggregate-heads-match c = report-long (c .before .before .before .before .before .before .report .ensures) (c .before .length-of .ensures)
 
-opens-report-requires : tie.Need-opens-report-requires
-opens-report-requires c κs = search needs
-
-slice-reshare-prefix-closes-report : tie.Need-slice-reshare-prefix-closes-report
-slice-reshare-prefix-closes-report c = report-room (c .before .before .before .before .before .before .before .report .ensures) (c .before .before .length-of .ensures)
-
-slice-aggregate-closes-report : tie.Need-slice-aggregate-closes-report
-slice-aggregate-closes-report c = report-long (c .before .before .before .before .before .before .before .before .report .ensures) (c .before .before .before .length-of .ensures)
-
-closes-report-requires : tie.Need-closes-report-requires
-closes-report-requires c κs = search needs
+heads-match-requires : tie.Need-heads-match-requires
+heads-match-requires c κs = search needs
 
 slice-reshare-prefix-report : tie.Need-slice-reshare-prefix-report
-slice-reshare-prefix-report c = report-room (c .before .before .before .before .before .before .before .before .before .report .ensures) (c .before .before .before .before .length-of .ensures)
+slice-reshare-prefix-report c = report-room (c .before .before .before .before .before .before .before .report .ensures) (c .before .before .length-of .ensures)
 
 slice-aggregate-report : tie.Need-slice-aggregate-report
-slice-aggregate-report c = report-long (c .before .before .before .before .before .before .before .before .before .before .report .ensures) (c .before .before .before .before .before .length-of .ensures)
+slice-aggregate-report c = report-long (c .before .before .before .before .before .before .before .before .report .ensures) (c .before .before .before .length-of .ensures)
 
 report-requires-2 : tie.Need-report-requires-2
 report-requires-2 c κs = search needs
@@ -53,7 +44,10 @@ same-length-4 : tie.Need-same-length-4
 same-length-4 c = search needs
 
 returns : tie.Need-returns
-returns c = read-twice (reported-at (toZ-ofZ w64 (c .before .before .before .before .before .before .before .before .before .before .before .before .before .before .before .before .before .before .before .before .before .before .before .before .before .args .offset) (c .before .before .before .before .before .before .before .before .before .before .before .before .before .before .before .before .before .before .before .before .before .before .before .before .before .fits .offset)) (c .before .before .before .before .before .before .before .before .before .before .before .before .before .before .before .before .before .report .ensures)) (c .before .before .before .before .before .before .before .before .before .before .before .before .length-of .ensures) (c .before .before .before .before .before .before .before .before .before .before .opens-report .ensures) (c .before .before .before .before .before .before .before .before .closes-report .ensures) (reported-at (toZ-ofZ w64 (c .before .before .before .before .before .before .before .before .before .before .before .before .before .before .before .before .before .before .before .before .before .before .before .before .before .args .offset-again) (c .before .before .before .before .before .before .before .before .before .before .before .before .before .before .before .before .before .before .before .before .before .before .before .before .before .fits .offset-again)) (c .before .before .before .before .report2 .ensures))
+returns c =
+    let first = reported-at (toZ-ofZ w64 (c .before .before .before .before .before .before .before .before .before .before .before .before .before .before .before .before .before .before .before .before .before .before .before .args .offset) (c .before .before .before .before .before .before .before .before .before .before .before .before .before .before .before .before .before .before .before .before .before .before .before .fits .offset)) (c .before .before .before .before .before .before .before .before .before .before .before .before .before .before .before .report .ensures) in
+    let again = reported-at (toZ-ofZ w64 (c .before .before .before .before .before .before .before .before .before .before .before .before .before .before .before .before .before .before .before .before .before .before .before .args .offset-again) (c .before .before .before .before .before .before .before .before .before .before .before .before .before .before .before .before .before .before .before .before .before .before .before .fits .offset-again)) (c .before .before .before .before .report2 .ensures) in
+    read-back-calls first (c .before .before .before .before .before .before .before .before .before .before .length-of .ensures) (c .before .before .before .before .before .before .before .before .heads-match .ensures) again
 
 pub read-back-spec : {M : Type 1} → statement M
 read-back-spec =
@@ -61,12 +55,9 @@ read-back-spec =
     (tie.spec
     report-requires
     length-of-requires
-    slice-reshare-prefix-opens-report
-    slice-aggregate-opens-report
-    opens-report-requires
-    slice-reshare-prefix-closes-report
-    slice-aggregate-closes-report
-    closes-report-requires
+    slice-reshare-prefix-heads-match
+    slice-aggregate-heads-match
+    heads-match-requires
     slice-reshare-prefix-report
     slice-aggregate-report
     report-requires-2

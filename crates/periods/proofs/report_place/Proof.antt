@@ -1,4 +1,4 @@
--- `rules::events::report_place` meets its contract: each arm is one clause of the definition.
+-- `events::rules::report_place` meets its contract: each arm is one clause of the definition.
 use Rattle.periods.specs.BusyTypes.{reportPlace}
 use mathlib.Core.Path.{sym, ap}
 use borrow.Author.Needs.{needs}

@@ -12,10 +12,10 @@ use Rattle.property_tests.proofs.properties_hold.Statement.{statement}
 use Rattle.property_tests.proofs.properties_hold.Tie as tie
 
 abbrev Inv-loop : tie.InvT-loop
-Inv-loop paper q k s at n i₀ i = (i ≤ q .properties .count) × (everyBelow i (propertyPasses paper q k (propertiesAt s at)) ≡ true)
+Inv-loop query q k s at n i₀ i = (i ≤ q .properties .count) × (everyBelow i (propertyPasses query q k (propertiesAt s at)) ≡ true)
 
 abbrev μ-loop : tie.MeasureT-loop
-μ-loop paper q k s at n i₀ i = n - i
+μ-loop query q k s at n i₀ i = n - i
 
 loop-holds : tie.Need-loop-holds Inv-loop μ-loop
 loop-holds c = (omega arith, every-start _)

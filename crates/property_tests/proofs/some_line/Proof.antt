@@ -11,10 +11,10 @@ use Rattle.property_tests.proofs.some_line.Statement.{statement}
 use Rattle.property_tests.proofs.some_line.Tie as tie
 
 abbrev Inv-loop : tie.InvT-loop
-Inv-loop paper q i r s from at₀ at = Seeking (someLine paper q i r) s from at
+Inv-loop query q i r s from at₀ at = Seeking (someLine query q i r) s from at
 
 abbrev μ-loop : tie.MeasureT-loop
-μ-loop paper q i r s from at₀ at = length s - at
+μ-loop query q i r s from at₀ at = length s - at
 
 loop-holds : tie.Need-loop-holds Inv-loop μ-loop
 loop-holds c = seeking-start _ _ _

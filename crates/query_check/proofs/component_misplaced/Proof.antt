@@ -1,4 +1,4 @@
--- `paper::component_misplaced` meets its contract: the tests are those of the definition, on the text of the name.
+-- `query_check::component_misplaced` meets its contract: the tests are those of the definition, on the text of the name.
 use Rattle.query_check.proofs.Fields.{component-off}
 use borrow.Author.Needs.{needs}
 use Rattle.query_check.proofs.component_misplaced.Statement.{statement}

@@ -1,4 +1,4 @@
--- `paper::components_good` meets its contract: every component so far is good, and the first that is not decides.
+-- `query_check::components_good` meets its contract: every component so far is good, and the first that is not decides.
 use Rattle.query_check.proofs.Loops.{componentHolds}
 use borrow.Author.Tests.{not-true, not-false}
 use mathlib.Core.Bool.{true}

@@ -1,4 +1,4 @@
--- `paper::components_misplaced` meets its contract: no component so far has a misplaced range, and every name is the number of a text.
+-- `query_check::components_misplaced` meets its contract: no component so far has a misplaced range, and every name is the number of a text.
 use Rattle.query.specs.Counting.{someBelow}
 use Rattle.query_check.specs.WellFormed.{componentMisplaced, componentsMisplaced}
 use Rattle.query_check.proofs.Fields.{component-text}

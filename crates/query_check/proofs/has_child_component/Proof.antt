@@ -1,4 +1,4 @@
--- `paper::has_child_component` meets its contract: no component so far is a child, and the first that is one decides.
+-- `query_check::has_child_component` meets its contract: no component so far is a child, and the first that is one decides.
 use Rattle.query.specs.declared.ComponentRecord.{ComponentRecord}
 use mathlib.Core.Bool.{_&&_, false}
 use lib.Dec.{ltb, eqb}

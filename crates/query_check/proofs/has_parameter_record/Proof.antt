@@ -1,4 +1,4 @@
--- `paper::has_parameter_record` meets its contract: no parameter so far is one of the property, and the first that is one decides.
+-- `query_check::has_parameter_record` meets its contract: no parameter so far is one of the property, and the first that is one decides.
 use Rattle.query.specs.declared.ParameterRecord.{ParameterRecord}
 use borrow.Author.Tests.{eq-eqb, ne-eqb}
 use mathlib.Core.Bool.{false}

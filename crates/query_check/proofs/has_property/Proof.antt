@@ -1,4 +1,4 @@
--- `paper::has_property` meets its contract: no property so far is one of the component, and the first that is one decides.
+-- `query_check::has_property` meets its contract: no property so far is one of the component, and the first that is one decides.
 use Rattle.query.specs.declared.PropertyRecord.{PropertyRecord}
 use borrow.Author.Tests.{eq-eqb, ne-eqb}
 use mathlib.Core.Bool.{false}

@@ -1,4 +1,4 @@
--- `paper::parameter_good` meets its contract: the tests are those of the definition.
+-- `query_check::parameter_good` meets its contract: the tests are those of the definition.
 use Rattle.query_check.specs.WellFormed.{parameterGood}
 use borrow.Author.Needs.{needs}
 use Rattle.query_check.proofs.parameter_good.Statement.{statement}

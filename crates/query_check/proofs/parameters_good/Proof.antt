@@ -1,4 +1,4 @@
--- `paper::parameters_good` meets its contract: every parameter so far is good, and the first that is not decides.
+-- `query_check::parameters_good` meets its contract: every parameter so far is good, and the first that is not decides.
 use Rattle.query_check.proofs.Loops.{parameterHolds}
 use borrow.Author.Tests.{not-true, not-false}
 use mathlib.Core.Bool.{true}

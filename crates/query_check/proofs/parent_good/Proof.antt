@@ -1,4 +1,4 @@
--- `paper::parent_good` meets its contract: the two branches are the two cases of the definition.
+-- `query_check::parent_good` meets its contract: the two branches are the two cases of the definition.
 use Rattle.query_check.proofs.Fields.{parent-first, parent-other}
 use borrow.Author.Needs.{needs}
 use Rattle.query_check.proofs.parent_good.Statement.{statement}

@@ -1,4 +1,4 @@
--- `paper::properties_good` meets its contract: every property so far is good, and the first that is not decides.
+-- `query_check::properties_good` meets its contract: every property so far is good, and the first that is not decides.
 use Rattle.query_check.proofs.Loops.{propertyHolds}
 use borrow.Author.Tests.{not-true, not-false}
 use mathlib.Core.Bool.{true}

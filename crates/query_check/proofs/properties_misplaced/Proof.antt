@@ -1,4 +1,4 @@
--- `paper::properties_misplaced` meets its contract: no property so far has a range, and the first that has one decides.
+-- `query_check::properties_misplaced` meets its contract: no property so far has a range, and the first that has one decides.
 use Rattle.query.specs.declared.PropertyRecord.{PropertyRecord}
 use borrow.Author.Tests.{lt-ltb, le-ltb}
 use mathlib.Core.Bool.{false}

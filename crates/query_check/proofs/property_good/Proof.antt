@@ -1,4 +1,4 @@
--- `paper::property_good` meets its contract: the tests are those of the definition.
+-- `query_check::property_good` meets its contract: the tests are those of the definition.
 use Rattle.query_check.specs.WellFormed.{propertyGood}
 use borrow.Author.Needs.{needs}
 use Rattle.query_check.proofs.property_good.Statement.{statement}

@@ -1,4 +1,4 @@
--- `paper::query_good` meets its contract: sections that were read lie inside the paper, so that their records can be read.
+-- `query_check::query_good` meets its contract: sections that were read lie inside the query, so that their records can be read.
 use Rattle.query.proofs.LayoutLaws.{sections-fit}
 use Rattle.query_check.proofs.Queries.{query-of, query-none}
 use mathlib.Core.Path.{sym, _∙_}

@@ -1,4 +1,4 @@
--- `paper::range_misplaced` meets its contract: the two sections are searched each by itself.
+-- `query_check::range_misplaced` meets its contract: the two sections are searched each by itself.
 use Rattle.query_check.specs.WellFormed.{rangeMisplaced}
 use borrow.Author.Needs.{needs}
 use Rattle.query_check.proofs.range_misplaced.Statement.{statement}

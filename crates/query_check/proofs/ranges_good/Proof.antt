@@ -1,4 +1,4 @@
--- `paper::ranges_good` meets its contract: every range so far is good, and the first that is not decides.
+-- `query_check::ranges_good` meets its contract: every range so far is good, and the first that is not decides.
 use borrow.Author.Tests.{not-true, not-false}
 use mathlib.Core.Bool.{true}
 use Prim.Native.Nat.{_≤_, _-_}

@@ -1,4 +1,4 @@
--- `paper::read_query` meets its contract: a good paper has its sections, and they lie inside it.
+-- `query_check::read_query` meets its contract: a good query has its sections, and they lie inside it.
 use borrow.Author.Tests.{not-true, not-false}
 use Rattle.query.proofs.LayoutLaws.{sections-fit}
 use Rattle.query_check.proofs.Queries.{query-none, query-records, read-bad, read-misplaced, read-of}

@@ -1,4 +1,4 @@
--- `paper::records_good` meets its contract: the four sections are tested each by itself.
+-- `query_check::records_good` meets its contract: the four sections are tested each by itself.
 use Rattle.query_check.specs.WellFormed.{recordsGood}
 use borrow.Author.Needs.{needs}
 use Rattle.query_check.proofs.records_good.Statement.{statement}

@@ -6,6 +6,9 @@ use borrow.Author.Needs.{needs}
 use Rattle.replay.proofs.answer.Statement.{statement}
 use Rattle.replay.proofs.answer.Tie as tie
 
+is-whole-requires : tie.Need-is-whole-requires
+is-whole-requires c κs = search needs
+
 print-unreadable-requires : tie.Need-print-unreadable-requires
 print-unreadable-requires c κs = search needs
 
@@ -40,6 +43,7 @@ pub answer-spec : {M : Type 1} → statement M
 answer-spec =
     tie.close
     (tie.spec
+    is-whole-requires
     print-unreadable-requires
     returns
     slice-aggregate-with-buffers

@@ -1,4 +1,4 @@
--- While the loop goes on, taking in what is left with the widened stretch is taking in the whole with the first.
+-- While the loop goes on, taking in what is left with the widened span is taking in the whole with the first.
 use Rattle.table.proofs.Columns.{Taking, taking-start, taking-more, taking-stop, taking-end}
 use Prim.Native.Nat.{_-_}
 use native.Mathlib.Omega.{arith}

@@ -1,4 +1,4 @@
--- Each arm is one clause of what a line of that saying has for a fault.
+-- Each arm is one clause of what a line of that value has for a fault.
 use mathlib.Core.Path.{refl}
 use Rattle.calendar.specs.Meaning.{faultOr}
 use Rattle.calendar.proofs.Reading.{fault-stays, fault-after}

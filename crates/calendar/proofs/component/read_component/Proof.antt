@@ -51,8 +51,8 @@ part-property-value-of-end c = omega (arith, property-there c .line)
 property-value-of-requires : tie.Need-property-value-of-requires Inv-loop μ-loop
 property-value-of-requires c κs = c .before .before .before .before .before .before .before .before .pre .0
 
-says-nothing-requires : tie.Need-says-nothing-requires Inv-loop μ-loop
-says-nothing-requires c κs = search needs
+is-unread-requires : tie.Need-is-unread-requires Inv-loop μ-loop
+is-unread-requires c κs = search needs
 
 fault-with-requires : tie.Need-fault-with-requires Inv-loop μ-loop
 fault-with-requires c κs = search needs
@@ -70,7 +70,7 @@ loop-again : tie.Need-loop-again Inv-loop μ-loop
 loop-again c =
     ⊎-elim
     (λ w. reading-property (c .before .before .before .before .before .before .before .before .loop .inv) (property-there (c .before .before .before .before)) (c .before .before .property-value-of .ensures) (w .3 ∙ w .1 .ensures) (w .4 ∙ w .2 .ensures))
-    (λ w. reading-silent (c .before .before .before .before .before .before .before .before .loop .inv) (property-there (c .before .before .before .before)) (c .before .before .property-value-of .ensures) (c .before .says-nothing .ensures (not-false _ (w .0 .left))) (w .1) (w .2))
+    (λ w. reading-silent (c .before .before .before .before .before .before .before .before .loop .inv) (property-there (c .before .before .before .before)) (c .before .before .property-value-of .ensures) (c .before .is-unread .ensures (not-false _ (w .0 .left))) (w .1) (w .2))
     (c .if1 .came)
 
 enum-known-next : tie.Need-enum-known-next Inv-loop μ-loop
@@ -111,7 +111,7 @@ read-component-spec =
     part-property-value-of-start
     part-property-value-of-end
     property-value-of-requires
-    says-nothing-requires
+    is-unread-requires
     fault-with-requires
     with-property-requires
     add-number

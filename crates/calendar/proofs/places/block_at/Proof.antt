@@ -1,4 +1,4 @@
--- The block is that of what was gathered.
+-- The block is that of the properties so far.
 use Rattle.calendar.specs.Places.{blockAt}
 use borrow.Author.Needs.{needs}
 use Rattle.calendar.proofs.places.block_at.Statement.{statement}

@@ -1,4 +1,4 @@
--- What the lines from a place on add to what was gathered is what the whole component says.
+-- What the lines from a place on add to the properties so far is what the whole component says.
 use Prim.Native.Nat.{_-_}
 use lib.ListN.{length}
 use Rattle.nesting.proofs.Components.{property-at, inner-at, no-item-at}

@@ -1,4 +1,4 @@
--- The event is that of what was gathered.
+-- The event is that of the properties so far.
 use Rattle.calendar.specs.Places.{eventAt}
 use borrow.Author.Needs.{needs}
 use Rattle.calendar.proofs.places.event_at.Statement.{statement}

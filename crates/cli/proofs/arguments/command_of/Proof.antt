@@ -35,9 +35,19 @@ returns-3 : tie.Need-returns-3
 unfolding commandOf
 returns-3 c = rw (sym (c .before .before .before .before .before .before .before .same-name .ensures) ∙ c .before .before .before .before .before .before .if1 .left, sym (c .before .before .before .before .same-name2 .ensures) ∙ c .before .before .before .if2 .left, sym (c .before .same-name3 .ensures) ∙ c .if3 .taken)
 
+slice-aggregate-same-name-4 : tie.Need-slice-aggregate-same-name-4
+slice-aggregate-same-name-4 c = search needs
+
+same-name-requires-4 : tie.Need-same-name-requires-4
+same-name-requires-4 c κs = search needs
+
 returns-4 : tie.Need-returns-4
 unfolding commandOf
-returns-4 c = rw (sym (c .before .before .before .before .before .before .before .same-name .ensures) ∙ c .before .before .before .before .before .before .if1 .left, sym (c .before .before .before .before .same-name2 .ensures) ∙ c .before .before .before .if2 .left, sym (c .before .same-name3 .ensures) ∙ c .if3 .left)
+returns-4 c = rw (sym (c .before .before .before .before .before .before .before .before .before .before .same-name .ensures) ∙ c .before .before .before .before .before .before .before .before .before .if1 .left, sym (c .before .before .before .before .before .before .before .same-name2 .ensures) ∙ c .before .before .before .before .before .before .if2 .left, sym (c .before .before .before .before .same-name3 .ensures) ∙ c .before .before .before .if3 .left, sym (c .before .same-name4 .ensures) ∙ c .if4 .taken)
+
+returns-5 : tie.Need-returns-5
+unfolding commandOf
+returns-5 c = rw (sym (c .before .before .before .before .before .before .before .before .before .before .same-name .ensures) ∙ c .before .before .before .before .before .before .before .before .before .if1 .left, sym (c .before .before .before .before .before .before .before .same-name2 .ensures) ∙ c .before .before .before .before .before .before .if2 .left, sym (c .before .before .before .before .same-name3 .ensures) ∙ c .before .before .before .if3 .left, sym (c .before .same-name4 .ensures) ∙ c .if4 .left)
 
 pub command-of-spec : {M : Type 1} → statement M
 command-of-spec =
@@ -52,4 +62,7 @@ command-of-spec =
     slice-aggregate-same-name-3
     same-name-requires-3
     returns-3
-    returns-4)
+    slice-aggregate-same-name-4
+    same-name-requires-4
+    returns-4
+    returns-5)

@@ -22,11 +22,11 @@ enum-known-q : tie.Need-enum-known-q
 enum-known-q c = search needs
 
 -- the sections that were read
-paper-read : (c : tie.After-known-told) → queryRead (now (c .before .before .before .before .before .before .before .args .paper)) ≡ QueryRead.Of (c .before .q .given .0 .0)
-paper-read c = sym (c .before .before .before .read-query .ensures) ∙ c .before .q .given .1
+whole-query-read : (c : tie.After-known-told) → queryRead (now (c .before .before .before .before .before .before .before .args .query)) ≡ QueryRead.Of (c .before .q .given .0 .0)
+whole-query-read c = sym (c .before .before .before .read-query .ensures) ∙ c .before .q .given .1
 
 match-calendar-requires : tie.Need-match-calendar-requires
-match-calendar-requires c κs = (c .before .before .before .before .before .before .before .before .pre .0, (read-fits _ _ (paper-read (c .before)), (read-records _ _ (paper-read (c .before)), c .before .before .before .before .before .before .before .before .pre .1)))
+match-calendar-requires c κs = (c .before .before .before .before .before .before .before .before .pre .0, (read-fits _ _ (whole-query-read (c .before)), (read-records _ _ (whole-query-read (c .before)), c .before .before .before .before .before .before .before .before .pre .1)))
 
 returns : tie.Need-returns
 returns c = match-refused-4 _ _ _ _ (sym (c .before .before .read-query .ensures) ∙ c .enum-told .given .1)
@@ -38,7 +38,7 @@ same-length : tie.Need-same-length
 same-length c = search needs
 
 returns-3 : tie.Need-returns-3
-returns-3 c = match-query-passed _ _ _ _ _ (paper-read (c .before .before .before .before)) (c .before .before .match-calendar .ensures)
+returns-3 c = match-query-passed _ _ _ _ _ (whole-query-read (c .before .before .before .before)) (c .before .before .match-calendar .ensures)
 
 pub match-query-spec : {M : Type 1} → statement M
 match-query-spec =

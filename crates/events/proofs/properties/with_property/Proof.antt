@@ -1,4 +1,4 @@
--- Each arm is the clause for its saying.
+-- Each arm is the clause for its property value.
 use Rattle.events.specs.ComponentProperties.{withProperty}
 use borrow.Author.Needs.{needs}
 use Rattle.events.proofs.properties.with_property.Statement.{statement}

@@ -81,10 +81,10 @@ trial-here-claims t =
 -- ---- the records of one parent
 
 abbrev children-hold-Inv-loop : children-hold-lts.InvT-loop
-children-hold-Inv-loop paper q from parent s at first c n k₀ k = Descending c paper q parent (itemsOf 0 (linesFrom s at first)) from k
+children-hold-Inv-loop query q from parent s at first c n k₀ k = Descending c query q parent (itemsOf 0 (linesFrom s at first)) from k
 
 abbrev children-hold-μ-loop : children-hold-lts.MeasureT-loop
-children-hold-μ-loop paper q from parent s at first c n k₀ k = n - k
+children-hold-μ-loop query q from parent s at first c n k₀ k = n - k
 
 children-hold-loop-holds : (t : ℕ) → children-hold-lts.Need-loop-holds (children-hold-claims t) (children-hold-at t) children-hold.Post children-hold-Inv-loop children-hold-μ-loop
 children-hold-loop-holds t c = descending-start _ _ _ _ _ _ (c .before .before .before .pre .1 .1 .1 .0)
@@ -119,16 +119,16 @@ children-hold-returns-2 t c = descending-end _ _ _ _ _ (c .before .loop .inv) (c
 -- ---- the components side by side
 
 abbrev component-holds-Inv-loop : component-holds-lts.InvT-loop
-component-holds-Inv-loop paper q j s from first c at number e next inside t k₀ k = Tried t k
+component-holds-Inv-loop query q j s from first c at number e next inside t k₀ k = Tried t k
 
 abbrev component-holds-μ-loop : component-holds-lts.MeasureT-loop
-component-holds-μ-loop paper q j s from first c at number e next inside t k₀ k = 47483 - k
+component-holds-μ-loop query q j s from first c at number e next inside t k₀ k = 47483 - k
 
 abbrev component-holds-Inv-search : component-holds-lts.InvT-search
-component-holds-Inv-search paper q j s from first c at₀ number₀ at number = Passing (someHere c paper q j) s from first at number
+component-holds-Inv-search query q j s from first c at₀ number₀ at number = Passing (someHere c query q j) s from first at number
 
 abbrev component-holds-μ-search : component-holds-lts.MeasureT-search
-component-holds-μ-search paper q j s from first c at₀ number₀ at number = length s - at
+component-holds-μ-search query q j s from first c at₀ number₀ at number = length s - at
 
 -- a component begins at the place
 inner-here : (t : ℕ) (c : component-holds-lts.After-e (component-holds-claims t) (component-holds-at t) component-holds.Post component-holds-Inv-loop component-holds-μ-loop component-holds-Inv-search component-holds-μ-search)

@@ -1,4 +1,4 @@
--- The tree of a file is what stands side by side from its first place on, and a good paper has a component record 0.
+-- The tree of a file is what stands side by side from its first place on, and a good query has a component record 0.
 use Rattle.filter.proofs.Tests.{query-as, first-record, first-place}
 use Rattle.filter.proofs.components.query_holds.Statement.{statement}
 use Rattle.filter.proofs.components.query_holds.Tie as tie

@@ -1,7 +1,7 @@
 -- `line::read::parameter_value` meets its contract: the value is a piece behind the equals sign, its quotes taken off.
 use mathlib.Core.Bool.{true, false}
 use Rattle.line.proofs.Parameters.{valuesOf-at}
-use Rattle.line.specs.Splitting.{before, after, pieces, quotesOff}
+use Rattle.line.specs.Splitting.{before, after, splitParts, quotesOff}
 use lib.ListN.{getD}
 use mathlib.Core.List.{List, []}
 use Prim.Native.Nat.{ℕ}
@@ -20,7 +20,7 @@ quotes-off-requires : tie.Need-quotes-off-requires
 quotes-off-requires c κs = search needs
 
 returns : tie.Need-returns
-returns c = c .quotes-off .ensures ∙ ap quotesOff (c .before .nth-part .ensures ∙ ap (λ (t : List ℕ). getD (pieces true 44 false t) (c .before .before .before .before .args .n) []) (c .before .before .after .ensures)) ∙ valuesOf-at _ _
+returns c = c .quotes-off .ensures ∙ ap quotesOff (c .before .nth-part .ensures ∙ ap (λ (t : List ℕ). getD (splitParts true 44 false t) (c .before .before .before .before .args .n) []) (c .before .before .after .ensures)) ∙ valuesOf-at _ _
 
 pub parameter-value-spec : {M : Type 1} → statement M
 parameter-value-spec =

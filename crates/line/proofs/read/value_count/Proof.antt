@@ -1,7 +1,7 @@
 -- `line::read::value_count` meets its contract: the values are the pieces behind the equals sign, cut at each comma.
 use mathlib.Core.Bool.{true, false}
 use Rattle.line.proofs.Parameters.{valuesOf-count}
-use Rattle.line.specs.Splitting.{before, after, pieces}
+use Rattle.line.specs.Splitting.{before, after, splitParts}
 use lib.ListN.{length}
 use mathlib.Core.List.{List}
 use Prim.Native.Nat.{ℕ}
@@ -17,7 +17,7 @@ part-count-requires : tie.Need-part-count-requires
 part-count-requires c κs = search needs
 
 returns : tie.Need-returns
-returns c = c .part-count .ensures ∙ ap (λ (t : List ℕ). length (pieces true 44 false t)) (c .before .after .ensures) ∙ valuesOf-count _
+returns c = c .part-count .ensures ∙ ap (λ (t : List ℕ). length (splitParts true 44 false t)) (c .before .after .ensures) ∙ valuesOf-count _
 
 pub value-count-spec : {M : Type 1} → statement M
 value-count-spec = tie.close (tie.spec after-requires part-count-requires returns)

@@ -1,4 +1,4 @@
--- `nesting::items::next_item` meets its contract: the mark of the line at the place says which item it is.
+-- `nesting::items::next_item` meets its contract: the delimiter at the place says which item it is.
 use Rattle.nesting.proofs.Components.{item-end, item-inner, item-done, item-property, item-wrong}
 use Rattle.text.proofs.Lines.{line-from, no-line-from}
 use native.Mathlib.Omega.{arith}

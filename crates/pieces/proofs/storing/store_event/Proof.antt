@@ -1,4 +1,4 @@
--- The instances below k have their pieces noted; those before the first candidate have none, and at the end no later one has, or no room is left.
+-- The instances below k have their pieces stored; those before the first candidate have none, and at the end no later one has, or no room is left.
 use mathlib.Core.Path.{_∙_}
 use Prim.Native.Nat.{_-_}
 use Rattle.pieces.proofs.BusyPeriods.{Walked, walked-start, walked-more, walked-end, walked-few, walked-long, walked-days}

@@ -12,10 +12,10 @@ use Rattle.property_tests.proofs.parameters.parameters_hold.Statement.{
 use Rattle.property_tests.proofs.parameters.parameters_hold.Tie as tie
 
 abbrev Inv-loop : tie.InvT-loop
-Inv-loop paper q i line n k₀ k = (k ≤ q .parameters .count) × (everyBelow k (parameterPasses paper q i (lineOf line)) ≡ true)
+Inv-loop query q i line n k₀ k = (k ≤ q .parameters .count) × (everyBelow k (parameterPasses query q i (lineOf line)) ≡ true)
 
 abbrev μ-loop : tie.MeasureT-loop
-μ-loop paper q i line n k₀ k = n - k
+μ-loop query q i line n k₀ k = n - k
 
 loop-holds : tie.Need-loop-holds Inv-loop μ-loop
 loop-holds c = (omega arith, every-start _)

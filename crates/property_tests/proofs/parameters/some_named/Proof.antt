@@ -9,10 +9,10 @@ use Rattle.property_tests.proofs.parameters.some_named.Statement.{state
 use Rattle.property_tests.proofs.parameters.some_named.Tie as tie
 
 abbrev Inv-loop : tie.InvT-loop
-Inv-loop paper q r name line h at₀ at = Looking paper q r name h at
+Inv-loop query q r name line h at₀ at = Looking query q r name h at
 
 abbrev μ-loop : tie.MeasureT-loop
-μ-loop paper q r name line h at₀ at = length h - at
+μ-loop query q r name line h at₀ at = length h - at
 
 head-requires : tie.Need-head-requires Inv-loop μ-loop
 head-requires c κs = search needs

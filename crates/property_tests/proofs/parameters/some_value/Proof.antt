@@ -8,10 +8,10 @@ use Rattle.property_tests.proofs.parameters.some_value.Statement.{state
 use Rattle.property_tests.proofs.parameters.some_value.Tie as tie
 
 abbrev Inv-loop : tie.InvT-loop
-Inv-loop paper q r p n k₀ k = Trying paper q r (valuesOf p) k
+Inv-loop query q r p n k₀ k = Trying query q r (valuesOf p) k
 
 abbrev μ-loop : tie.MeasureT-loop
-μ-loop paper q r p n k₀ k = n - k
+μ-loop query q r p n k₀ k = n - k
 
 value-count-requires : tie.Need-value-count-requires Inv-loop μ-loop
 value-count-requires c κs = search needs

@@ -1,4 +1,4 @@
--- The three steps make the definition: rows that end before, the widened stretch, the rows behind it.
+-- The three steps make the definition: rows that end before, the widened span, the rows behind it.
 use Rattle.table.proofs.Columns.{ends-secondIn}
 use Rattle.table.proofs.Tables.{added}
 use Rattle.table.specs.Tables.{Sound}

@@ -1,4 +1,4 @@
--- What is left of the lines is noted behind what was; inner components are passed over, and the loop ends where nothing or no room is left.
+-- What is left of the lines is stored behind what was; inner components are passed over, and the loop ends where nothing or no room is left.
 use Prim.Native.Nat.{_-_}
 use mathlib.Core.Path.{sym, _∙_}
 use lib.ListN.{length}

@@ -1,4 +1,4 @@
--- What is left of the value is noted behind what was, and the loop ends where nothing or no room is left.
+-- What is left of the value is stored behind what was, and the loop ends where nothing or no room is left.
 use mathlib.Core.Path.{sym, _∙_}
 use Prim.Native.Nat.{_-_}
 use lib.ListN.{length}

@@ -1,4 +1,4 @@
--- `replay::case::offset_of` is safe: a number below 2^63 has a negative that 64 bits hold.
+-- `cases::case::offset_of` is safe: a number below 2^63 has a negative that 64 bits hold.
 use Prim.Native.Nat.{ℕ, zero, suc, _-_, _≤_}
 use mathlib.Core.Bool.{Bool, cond}
 use mathlib.Core.Path.{_≡_, sym, ap, _∙_, subst}
@@ -9,8 +9,8 @@ use lib.IntN.{ℤ, pos, negsuc, _-ℤ_}
 use mir.Syntax.{w64}
 use mir.Val.{SFits}
 use mir.ValLaws.{toZ-pos}
-use Rattle.replay.proofs.case.offset_of.Statement.{statement}
-use Rattle.replay.proofs.case.offset_of.Tie as tie
+use Rattle.cases.proofs.case.offset_of.Statement.{statement}
+use Rattle.cases.proofs.case.offset_of.Tie as tie
 
 below-zero : (n : ℕ) → pos 0 -ℤ pos (suc n) ≡ negsuc n
 below-zero n =

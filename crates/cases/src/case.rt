@@ -1,5 +1,5 @@
-// A case as it is read byte by byte: match or report, calendar and query in hex, and six numbers, a tab between two.
-// A line that cannot be read is marked so, and passed over to its end.
+// A case as it is read byte by byte: match or report, calendar in hex, query in hex or -, start, end, offset, stamp, work length, output length, a tab
+// between two; an empty byte string is a dot. A line that cannot be read is marked so, and passed over to its end.
 
 // How far a line has been read.
 pub struct Case {
@@ -187,7 +187,7 @@ fn keep_number(c: Case) -> Case {
 }
 
 // The field ends, at a tab or at the end of the line.
-pub fn end_field(c: Case) -> Case {
+fn end_field(c: Case) -> Case {
     let mut n = c;
     if 2 < n.field {
         n = keep_number(n);
@@ -233,8 +233,8 @@ fn after(at: usize, end: usize) -> usize {
     end
 }
 
-// One more byte of the line.
-pub fn feed(cal: &mut [u8], query: &mut [u8], c: Case, b: u8) -> Case {
+// One more byte of a field.
+fn feed(cal: &mut [u8], query: &mut [u8], c: Case, b: u8) -> Case {
     let field = c.field;
     match field {
         0 => feed_word(c, b),
@@ -242,4 +242,28 @@ pub fn feed(cal: &mut [u8], query: &mut [u8], c: Case, b: u8) -> Case {
         2 => feed_query(query, c, b),
         _ => feed_number(c, b),
     }
+}
+
+// One more byte of the input.
+pub fn read_byte(cal: &mut [u8], query: &mut [u8], c: Case, b: u8) -> Case {
+    match b {
+        9 => end_field(c),
+        10 => end_field(c),
+        _ => feed(cal, query, c, b),
+    }
+}
+
+// Has nothing of the line been read?
+pub fn is_empty(c: Case) -> bool {
+    (c.field == 0) & !c.begun
+}
+
+// Has the line, now at its end, every field of a case?
+pub fn is_whole(c: Case) -> bool {
+    !c.bad & (c.field == 9)
+}
+
+// The line behind it, of which nothing has been read.
+pub fn next_line(c: Case) -> Case {
+    begin(std::num::wrapping_add_u64(c.line, 1))
 }

@@ -2,8 +2,8 @@
 use mathlib.Core.Path.{refl}
 use Rattle.ascii.proofs.Bools.{clash}
 use borrow.Author.Needs.{needs}
-use Rattle.calendar.proofs.component.says_nothing.Statement.{statement}
-use Rattle.calendar.proofs.component.says_nothing.Tie as tie
+use Rattle.calendar.proofs.component.is_unread.Statement.{statement}
+use Rattle.calendar.proofs.component.is_unread.Tie as tie
 
 enum-told : tie.Need-enum-told
 enum-told c = search needs
@@ -14,5 +14,5 @@ returns c = search needs
 returns-2 : tie.Need-returns-2
 returns-2 c = λ e. clash e refl
 
-pub says-nothing-spec : {M : Type 1} → statement M
-says-nothing-spec = tie.close (tie.spec enum-told returns returns-2)
+pub is-unread-spec : {M : Type 1} → statement M
+is-unread-spec = tie.close (tie.spec enum-told returns returns-2)

@@ -9,3 +9,10 @@ pub fn print(s: &[u8]) {
 pub fn print_number(n: u64) {
     io::print_decimal(STDOUT_FILENO, n);
 }
+
+// A line that is no case.
+pub fn print_unreadable(line: u64) {
+    print(b"line ");
+    print_number(line);
+    print(b" cannot be read\n");
+}
