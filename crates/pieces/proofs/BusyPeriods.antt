@@ -2,7 +2,7 @@
 use Prim.Native.Nat.{ℕ, zero, suc, _+_, _-_, _*_, _≤_, _<_, min, max}
 use mathlib.Core.Path.{_≡_, refl, sym, ap, _∙_, subst}
 use mathlib.Core.Bool.{Bool, true, false, cond, _&&_}
-use mathlib.Core.List.{List, [], _∷_}
+use mathlib.Core.List.{List, [], _∷_, _++_}
 use native.Mathlib.Omega.{arith}
 use lib.Dec.{eqb, leb, ltb}
 use lib.ListN.{length}
@@ -188,6 +188,58 @@ module _ {e : Event} {a b : ℕ} {o₀ : List ℕ} {first : ℕ} {o : List ℕ} 
 
   pub walked-long : length o ≡ length o₀
   walked-long = stored-long (w .so-far)
+
+-- ---- an event that can have no piece, in any range
+
+-- free time is no piece
+free-none : (a b s t : ℕ) (y : BusyType) → isBusy y ≡ false → isPiece a b (busyPeriod y s t) ≡ false
+unfolding isPiece
+free-none a b s t y h = rw h
+
+-- nor is what has no length
+empty-none : (a b s t : ℕ) (y : BusyType) → t ≡ s → isPiece a b (busyPeriod y s t) ≡ false
+unfolding isPiece clipped
+empty-none a b s t y q = not-so _ (λ h. omega (arith, ltb-true (max a s) (min b t) (and-right (isBusy y) _ h)))
+
+module _ (e : Event) (a b : ℕ) (h : (k : ℕ) → isPiece a b (busyPeriod (e .busy) (startOf e k) (endOf e k)) ≡ false) where
+  instance-none : (k : ℕ) → piecesOf a b (instancePeriod e k) ≡ []
+  instance-none k = go (occurs e k) refl
+    where
+      go : (t : Bool) → occurs e k ≡ t → piecesOf a b (instancePeriod e k) ≡ []
+      go true q = ap (piecesOf a b) (occurs-period e k q) ∙ one-piece a b _ ∙ is-none a b _ (h k)
+      go false q = ap (piecesOf a b) (fails-period e k q) ∙ piecesOf-none a b
+
+  instances-none : (n : ℕ) → piecesOf a b (listBelow n (instancePeriod e)) ≡ []
+  unfolding listBelow
+  instances-none zero = piecesOf-none a b
+  instances-none (suc n) =
+      piecesOf-append a b (listBelow n (instancePeriod e)) (instancePeriod e n)
+      ∙ ap (λ (l : List BusyPeriod). l ++ piecesOf a b (instancePeriod e n)) (instances-none n)
+      ∙ instance-none n
+
+  event-none : piecesOf a b (eventPeriods e) ≡ []
+  unfolding eventPeriods
+  event-none = instances-none instancesAtMost
+
+pub free-event : (e : Event) → isBusy (e .busy) ≡ false → (a b : ℕ) → piecesOf a b (eventPeriods e) ≡ []
+free-event e h a b = event-none e a b (λ k. free-none a b (startOf e k) (endOf e k) (e .busy) h)
+
+pub empty-event : (e : Event) → lengthBy e (e .ending) ≡ 0 → (a b : ℕ) → piecesOf a b (eventPeriods e) ≡ []
+unfolding endOf
+empty-event e h a b = event-none e a b (λ k. empty-none a b (startOf e k) (endOf e k) (e .busy) (let z : endOf e k ≡ startOf e k = omega arith in z))
+
+-- by the test that the code makes of its place in a report and of its length
+pub no-event-pieces : (e : Event) {p n : ℕ} → p ≡ reportPlace (e .busy) → n ≡ lengthBy e (e .ending) → (ltb p 3 && ltb 0 n) ≡ false
+    → (a b : ℕ) → piecesOf a b (eventPeriods e) ≡ []
+unfolding isBusy
+no-event-pieces e {p} {n} q l h = go (ltb p 3) refl h
+  where
+    go : (t : Bool) → ltb p 3 ≡ t → (t && ltb 0 n) ≡ false → (a b : ℕ) → piecesOf a b (eventPeriods e) ≡ []
+    go true u v = let z : n ≤ 0 = ltb-false 0 n v in empty-event e (omega arith)
+    go false u v = free-event e (ap (λ (i : ℕ). ltb i 3) (sym q) ∙ u)
+
+pub unstored : {o : List ℕ} {n : ℕ} {ps : List BusyPeriod} → ps ≡ [] → Stored o n ps o n
+unstored {o} {n} e = stored-as (stored-none o n) (sym e)
 
 -- an instance that starts before b is one of those up to 2099
 pub walked-days : {e : Event} {b k : ℕ} {t : Bool} (n : ℕ) → EventSmall e → b ≤ lastSecond → t ≡ startsBefore e b k → (ltb n 513 && t) ≡ true → k ≤ 47482

@@ -6,8 +6,9 @@ use periods::BusyType;
 use recurrence::instance;
 use recurrence::time_range;
 ghost use mathlib.Core.Path.{_≡_};
+ghost use mathlib.Core.Bool.{false};
 ghost use mathlib.Core.List.{[], _∷_};
-ghost use Prim.Native.Nat.{_*_, _≤_, _<_, min, max};
+ghost use Prim.Native.Nat.{ℕ, _*_, _≤_, _<_, min, max};
 ghost use lib.ListN.{length};
 ghost use lib.Seq.{sets};
 ghost use Rattle.time.specs.Limits.{lastSecond};
@@ -87,8 +88,8 @@ fn store_instance(column: &mut [u32], n: usize, e: Event, k: u64, a: u64, b: u64
     }
 }
 
-// The pieces of an event: those before the first candidate, and those after the last start, have none.
-pub fn store_event(column: &mut [u32], first: usize, e: Event, a: u64, b: u64) -> usize
+// The pieces of an event, one instance after the other: those before the first candidate, and those after the last start, have none.
+fn store_instances(column: &mut [u32], first: usize, e: Event, a: u64, b: u64) -> usize
     requires { ⌜ Room (now column) ⌝ }
     requires { ⌜ first ≤ 513 ⌝ }
     requires { ⌜ EventSmall e ⌝ }
@@ -103,4 +104,28 @@ pub fn store_event(column: &mut [u32], first: usize, e: Event, a: u64, b: u64) -
         k += 1;
     }
     n
+}
+
+// Can the event have a piece in any range? Not where it is free, and not where its instances have no length.
+fn may_have_pieces(e: Event) -> bool
+    requires { ⌜ EventSmall e ⌝ }
+    ensures { λ r. ⌜ (r ≡ false → (a b : ℕ) → piecesOf a b (eventPeriods e) ≡ []) ⌝ }
+{
+    let busy = e.busy;
+    (periods::report_place(busy) < 3) & (0 < instance::length_of(e))
+}
+
+// The pieces of an event. Where it can have none, none of its instances is looked at.
+pub fn store_event(column: &mut [u32], first: usize, e: Event, a: u64, b: u64) -> usize
+    requires { ⌜ Room (now column) ⌝ }
+    requires { ⌜ first ≤ 513 ⌝ }
+    requires { ⌜ EventSmall e ⌝ }
+    requires { ⌜ a < b ⌝ }
+    requires { ⌜ b ≤ lastSecond ⌝ }
+    ensures { λ r. ⌜ Stored (now (column .entry)) first (piecesOf a b (eventPeriods e)) (now (column .exit)) r ⌝ }
+{
+    if may_have_pieces(e) {
+        return store_instances(column, first, e, a, b);
+    }
+    first
 }

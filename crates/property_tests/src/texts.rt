@@ -35,7 +35,7 @@ pub fn text_holds(
     if text == 0 {
         return true;
     }
-    let has = text::contains(
+    let has = search::contains(
         value,
         fields::text_of(query, q, text - 1),
         collation_of(collation),

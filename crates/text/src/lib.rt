@@ -4,7 +4,7 @@ ghost use mathlib.Core.Path.{_≡_};
 ghost use Prim.Native.Nat.{_+_, _≤_, _<_};
 ghost use lib.ListN.{length, drop};
 ghost use lib.Seq.{paste};
-ghost use Rattle.text.specs.TextMatch.{foldedBy, startsAt, contains};
+ghost use Rattle.text.specs.TextMatch.{foldedBy, startsAt};
 ghost use Rattle.text.specs.Unfolding.{foldAt, Nowhere, Excludes, NextFold, Unfolded};
 ghost use Rattle.text.specs.Lines.{breakAt, EndsAt, StepsTo};
 
@@ -33,7 +33,7 @@ pub enum Span {
 }
 
 // The byte as the collation compares it.
-fn fold(b: u8, c: Collation) -> u8
+pub fn fold(b: u8, c: Collation) -> u8
     ensures { λ r. ⌜ r ≡ foldedBy c b ⌝ }
 {
     match c {
@@ -43,7 +43,7 @@ fn fold(b: u8, c: Collation) -> u8
 }
 
 // Does the value go on with the text at this place?
-fn starts_at(value: &[u8], text: &[u8], at: usize, collation: Collation) -> bool
+pub fn starts_at(value: &[u8], text: &[u8], at: usize, collation: Collation) -> bool
     requires { ⌜ at + length (now text) ≤ length (now value) ⌝ }
     ensures { λ r. ⌜ r ≡ startsAt collation (now (value .entry)) (now (text .entry)) at ⌝ }
 {
@@ -55,33 +55,6 @@ fn starts_at(value: &[u8], text: &[u8], at: usize, collation: Collation) -> bool
         i += 1;
     }
     true
-}
-
-// The same, where mostly the first byte tells.
-fn found_at(value: &[u8], text: &[u8], at: usize, collation: Collation) -> bool
-    requires { ⌜ at + length (now text) ≤ length (now value) ⌝ }
-    ensures { λ r. ⌜ r ≡ startsAt collation (now (value .entry)) (now (text .entry)) at ⌝ }
-{
-    if 0 < text.len() {
-        if fold(value[at], collation) != fold(text[0], collation) {
-            return false;
-        }
-    }
-    starts_at(value, text, at, collation)
-}
-
-// Does the value contain the text?
-pub fn contains(value: &[u8], text: &[u8], collation: Collation) -> bool
-    ensures { λ r. ⌜ r ≡ contains collation (now (value .entry)) (now (text .entry)) ⌝ }
-{
-    let mut at = 0;
-    while text.len() <= value.len() - at {
-        if found_at(value, text, at, collation) {
-            return true;
-        }
-        at += 1;
-    }
-    false
 }
 
 // Does a fold begin at this place?

@@ -116,7 +116,7 @@ fn show_unfolded(cal: &[u8]) {
 }
 
 fn show_contains(value: &[u8], wanted: &[u8], collation: Collation) {
-    if text::contains(value, wanted, collation) {
+    if search::contains(value, wanted, collation) {
         print(b"contained");
     } else {
         print(b"not contained");

@@ -1,56 +1,25 @@
--- The instances below k have their pieces stored; those before the first candidate have none, and at the end no later one has, or no room is left.
-use mathlib.Core.Path.{_∙_}
-use Prim.Native.Nat.{_-_}
-use Rattle.pieces.proofs.BusyPeriods.{Walked, walked-start, walked-more, walked-end, walked-few, walked-long, walked-days}
-use native.Mathlib.Omega.{arith}
+-- `pieces::storing::store_event` meets its contract: where no instance can have a piece, none is stored.
+use Rattle.pieces.proofs.BusyPeriods.{unstored}
+use borrow.Author.Needs.{needs}
 use Rattle.pieces.proofs.storing.store_event.Statement.{statement}
 use Rattle.pieces.proofs.storing.store_event.Tie as tie
 
-abbrev Inv-loop : tie.InvT-loop
-Inv-loop column₀ first e a b n₀ k₀ column n k = Walked e a b column₀ first column n k
+may-have-pieces-requires : tie.Need-may-have-pieces-requires
+may-have-pieces-requires c κs = search needs
 
-abbrev μ-loop : tie.MeasureT-loop
-μ-loop column₀ first e a b n₀ k₀ column n k = 47483 - k
+store-instances-requires : tie.Need-store-instances-requires
+store-instances-requires c κs = search needs
 
-first-candidate-requires : tie.Need-first-candidate-requires Inv-loop μ-loop
-first-candidate-requires c κs = (c .before .pre .1 .1 .0, omega arith)
+same-length : tie.Need-same-length
+same-length c = search needs
 
-loop-holds : tie.Need-loop-holds Inv-loop μ-loop
-loop-holds c = walked-start _ _ _ _ _ _ (c .first-candidate .ensures)
+returns : tie.Need-returns
+returns c = search needs
 
-starts-before-requires : tie.Need-starts-before-requires Inv-loop μ-loop
-starts-before-requires c κs = (c .before .before .before .pre .1 .1 .0, omega (arith, c .loop .inv .few))
-
-store-instance-requires : tie.Need-store-instance-requires Inv-loop μ-loop
-store-instance-requires c κs = (walked-long (c .before .before .before .loop .inv) ∙ c .before .before .before .before .before .before .pre .0, (walked-few (c .before .before .before .loop .inv) (c .before .before .before .before .before .before .pre .1 .0), (c .before .before .before .before .before .before .pre .1 .1 .0, (omega (arith, c .before .before .before .loop .inv .few), c .before .before .before .before .before .before .pre .1 .1 .1 .1))))
-
-add-k : tie.Need-add-k Inv-loop μ-loop
-add-k c = omega (arith, c .before .before .before .before .before .before .loop .inv .few)
-
-loop-less : tie.Need-loop-less Inv-loop μ-loop
-loop-less c = omega (arith, walked-days (c .before .before .before .before .before .before .loop .n) (c .before .before .before .before .before .before .before .before .before .pre .1 .1 .0) (c .before .before .before .before .before .before .before .before .before .pre .1 .1 .1 .1) (c .before .before .before .before .before .starts-before .ensures) (c .before .before .before .before .if1 .taken))
-
-loop-again : tie.Need-loop-again Inv-loop μ-loop
-loop-again c = walked-more (c .before .before .before .before .before .before .loop .inv) (walked-days (c .before .before .before .before .before .before .loop .n) (c .before .before .before .before .before .before .before .before .before .pre .1 .1 .0) (c .before .before .before .before .before .before .before .before .before .pre .1 .1 .1 .1) (c .before .before .before .before .before .starts-before .ensures) (c .before .before .before .before .if1 .taken)) (c .before .before .store-instance .ensures)
-
-same-length : tie.Need-same-length Inv-loop μ-loop
-same-length c = walked-long (c .before .before .loop .inv)
-
-returns : tie.Need-returns Inv-loop μ-loop
-returns c = walked-end (c .before .before .loop .inv) (c .before .starts-before .ensures) (c .if1 .left)
+returns-2 : tie.Need-returns-2
+returns-2 c = unstored (c .before .may-have-pieces .ensures (c .if1 .left) _ _)
 
 pub store-event-spec : {M : Type 1} → statement M
 store-event-spec =
     tie.close
-    (tie.spec
-    Inv-loop
-    μ-loop
-    first-candidate-requires
-    loop-holds
-    starts-before-requires
-    store-instance-requires
-    add-k
-    loop-less
-    loop-again
-    same-length
-    returns)
+    (tie.spec may-have-pieces-requires store-instances-requires same-length returns returns-2)
