@@ -1,0 +1,3 @@
+pub mod RowsLaws
+pub mod ItemsLaws
+pub mod Reading
