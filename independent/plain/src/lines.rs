@@ -97,7 +97,7 @@ pub fn unfold(cal: &[u8], work: &mut [u8]) -> usize {
         work[filled..filled + piece.len()].copy_from_slice(piece);
         filled += piece.len();
     };
-    while let Some(step) = find(&cal[at..], |b| b == b'\r') {
+    while let Some(step) = find(b'\r', &cal[at..]) {
         at += step;
         if let [_, b'\n', b' ' | b'\t', ..] = cal[at..] {
             keep(&cal[kept_from..at]);
@@ -111,7 +111,9 @@ pub fn unfold(cal: &[u8], work: &mut [u8]) -> usize {
     filled
 }
 
-/// Cuts the unfolded text into lines, or nothing if some line is badly formed.
+/// Cuts the unfolded text into lines, or nothing if some line is badly formed. The CR LF at
+/// the end of each line must be all the controls that there are; they are counted for all
+/// lines at once.
 pub fn cut(text: &[u8]) -> Option<Vec<Line>> {
     let mut lines = Vec::with_capacity(text.len() / 24 + 2);
     let mut start = 0;
@@ -120,11 +122,10 @@ pub fn cut(text: &[u8]) -> Option<Vec<Line>> {
         start += usize::from(line.end) + 2;
         lines.push(line);
     }
-    Some(lines)
+    (controls(text) == 2 * lines.len()).then_some(lines)
 }
 
-/// Reads the line that starts there. Every control is bad but the CR LF behind the value,
-/// so the first control after the colon is where the line ends.
+/// Reads the line that starts there, controls apart.
 fn read_line(text: &[u8], start: usize) -> Option<Line> {
     let bytes = &text[start..];
     let name_end = name_length(bytes);
@@ -138,8 +139,8 @@ fn read_line(text: &[u8], start: usize) -> Option<Line> {
     if bytes.get(colon) != Some(&b':') {
         return None;
     }
-    let end = colon + find(&bytes[colon..], is_control)?;
-    if end > LONGEST_LINE || !bytes[end..].starts_with(b"\r\n") {
+    let end = colon + find(b'\r', &bytes[colon..])?;
+    if end > LONGEST_LINE || bytes.get(end + 1) != Some(&b'\n') {
         return None;
     }
     Some(Line { start: start as u32, name_end: name_end as u16, colon: colon as u16, end: end as u16 })
@@ -155,13 +156,9 @@ fn parameter_end(bytes: &[u8], from: usize) -> Option<usize> {
         at += 1;
         if bytes.get(at) == Some(&b'"') {
             at += 1;
-            at += bytes[at..].iter().position(|&b| b == b'"' || is_control(b))?;
-            if bytes[at] != b'"' {
-                return None;
-            }
-            at += 1;
+            at += find(b'"', &bytes[at..])? + 1;
         } else {
-            at += bytes[at..].iter().position(|&b| matches!(b, b'"' | b';' | b':' | b',') || is_control(b))?;
+            at += bytes[at..].iter().position(|b| matches!(b, b'"' | b';' | b':' | b','))?;
         }
         match bytes.get(at)? {
             b',' => {}
@@ -181,20 +178,39 @@ pub fn is_name(bytes: &[u8]) -> bool {
     !bytes.is_empty() && bytes.iter().all(|&b| is_name_byte(b))
 }
 
-/// The first place of a byte that passes the test. Asks whole chunks first, without a
-/// branch on each byte, since most bytes do not pass.
-fn find(bytes: &[u8], test: impl Fn(u8) -> bool) -> Option<usize> {
-    const CHUNK: usize = 16;
-    let passes = |chunk: &[u8]| chunk.iter().fold(false, |any, &b| any | test(b));
-    let skipped = CHUNK * bytes.chunks_exact(CHUNK).take_while(|chunk| !passes(chunk)).count();
-    let place = bytes[skipped..].iter().position(|&b| test(b))?;
-    Some(skipped + place)
+/// The first place of the byte. Eight bytes are asked at once: with 1 taken off each byte of
+/// `word`, the lowest high bit that comes up is that of its first 0.
+fn find(byte: u8, bytes: &[u8]) -> Option<usize> {
+    const ONES: u64 = 0x0101_0101_0101_0101;
+    let (words, rest) = bytes.as_chunks();
+    for (number, word) in words.iter().enumerate() {
+        let word = u64::from_le_bytes(*word) ^ ONES * u64::from(byte);
+        let zeros = word.wrapping_sub(ONES) & !word & ONES << 7;
+        if zeros != 0 {
+            return Some(8 * number + zeros.trailing_zeros() as usize / 8);
+        }
+    }
+    let place = rest.iter().position(|&b| b == byte)?;
+    Some(8 * words.len() + place)
+}
+
+/// How many controls there are, a tab being none. Chunks whose count fits a byte are fast.
+fn controls(bytes: &[u8]) -> usize {
+    let is_control = |b: u8| (b < 32 && b != b'\t') || b == 127;
+    let count = |chunk: &[u8]| chunk.iter().map(|&b| u8::from(is_control(b))).sum::<u8>();
+    bytes.chunks(240).map(|chunk| usize::from(count(chunk))).sum()
 }
 
 fn is_name_byte(b: u8) -> bool {
-    b.is_ascii_alphanumeric() || b == b'-'
+    NAME_BYTES[usize::from(b)]
 }
 
-fn is_control(b: u8) -> bool {
-    (b < 32 && b != b'\t') || b == 127
-}
+static NAME_BYTES: [bool; 256] = {
+    let mut table = [false; 256];
+    let mut b = 0;
+    while b < table.len() {
+        table[b] = (b as u8).is_ascii_alphanumeric() || b as u8 == b'-';
+        b += 1;
+    }
+    table
+};
