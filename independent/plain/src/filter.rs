@@ -33,55 +33,97 @@ struct PropertyTest<'q> {
     component: usize,
     name: &'q [u8],
     ranged: bool,
-    demand: Demand<'q>,
+    demand: Demand,
 }
 
 struct ParameterTest<'q> {
     property: usize,
     name: &'q [u8],
-    demand: Demand<'q>,
+    demand: Demand,
 }
 
 /// What is asked of the lines or values that have a test's name.
-#[derive(Clone, Copy)]
-enum Demand<'q> {
+enum Demand {
     /// That there are none.
     Absent,
     /// That there is one.
     Present,
     /// That one contains the text, or does not if negated.
-    Text { text: &'q [u8], casemap: bool, negated: bool },
+    Text { text: Text, negated: bool },
 }
 
-impl Demand<'_> {
+impl Demand {
     fn is_absent(&self) -> bool {
         matches!(self, Demand::Absent)
     }
 
     /// Whether a value that is there is as wanted.
     fn accepts(&self, value: &[u8]) -> bool {
-        match *self {
+        match self {
             Demand::Absent => false,
             Demand::Present => true,
-            Demand::Text { text, casemap, negated } => contains(value, text, casemap) != negated,
+            Demand::Text { text, negated } => text.stands_in(value) != *negated,
         }
     }
 }
 
-/// Whether the text stands somewhere in the value.
-fn contains(value: &[u8], text: &[u8], casemap: bool) -> bool {
-    let Some((first, behind)) = text.split_first() else {
-        return true;
-    };
-    if value.len() < text.len() {
-        return false;
+/// A text to look for, in the way of Knuth, Morris and Pratt, so that the time is that of one
+/// pass over the value.
+struct Text {
+    /// In small letters if case does not matter.
+    bytes: Vec<u8>,
+    casemap: bool,
+    /// How many of the first bytes are also the last of the first `k + 1`, fewer than all.
+    again: Vec<usize>,
+}
+
+impl Text {
+    fn new(text: &[u8], casemap: bool) -> Self {
+        let bytes = if casemap { text.to_ascii_lowercase() } else { text.to_vec() };
+        let mut new = Text { again: Vec::with_capacity(bytes.len()), bytes, casemap };
+        let mut fitting = 0;
+        for k in 0..new.bytes.len() {
+            if k > 0 {
+                fitting = new.fitting_with(fitting, new.bytes[k]);
+            }
+            new.again.push(fitting);
+        }
+        new
     }
-    let starts = &value[..=value.len() - text.len()];
-    let tail = |at: usize| &value[at + 1..at + text.len()];
-    if casemap {
-        starts.iter().enumerate().any(|(at, b)| b.eq_ignore_ascii_case(first) && tail(at).eq_ignore_ascii_case(behind))
-    } else {
-        starts.iter().enumerate().any(|(at, b)| b == first && tail(at) == behind)
+
+    /// How many bytes fit with one more byte of the value, where `fitting` did before it.
+    fn fitting_with(&self, mut fitting: usize, byte: u8) -> usize {
+        while self.bytes[fitting] != byte {
+            if fitting == 0 {
+                return 0;
+            }
+            fitting = self.again[fitting - 1];
+        }
+        fitting + 1
+    }
+
+    /// Whether the text stands somewhere in the value.
+    fn stands_in(&self, value: &[u8]) -> bool {
+        let folded = |b: u8| if self.casemap { b.to_ascii_lowercase() } else { b };
+        let length = self.bytes.len();
+        let (mut at, mut fitting) = (0, 0);
+        while fitting < length {
+            if value.len() - at < length - fitting {
+                return false;
+            }
+            if fitting == 0 {
+                let starts = &value[at..=value.len() - length];
+                let Some(start) = starts.iter().position(|&b| folded(b) == self.bytes[0]) else {
+                    return false;
+                };
+                at += start + 1;
+                fitting = 1;
+            } else {
+                fitting = self.fitting_with(fitting, folded(value[at]));
+                at += 1;
+            }
+        }
+        true
     }
 }
 
@@ -174,7 +216,7 @@ impl<'q> Texts<'q> {
         self.all.get(usize::from(number)).copied().filter(|t| is_name(t))
     }
 
-    fn demand(&self, text: u8, collation: u8, flag: u8) -> Option<Demand<'q>> {
+    fn demand(&self, text: u8, collation: u8, flag: u8) -> Option<Demand> {
         let text = match usize::from(text) {
             0 => None,
             some => Some(*self.all.get(some - 1)?),
@@ -187,7 +229,7 @@ impl<'q> Texts<'q> {
         match (text, flag) {
             (None, 0) => Some(Demand::Present),
             (None, 1) => Some(Demand::Absent),
-            (Some(text), 0 | 2) => Some(Demand::Text { text, casemap, negated: flag == 2 }),
+            (Some(text), 0 | 2) => Some(Demand::Text { text: Text::new(text, casemap), negated: flag == 2 }),
             _ => None,
         }
     }
