@@ -1,6 +1,8 @@
 //! Makes cases, answers them by the plain implementation, and compares it with another.
-//! Usage: compare gen SEED COUNT | answers | count SEED COUNT | time SEED COUNT | run SEED COUNT | bench COUNT
+//! Usage: compare gen SEED COUNT | answers | count SEED COUNT | time SEED COUNT | run SEED COUNT | bench COUNT | slow
 
+#[cfg(feature = "proved")]
+mod bench;
 mod calendars;
 mod case;
 mod cases;
@@ -11,6 +13,8 @@ mod damage;
 mod proved;
 mod queries;
 mod random;
+#[cfg(feature = "proved")]
+mod slow;
 mod table;
 
 use std::io::{self, BufRead, BufWriter, Write};
@@ -34,9 +38,11 @@ fn main() -> ExitCode {
         #[cfg(feature = "proved")]
         ["run", seed, count] => numbers(seed, count).and_then(|(seed, count)| compare(seed, count)),
         #[cfg(feature = "proved")]
-        ["bench", count] => numbers("1", count).and_then(|(seed, count)| bench(seed, count)),
-        _ => Err("usage: compare gen SEED COUNT | answers | count SEED COUNT | time SEED COUNT | run SEED COUNT | bench COUNT\n\
-                  (`run` and `bench` only in a build with the feature `proved`)"
+        ["bench", count] => numbers("1", count).map(|(seed, count)| bench::clinics(seed, count)),
+        #[cfg(feature = "proved")]
+        ["slow"] => bench::slow(),
+        _ => Err("usage: compare gen SEED COUNT | answers | count SEED COUNT | time SEED COUNT | run SEED COUNT | bench COUNT | slow\n\
+                  (`run`, `bench` and `slow` only in a build with the feature `proved`)"
             .to_string()),
     };
     match done {
@@ -131,35 +137,5 @@ fn compare(seed: u64, count: u64) -> Result<(), String> {
     }
     print!("{table}");
     println!("{count} cases of seed {seed}: no difference");
-    Ok(())
-}
-
-/// How many rounds a benchmark has.
-#[cfg(feature = "proved")]
-const ROUNDS: usize = 5;
-
-/// Measures both implementations on clinic calendars, call by call, and prints the ratio of each round.
-/// The buffers of each call were just filled, so they are warm.
-#[cfg(feature = "proved")]
-fn bench(seed: u64, count: u64) -> Result<(), String> {
-    let cases: Vec<[Case; 2]> = (0..count).map(|number| clinic::questions(seed, number)).collect();
-    let bytes: usize = cases.iter().map(|case| case[0].calendar.len()).sum();
-    println!("{count} calendars, {bytes} bytes, {ROUNDS} rounds; buffers filled before each call");
-    for (which, question) in ["report", "match"].iter().enumerate() {
-        let answered = cases.iter().filter(|case| !matches!(case[which].plain().answer, plain::Answer::Refused(_))).count();
-        let mut ratios = Vec::new();
-        for round in 1..=ROUNDS {
-            let (mut plain, mut proved) = (Duration::ZERO, Duration::ZERO);
-            for case in &cases {
-                plain += case[which].plain_time();
-                proved += proved::ask(&case[which]).spent;
-            }
-            let ratio = proved.as_secs_f64() / plain.as_secs_f64();
-            println!("{question:6} round {round}: plain {plain:?}, proved {proved:?}, ratio {ratio:.2}");
-            ratios.push(ratio);
-        }
-        ratios.sort_by(f64::total_cmp);
-        println!("{question:6} ({answered} answered): ratio {:.2}, from {:.2} to {:.2}", ratios[ROUNDS / 2], ratios[0], ratios[ROUNDS - 1]);
-    }
     Ok(())
 }

@@ -5,12 +5,16 @@ use crate::calendars::LAST_SECOND;
 use crate::damage;
 use crate::random::Random;
 
-struct Query {
-    ranges: Vec<(u64, u64)>,
-    texts: Vec<Vec<u8>>,
-    components: Vec<[u8; 4]>,
-    properties: Vec<[u8; 6]>,
-    parameters: Vec<[u8; 5]>,
+/// A query by its sections. Names count from 0, ranges and texts from 1.
+pub struct Query {
+    pub ranges: Vec<(u64, u64)>,
+    pub texts: Vec<Vec<u8>>,
+    /// Parent, name, range, flag.
+    pub components: Vec<[u8; 4]>,
+    /// Component, name, range, text, collation, flag.
+    pub properties: Vec<[u8; 6]>,
+    /// Property, name, text, collation, flag.
+    pub parameters: Vec<[u8; 5]>,
 }
 
 impl Query {
@@ -26,7 +30,8 @@ impl Query {
         (self.texts.len() - 1) as u8
     }
 
-    fn written(&self) -> Vec<u8> {
+    /// The bytes of the query.
+    pub fn written(&self) -> Vec<u8> {
         let mut bytes = vec![self.ranges.len() as u8];
         for (start, end) in &self.ranges {
             bytes.extend(start.to_be_bytes());
