@@ -91,24 +91,34 @@ fn position_unquoted(bytes: &[u8], wanted: u8) -> usize {
 /// at least as long as the calendar.
 pub fn unfold(cal: &[u8], work: &mut [u8]) -> usize {
     let mut filled = 0;
-    let mut kept_from = 0;
-    let mut at = 0;
-    let mut keep = |piece: &[u8]| {
-        work[filled..filled + piece.len()].copy_from_slice(piece);
-        filled += piece.len();
-    };
-    while let Some(step) = find(b'\r', &cal[at..]) {
-        at += step;
-        if let [_, b'\n', b' ' | b'\t', ..] = cal[at..] {
-            keep(&cal[kept_from..at]);
-            at += 3;
-            kept_from = at;
-        } else {
-            at += 1;
+    let mut rest = cal;
+    loop {
+        let fold = first_fold(rest);
+        let kept = &rest[..fold.unwrap_or(rest.len())];
+        work[filled..filled + kept.len()].copy_from_slice(kept);
+        filled += kept.len();
+        match fold {
+            Some(place) => rest = &rest[place + 3..],
+            None => return filled,
         }
     }
-    keep(&cal[kept_from..]);
-    filled
+}
+
+/// The first place of CR LF and a blank. Whole blocks are asked first, without a branch on
+/// each byte, since most have no fold.
+fn first_fold(bytes: &[u8]) -> Option<usize> {
+    const BLOCK: usize = 64;
+    let is_fold = |a: u8, b: u8, c: u8| (a == b'\r') & (b == b'\n') & ((c == b' ') | (c == b'\t'));
+    let mut at = 0;
+    while let Some(block) = bytes.get(at..at + BLOCK + 2) {
+        let threes = block.iter().zip(&block[1..]).zip(&block[2..]);
+        if threes.fold(false, |any, ((&a, &b), &c)| any | is_fold(a, b, c)) {
+            break;
+        }
+        at += BLOCK;
+    }
+    let place = bytes[at..].windows(3).position(|three| is_fold(three[0], three[1], three[2]))?;
+    Some(at + place)
 }
 
 /// Cuts the unfolded text into lines, or nothing if some line is badly formed. The CR LF at
@@ -184,8 +194,8 @@ fn find(byte: u8, bytes: &[u8]) -> Option<usize> {
     const ONES: u64 = 0x0101_0101_0101_0101;
     let (words, rest) = bytes.as_chunks();
     for (number, word) in words.iter().enumerate() {
-        let word = u64::from_le_bytes(*word) ^ ONES * u64::from(byte);
-        let zeros = word.wrapping_sub(ONES) & !word & ONES << 7;
+        let word = u64::from_le_bytes(*word) ^ (ONES * u64::from(byte));
+        let zeros = word.wrapping_sub(ONES) & !word & (ONES << 7);
         if zeros != 0 {
             return Some(8 * number + zeros.trailing_zeros() as usize / 8);
         }
