@@ -64,7 +64,7 @@ pub fn clinics(seed: u64, count: u64) {
 fn sum(cases: &[Case], round: usize) -> Times {
     let mut sum = Times { plain: Duration::ZERO, proved: Duration::ZERO };
     for (number, case) in cases.iter().enumerate() {
-        let times = times(case, (round + number) % 2 == 0);
+        let times = times(case, (round + number).is_multiple_of(2));
         sum.plain += times.plain;
         sum.proved += times.proved;
     }
@@ -79,21 +79,23 @@ pub fn slow() -> Result<(), String> {
             println!("{}", case.written());
             return Err(format!("the two differ on `{name}`"));
         }
-        let tries: Vec<Times> = (0..TRIES).map(|k| times(&case, k % 2 == 0)).collect();
+        let tries: Vec<Times> = (0..TRIES).map(|k| times(&case, k.is_multiple_of(2))).collect();
         let plain = tries.iter().map(|t| t.plain).min().unwrap_or_default();
         let proved = tries.iter().map(|t| t.proved).min().unwrap_or_default();
         measured.push((name, Times { plain, proved }));
     }
     println!("{} inputs, the shortest of {TRIES} calls in ms: proved, plain", measured.len());
-    let by: [(&str, fn(&Times) -> Duration); 2] = [("proved", |t| t.proved), ("plain", |t| t.plain)];
-    for (whose, time) in by {
-        measured.sort_by_key(|(_, times)| std::cmp::Reverse(time(times)));
-        println!("where {whose} takes longest:");
-        for (name, times) in measured.iter().take(SHOWN) {
-            println!("{:9.2} {:9.2}  {name}", milliseconds(times.proved), milliseconds(times.plain));
-        }
-    }
+    show("proved", measured.clone(), |times| times.proved);
+    show("plain", measured, |times| times.plain);
     Ok(())
+}
+
+fn show(whose: &str, mut measured: Vec<(String, Times)>, time: fn(&Times) -> Duration) {
+    measured.sort_by_key(|(_, times)| std::cmp::Reverse(time(times)));
+    println!("where {whose} takes longest:");
+    for (name, times) in measured.iter().take(SHOWN) {
+        println!("{:9.2} {:9.2}  {name}", milliseconds(times.proved), milliseconds(times.plain));
+    }
 }
 
 fn milliseconds(time: Duration) -> f64 {
