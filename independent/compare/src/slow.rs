@@ -122,17 +122,19 @@ impl Inputs {
         self.report("lines folded behind each byte", filled(NOTHING, &line));
     }
 
-    /// Many lines, asked for by their names.
+    /// Many lines, asked for by their names; the name is the last of 32 texts.
     fn names(&mut self) {
+        const LAST: u8 = 31;
+        let query = |name| query(&[&["N"; 30][..], &[name]].concat());
         for (name, line, last) in [("of another name", "A:", "Y"), ("of a name that begins alike", "YA:", "YB")] {
-            let mut query = query(&[last]);
-            query.properties = vec![[0, 1, 0, 0, 0, 0]; TESTS];
+            let mut query = query(last);
+            query.properties = vec![[0, LAST, 0, 0, 0, 0]; TESTS];
             let lines = filled(["", &format!("{last}:\r\n")], &format!("{line}\r\n"));
             self.matching(&format!("16,000 lines {name}, {TESTS} tests hold by the last"), &lines, &query);
         }
         for name in ["A", "E"] {
-            let mut query = query(&[name]);
-            query.properties = vec![[0, 1, 0, 2, 1, 0]; TESTS];
+            let mut query = query(name);
+            query.properties = vec![[0, LAST, 0, LAST + 1, 1, 0]; TESTS];
             let line = format!("{name}:\r\n");
             let lines = filled(["", &format!("{name}:{name}\r\n")], &line);
             self.matching(&format!("16,000 lines {name}, {TESTS} tests hold by the last"), &lines, &query);
