@@ -1,17 +1,32 @@
--- Laws of names compared without regard to case.
-use Prim.Native.Nat.{ℕ, suc, _+_, _≤_, _<_}
+-- Laws of names: a test of every byte, and names compared without regard to case.
+use Prim.Native.Nat.{ℕ, _+_, _≤_, _<_, suc}
 use mathlib.Core.Path.{_≡_, refl, ap, subst}
-use mathlib.Core.Bool.{true, false, and-false}
+use mathlib.Core.Bool.{Bool, true, false, and-false}
+use mathlib.Core.List.{List, [], _∷_, _++_, map}
 use mathlib.Core.Logic.{_↔_}
-use mathlib.Core.List.{List, [], _∷_, map}
 use native.Mathlib.Omega.{arith}
-use lib.Dec.{eqb}
 use lib.ListN.{length, drop, getD}
+use lib.Dec.{eqb}
 use borrow.Author.Tests.{eqb-true, eq-eqb, ne-eqb}
+use Rattle.ascii.specs.Names.{every, sameBytes, sameName, isName}
 use Rattle.ascii.specs.Bytes.{upper, isNameByte}
-use Rattle.ascii.specs.Names.{sameBytes, sameName, isName, every}
 use Rattle.ascii.proofs.Bools.{and-left, and-right, and-both}
 use Rattle.ascii.proofs.Lists.{drop-next, drop-end}
+
+-- every, while a loop goes through a list
+pub every-next : (f : ℕ → Bool) (s : List ℕ) (i : ℕ) → i < length s → f (getD s i 0) ≡ true
+    → every f (drop (i + 1) s) ≡ every f (drop i s)
+every-next f s i h e = rw (drop-next s i h, e)
+
+pub every-stop : (f : ℕ → Bool) (s : List ℕ) (i : ℕ) → i < length s → f (getD s i 0) ≡ false → every f (drop i s) ≡ false
+every-stop f s i h e = rw (drop-next s i h, e)
+
+pub every-end : (f : ℕ → Bool) (s : List ℕ) (i : ℕ) → length s ≤ i → every f (drop i s) ≡ true
+every-end f s i h = rw (drop-end s i h)
+
+pub every-append : (f : ℕ → Bool) (s t : List ℕ) → every f s ≡ true → every f t ≡ true → every f (s ++ t) ≡ true
+every-append f [] t p q = q
+every-append f (b ∷ s) t p q = and-both (and-left (f b) _ p) (every-append f s t (and-right (f b) _ p) q)
 
 -- sameBytes is equality
 pub sameBytes-eq : (s t : List ℕ) → sameBytes s t ≡ true → s ≡ t

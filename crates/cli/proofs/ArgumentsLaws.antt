@@ -15,7 +15,8 @@ use borrow.Author.Tests.{le-leb, lt-leb, leb-true, leb-false, eq-eqb, ne-eqb, eq
 use Rattle.ascii.specs.Bytes.{isDigit}
 use Rattle.ascii.specs.Names.{every, sameName}
 use Rattle.ascii.specs.Words.{ascii}
-use Rattle.ascii.proofs.Bools.{inside, below, above, and-left, and-right}
+use Rattle.ascii.proofs.Bytes.{inside, below, above}
+use Rattle.ascii.proofs.Bools.{and-left, and-right}
 use Rattle.ascii.proofs.Lists.{drop-next, drop-end}
 use Rattle.ascii.proofs.Names.{sameName-length}
 use Rattle.cli.specs.declared.arguments.Number.{Number}

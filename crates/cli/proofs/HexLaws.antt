@@ -9,7 +9,7 @@ use lib.ListN.{length, take, drop, getD, set, length-set}
 use lib.Seq.{sets, take-nil}
 use borrow.Author.Tests.{lt-ltb, le-ltb, eq-eqb, ne-eqb}
 use Rattle.ascii.specs.Bytes.{between}
-use Rattle.ascii.proofs.Bools.{inside, below, above}
+use Rattle.ascii.proofs.Bytes.{inside, below, above}
 use Rattle.ascii.proofs.Lists.{drop-next, drop-end}
 use Rattle.cli.specs.declared.hex.Place.{Place}
 use Rattle.cli.specs.declared.hex.Step.{Step}

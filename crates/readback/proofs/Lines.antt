@@ -11,7 +11,7 @@ use Rattle.ascii.specs.Bytes.{isLetter, isDigit, isNameByte, isControl}
 use Rattle.ascii.specs.Names.{every, isName}
 use Rattle.ascii.specs.Words.{ascii}
 use Rattle.ascii.proofs.Bools.{and-left, and-right, and-both}
-use Rattle.ascii.proofs.Lists.{every-append}
+use Rattle.ascii.proofs.Names.{every-append}
 use Rattle.text.specs.Unfolding.{unfolded}
 use Rattle.text.specs.Lines.{joined}
 use Rattle.time.specs.Writing.{utcText, isUtcByte}

@@ -10,7 +10,8 @@ use lib.ListN.{length, take, drop, getD, length-drop, length-append}
 use lib.Seq.{drop-at, take-at, take-all, take-length}
 use borrow.Author.Tests.{eqb-true, eq-eqb, ne-eqb, le-leb, lt-leb}
 use Rattle.ascii.proofs.Bools.{and-left, and-right, and-both, apart}
-use Rattle.ascii.proofs.Lists.{drop-next, drop-end, every-append}
+use Rattle.ascii.proofs.Lists.{drop-next, drop-end}
+use Rattle.ascii.proofs.Names.{every-append}
 use Rattle.ascii.specs.Names.{every}
 use Rattle.ascii.specs.Bytes.{isDigit}
 use Rattle.text.specs.Lines.{joined, part, everyLine, contentLines, allLines, holdsNoCR, LineFrom, NoLineFrom}

@@ -10,7 +10,7 @@ use lib.Dec.{eqb, ltb, leb}
 use lib.ListN.{length, drop, getD}
 use borrow.Author.Tests.{ltb-true, leb-true, le-leb, lt-leb, lt-ltb, le-ltb}
 use Rattle.ascii.specs.Bytes.{between, isDigit, upper}
-use Rattle.ascii.proofs.Bools.{inside, below, above}
+use Rattle.ascii.proofs.Bytes.{inside, below, above}
 use Rattle.ascii.proofs.Lists.{drop-next, drop-end}
 use Rattle.time.specs.declared.duration.Stage.{Stage}
 use Rattle.time.specs.declared.duration.Stage.the-variants.{Start, Sign, Period, Weeks, Days, Time, Hours, Minutes, Seconds, Wrong}

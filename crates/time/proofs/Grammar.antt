@@ -11,8 +11,9 @@ use lib.ListN.{length, length-append}
 use borrow.Author.Tests.{leb-true, ltb-true, lt-ltb, le-ltb, eqb-true}
 use Rattle.ascii.specs.Bytes.{between, isDigit, upper}
 use Rattle.ascii.specs.Names.{every}
-use Rattle.ascii.proofs.Bools.{below, and-left, and-right, and-both}
-use Rattle.ascii.proofs.Lists.{every-append}
+use Rattle.ascii.proofs.Bytes.{below}
+use Rattle.ascii.proofs.Bools.{and-left, and-right, and-both}
+use Rattle.ascii.proofs.Names.{every-append}
 use Rattle.time.specs.declared.duration.Stage.{Stage}
 use Rattle.time.specs.declared.duration.Stage.the-variants.{Start, Sign, Period, Weeks, Days, Time, Hours, Minutes, Seconds, Wrong}
 use Rattle.time.specs.declared.duration.Reading.{Reading}

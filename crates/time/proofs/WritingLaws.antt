@@ -9,7 +9,7 @@ use lib.Seq.{sets}
 use borrow.Author.Tests.{le-leb, ne-eqb}
 use Rattle.ascii.specs.Bytes.{isDigit, upper}
 use Rattle.ascii.specs.Names.{every}
-use Rattle.ascii.proofs.Bools.{inside}
+use Rattle.ascii.proofs.Bytes.{inside}
 use Rattle.time.specs.declared.date_time.Number.{Number}
 use Rattle.time.specs.declared.date_time.DateTime.{DateTime}
 use Rattle.time.specs.declared.date_time.Kind.{Kind}

@@ -12,8 +12,10 @@ use borrow.Author.Tests.{leb-true, ltb-true, ltb-false, lt-ltb, le-ltb, eqb-fals
 use Rattle.ascii.specs.Bytes.{between, isDigit}
 use Rattle.ascii.specs.Names.{every, sameName, isName}
 use Rattle.ascii.specs.Words.{ascii}
-use Rattle.ascii.proofs.Bools.{inside, below, above, and-left, and-right}
-use Rattle.ascii.proofs.Lists.{drop-next, drop-end, every-next, every-stop, every-end}
+use Rattle.ascii.proofs.Bytes.{inside, below, above}
+use Rattle.ascii.proofs.Bools.{and-left, and-right}
+use Rattle.ascii.proofs.Lists.{drop-next, drop-end}
+use Rattle.ascii.proofs.Names.{every-next, every-stop, every-end}
 use Rattle.line.specs.Splitting.{firstOutside, nextPlace, before, after, plainSplit}
 use Rattle.line.proofs.Splitting.{nextPlace-first, after-part}
 use Rattle.time.proofs.DateTime.{digit-range}

@@ -1,7 +1,6 @@
 -- `ascii::is_name` meets its contract: the loop keeps that what is left decides, and an empty name is none.
 use borrow.Author.Tests.{not-true, not-false}
-use Rattle.ascii.proofs.Names.{isName-none, isName-some}
-use Rattle.ascii.proofs.Lists.{every-next, every-stop, every-end}
+use Rattle.ascii.proofs.Names.{isName-none, isName-some, every-next, every-stop, every-end}
 use Rattle.ascii.specs.Names.{isName, every}
 use Rattle.ascii.specs.Bytes.{isNameByte}
 use lib.ListN.{length, drop}

@@ -1,5 +1,5 @@
 -- `ascii::upper` meets its contract: each branch is one side of the interval a to z.
-use Rattle.ascii.proofs.Bools.{inside, below, above}
+use Rattle.ascii.proofs.Bytes.{inside, below, above}
 use Rattle.ascii.specs.Bytes.{upper}
 use native.Mathlib.Omega.{arith}
 use borrow.Author.Needs.{needs}

@@ -1,6 +1,5 @@
 -- Every record so far passes, and the first that does not decides.
-use Rattle.property_tests.specs.PropertyTests.{propertiesAt}
-use Rattle.property_tests.specs.PropertyTests.{propertyPasses, propertiesHold}
+use Rattle.property_tests.specs.PropertyTests.{propertiesAt, propertyPasses, propertiesHold}
 use mathlib.Core.Bool.{true}
 use Rattle.query.specs.Counting.{everyBelow}
 use borrow.Author.Tests.{not-true, not-false}
