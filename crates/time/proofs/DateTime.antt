@@ -14,8 +14,7 @@ use Rattle.time.specs.declared.date_time.DateTime.{DateTime}
 use Rattle.time.specs.declared.date_time.Kind.{Kind}
 use Rattle.time.specs.Days.{isDay, dayNumber, monthDays, daysBeforeYear, daysBeforeMonth}
 use Rattle.time.specs.DateTime.{digitPair, pairAt, joined, yearAt, checkedDay, three, dateAt, checkedTime, timeAt, midnight, readDate, clockOf, clockAt, readDateTime}
-use Rattle.time.proofs.Years.{daysBeforeYear-small}
-use Rattle.time.proofs.Months.{daysBeforeMonth-small, monthDays-month, monthDays-small}
+use Rattle.time.proofs.DaysLaws.{daysBeforeYear-small, daysBeforeMonth-small, monthDays-month, monthDays-small}
 
 -- a digit is 48 to 57
 pub digit-range : (b : ℕ) → isDigit b ≡ true → (48 ≤ b) × (b ≤ 57)

@@ -1,122 +1,156 @@
--- Year, month and day of a day between 1970 and 2099: the year by one division, the month by another.
-use Prim.Native.Nat.{ℕ, suc, _+_, _-_, _*_, _/_, _≤_, _<_}
-use mathlib.Core.Path.{_≡_, refl}
-use mathlib.Core.Bool.{Bool, true, false, cond, _&&_, _||_}
+-- Laws of days: those before a year by direct arithmetic and those before a month by a table,
+-- each against the count year by year and month by month.
+use Prim.Native.Nat.{ℕ, zero, suc, _+_, _-_, _*_, _/_, _%_, _≤_, _<_}
+use mathlib.Core.Path.{_≡_, refl, ap, _∙_, sym}
+use mathlib.Core.Bool.{Bool, true, false, cond, not, _&&_, _||_}
+use mathlib.Core.List.{List, [], _∷_}
 use native.Mathlib.Omega.{arith}
+use native.Mathlib.Nat.{div-add-mod', div-eq-of-lt, mul-add-div-right, mod-lt, add-div-right}
 use native.Mathlib.Decide.{decLt}
 use lib.Dec.{eqb, ltb, leb}
-use borrow.Author.Tests.{eqb-true, leb-true, ltb-true, le-ltb}
-use Rattle.ascii.proofs.Bools.{and-left, and-right}
-use Rattle.time.specs.Days.{isLeap, yearIn, yearDays, daysBeforeYear, monthLengths, lengthIn, beforeIn, daysBeforeMonth}
-use Rattle.time.specs.Writing.{yearOf, dayOfYear, begun, monthIn, dayOf}
+use lib.ListN.{getD, List·getD-eq-default}
+use borrow.Author.Tests.{eqb-true, eq-eqb, ne-eqb, leb-true}
+use Rattle.ascii.proofs.Bools.{clash}
+use Rattle.time.specs.Days.{isLeap, yearDays, daysBeforeYear, yearIn, monthDays, daysBeforeMonth, monthLengths, lengthIn, beforeIn}
 use Rattle.time.proofs.Below.{below}
-use Rattle.time.proofs.Years.{sum-direct, daysBeforeYear-direct}
 
--- the month by a division
-pub monthIn-early : (leap : Bool) (n : ℕ) → n < 59 → (12 * n + 373) / 367 ≡ monthIn leap n
-unfolding monthIn begun beforeIn lengthIn monthLengths
-monthIn-early true n h = eqb-true _ _ (below (λ n. eqb ((12 * n + 373) / 367) (monthIn true n)) 59 refl n h)
-monthIn-early false n h = eqb-true _ _ (below (λ n. eqb ((12 * n + 373) / 367) (monthIn false n)) 59 refl n h)
+-- 1 for a test that holds
+abbrev bit : Bool → ℕ
+bit true = 1
+bit false = 0
 
--- past the first 59 days the rule holds, where it holds at every number with those let through
-late : (f : ℕ → Bool) (n : ℕ) → 59 ≤ n → (ltb n 59 || f n) ≡ true → f n ≡ true
-late f n h e = rw (le-ltb n 59 h) at e
+-- q times m and x more, divided by m
+div-part : (k q x n : ℕ) → n ≡ q * suc k + x → n / suc k ≡ q + x / suc k
+div-part k q x n e = ap (λ (a : ℕ). a / suc k) e ∙ mul-add-div-right (omega arith) q x
 
-pub monthIn-late : (leap : Bool) (n : ℕ) → 59 ≤ n → n < yearIn leap → (12 * n + cond leap 385 397) / 367 ≡ monthIn leap n
-unfolding monthIn begun beforeIn lengthIn monthLengths
-monthIn-late true n h k =
-    eqb-true _ _
-    (late (λ n. eqb ((12 * n + 385) / 367) (monthIn true n)) n h
-    (below (λ n. ltb n 59 || eqb ((12 * n + 385) / 367) (monthIn true n)) 366 refl n k))
-monthIn-late false n h k =
-    eqb-true _ _
-    (late (λ n. eqb ((12 * n + 397) / 367) (monthIn false n)) n h
-    (below (λ n. ltb n 59 || eqb ((12 * n + 397) / 367) (monthIn false n)) 365 refl n k))
-
--- n days of a year reach into the month m
-abbrev reaches : Bool → ℕ → ℕ → Bool
-reaches leap n m = leb 1 m && leb m 12 && leb (beforeIn leap m) n && ltb n (beforeIn leap m + lengthIn leap m)
-
-monthIn-reached : (leap : Bool) (n : ℕ) → n < yearIn leap → reaches leap n (monthIn leap n) ≡ true
-unfolding monthIn begun beforeIn lengthIn monthLengths
-monthIn-reached true n h = below (λ n. reaches true n (monthIn true n)) 366 refl n h
-monthIn-reached false n h = below (λ n. reaches false n (monthIn false n)) 365 refl n h
-
--- the month is one of the twelve, has begun, and is not over
-pub record Reached (leap : Bool) (n m : ℕ) : Type 0 where
-  pub first : 1 ≤ m
-  pub last : m ≤ 12
-  pub has-begun : beforeIn leap m ≤ n
-  pub not-over : n < beforeIn leap m + lengthIn leap m
-
-pub monthIn-there : (leap : Bool) (n : ℕ) → n < yearIn leap → Reached leap n (monthIn leap n)
-monthIn-there leap n h = go (monthIn leap n) (monthIn-reached leap n h)
+-- one year on, the count of every m-th year grows by one exactly past such a year
+counted-next : (k y : ℕ) → (suc y + k) / suc k ≡ (y + k) / suc k + bit (eqb (y % suc k) 0)
+counted-next k y = go (y % suc k) (y / suc k) refl (div-add-mod' y (suc k)) (mod-lt y (omega arith))
   where
-    go : (m : ℕ) → reaches leap n m ≡ true → Reached leap n m
-    go m e =
-        let a : (leb 1 m && leb m 12 && leb (beforeIn leap m) n) ≡ true = and-left _ (ltb n (beforeIn leap m + lengthIn leap m)) e in
-        let b : (leb 1 m && leb m 12) ≡ true = and-left (leb 1 m && leb m 12) (leb (beforeIn leap m) n) a in
-        record {
-          first = leb-true 1 m (and-left (leb 1 m) (leb m 12) b);
-          last = leb-true m 12 (and-right (leb 1 m) (leb m 12) b);
-          has-begun = leb-true _ _ (and-right (leb 1 m && leb m 12) (leb (beforeIn leap m) n) a);
-          not-over = ltb-true _ _ (and-right (leb 1 m && leb m 12 && leb (beforeIn leap m) n) (ltb n (beforeIn leap m + lengthIn leap m)) e);
-        }
+    none : (x : ℕ) → x < suc k → x / suc k ≡ 0
+    none x h = div-eq-of-lt h
+
+    one : (x : ℕ) → x < suc k → (x + suc k) / suc k ≡ 1
+    one x h = omega (arith, add-div-right x {k = suc k} (omega arith), none x h)
+
+    go : (r q : ℕ) → y % suc k ≡ r → q * suc k + y % suc k ≡ y → y % suc k < suc k
+        → (suc y + k) / suc k ≡ (y + k) / suc k + bit (eqb (y % suc k) 0)
+    go zero q e f l =
+        rw (eq-eqb _ _ e)
+        (omega (arith, div-part k q (0 + suc k) (suc y + k) (omega arith), one 0 (omega arith), div-part k q k (y + k) (omega arith), none k (omega arith)))
+    go (suc r) q e f l =
+        rw (ne-eqb (y % suc k) 0 (omega arith))
+        (omega (arith, div-part k q (suc r + suc k) (suc y + k) (omega arith), one (suc r) (omega arith), div-part k q (r + suc k) (y + k) (omega arith), one r (omega arith)))
+
+hundred-fourth : (y : ℕ) → y % 100 ≡ 0 → y % 4 ≡ 0
+hundred-fourth y h = omega arith
+
+four-hundred-hundred : (y : ℕ) → y % 400 ≡ 0 → y % 100 ≡ 0
+four-hundred-hundred y h = omega arith
+
+-- the leap day of a year: one every fourth, none every hundredth, one again every four hundredth
+leap-day : (y : ℕ) → yearDays y + bit (eqb (y % 100) 0) ≡ 365 + bit (eqb (y % 4) 0) + bit (eqb (y % 400) 0)
+unfolding isLeap yearDays
+leap-day y = go (eqb (y % 4) 0) (eqb (y % 100) 0) (eqb (y % 400) 0) refl refl refl
+  where
+    go : (a b c : Bool) → eqb (y % 4) 0 ≡ a → eqb (y % 100) 0 ≡ b → eqb (y % 400) 0 ≡ c
+        → cond (a && not b || c) 366 365 + bit b ≡ 365 + bit a + bit c
+    go true true true p q r = refl
+    go true true false p q r = refl
+    go true false true p q r = clash (eq-eqb _ _ (four-hundred-hundred y (eqb-true _ _ r))) q
+    go true false false p q r = refl
+    go false true c p q r = clash (eq-eqb _ _ (hundred-fourth y (eqb-true _ _ q))) p
+    go false false true p q r = clash (eq-eqb _ _ (four-hundred-hundred y (eqb-true _ _ r))) q
+    go false false false p q r = refl
+
+-- the same without a difference
+pub sum-direct : (y : ℕ) → daysBeforeYear y + (y + 99) / 100 ≡ 365 * y + (y + 3) / 4 + (y + 399) / 400
+unfolding daysBeforeYear
+sum-direct zero = refl
+sum-direct (suc y) = omega (arith, sum-direct y, counted-next 3 y, counted-next 99 y, counted-next 399 y, leap-day y)
+
+-- the days before a year, with no loop and no table
+pub daysBeforeYear-direct : (y : ℕ) → daysBeforeYear y ≡ 365 * y + (y + 3) / 4 + (y + 399) / 400 - (y + 99) / 100
+daysBeforeYear-direct y = omega (arith, sum-direct y)
+
+-- the days of ten thousand years
+pub daysBeforeYear-small : (y : ℕ) → y ≤ 9999 → daysBeforeYear y ≤ 3652060
+daysBeforeYear-small y h = omega (arith, sum-direct y)
 
 -- the day 1 January 1970
 pub epoch-day : daysBeforeYear 1970 ≡ 719528
 epoch-day = daysBeforeYear-direct 1970
 
--- between 1970 and 2100 every fourth year is a leap year
-near : (y : ℕ) → 1970 ≤ y → y ≤ 2100 → daysBeforeYear y + 15 ≡ 365 * y + (y + 3) / 4
-near y h k = go (decLt 2000 y)
-  where
-    go : Dec (2000 < y) → daysBeforeYear y + 15 ≡ 365 * y + (y + 3) / 4
-    go (yes p) = let a : (y + 399) / 400 ≡ 6 = omega arith in let b : (y + 99) / 100 ≡ 21 = omega arith in omega (arith, sum-direct y)
-    go (no p) = let a : (y + 399) / 400 ≡ 5 = omega arith in let b : (y + 99) / 100 ≡ 20 = omega arith in omega (arith, sum-direct y)
-
-next-year : (y : ℕ) → daysBeforeYear (suc y) ≡ daysBeforeYear y + yearDays y
-unfolding daysBeforeYear
-next-year y = refl
-
--- the year has begun on the day, and is not over
-pub record InYear (d : ℕ) : Type 0 where
-  pub to-2099 : yearOf d ≤ 2099
-  pub year-begun : daysBeforeYear (yearOf d) ≤ d + 719528
-  pub year-not-over : d + 719528 < daysBeforeYear (yearOf d) + yearDays (yearOf d)
-
-pub yearOf-there : (d : ℕ) → d ≤ 47481 → InYear d
-unfolding yearOf
-yearOf-there d h =
-    let q : (4 * d + 2) / 1461 ≤ 129 = omega arith in
-    let a : daysBeforeYear (1970 + (4 * d + 2) / 1461) + 15 ≡ 365 * (1970 + (4 * d + 2) / 1461) + (1970 + (4 * d + 2) / 1461 + 3) / 4 = near _ (omega arith) (omega arith) in
-    let b : daysBeforeYear (suc (1970 + (4 * d + 2) / 1461)) + 15 ≡ 365 * suc (1970 + (4 * d + 2) / 1461) + (suc (1970 + (4 * d + 2) / 1461) + 3) / 4 = near _ (omega arith) (omega arith) in
-    let c : daysBeforeYear (suc (1970 + (4 * d + 2) / 1461)) ≡ daysBeforeYear (1970 + (4 * d + 2) / 1461) + yearDays (1970 + (4 * d + 2) / 1461) = next-year (1970 + (4 * d + 2) / 1461) in
-    record { to-2099 = omega arith; year-begun = omega arith; year-not-over = omega arith }
-
--- the days of its year before a day
-pub dayOfYear-there : (d : ℕ) → d ≤ 47481 → dayOfYear d < yearDays (yearOf d)
-unfolding dayOfYear
-dayOfYear-there d h = omega (arith, epoch-day, yearOf-there d h .year-begun, yearOf-there d h .year-not-over)
-
--- what is computed of a day, part by part, is the day
-pub dayOf-made : (d b a m : ℕ) (leap : Bool) → b ≡ daysBeforeYear (yearOf d) → leap ≡ isLeap (yearOf d) → m ≡ monthIn leap (d + 719528 - b) → a ≡ daysBeforeMonth (yearOf d) m
-    → record { year = yearOf d; month = m; day = d + 719528 - b - a + 1 } ≡ dayOf d
-unfolding dayOf dayOfYear
-dayOf-made d b a m leap p q r s = rw (s, r, q, p, epoch-day)
-
--- the parts of such a day fit
-pub dayOf-parts : (d b m : ℕ) (leap : Bool) → d ≤ 47481 → b ≡ daysBeforeYear (yearOf d) → leap ≡ isLeap (yearOf d) → m ≡ monthIn leap (d + 719528 - b)
-    → (d + 719528 - b < yearIn leap) × (m ≤ 12) × (daysBeforeMonth (yearOf d) m ≤ d + 719528 - b)
-unfolding yearDays daysBeforeMonth
-dayOf-parts d b m leap h p q r =
-    let k : d + 719528 - b < yearIn leap = rw q (omega (arith, yearOf-there d h .year-begun, yearOf-there d h .year-not-over)) in
-    let there : Reached leap (d + 719528 - b) m = rw r (monthIn-there leap (d + 719528 - b) k) in
-    (k, there .last, rw (← q) (there .has-begun))
-
 pub yearIn-small : (leap : Bool) → yearIn leap ≤ 366
 yearIn-small true = omega arith
 yearIn-small false = omega arith
 
-pub monthIn-by : (leap t : Bool) (n : ℕ) → leap ≡ t → 59 ≤ n → n < yearIn leap → (12 * n + cond t 385 397) / 367 ≡ monthIn leap n
-monthIn-by leap t n e h k = rw (← e) (monthIn-late leap n h k)
+-- the days of a year without a leap day before each month
+abbrev pub beforeMonth : List ℕ
+beforeMonth = 0 ∷ 0 ∷ 31 ∷ 59 ∷ 90 ∷ 120 ∷ 151 ∷ 181 ∷ 212 ∷ 243 ∷ 273 ∷ 304 ∷ 334 ∷ []
+
+bit-small : (b : Bool) → cond b 1 0 ≤ 1
+bit-small true = omega arith
+bit-small false = omega arith
+
+pub beforeIn-table : (leap : Bool) (m : ℕ) → m ≤ 12 → beforeIn leap m ≡ getD beforeMonth m 0 + cond (ltb 2 m && leap) 1 0
+unfolding beforeIn lengthIn monthLengths
+beforeIn-table true m h = eqb-true _ _ (below (λ m. eqb (beforeIn true m) (getD beforeMonth m 0 + cond (ltb 2 m && true) 1 0)) 13 refl m (omega arith))
+beforeIn-table false m h = eqb-true _ _ (below (λ m. eqb (beforeIn false m) (getD beforeMonth m 0 + cond (ltb 2 m && false) 1 0)) 13 refl m (omega arith))
+
+-- 29 days for the February of a leap year, else the table's; none past December
+pub monthDays-leap : (y m : ℕ) (leap : Bool) → leap ≡ isLeap y → (eqb m 2 && leap) ≡ true → 29 ≡ monthDays y m
+unfolding monthDays lengthIn
+monthDays-leap y m leap e t = rw (← e, t)
+
+pub monthDays-table : (y m : ℕ) (leap : Bool) → leap ≡ isLeap y → (eqb m 2 && leap) ≡ false → getD monthLengths m 0 ≡ monthDays y m
+unfolding monthDays lengthIn
+monthDays-table y m leap e t = rw (← e, t)
+
+lengthIn-none : (leap : Bool) (m : ℕ) → 12 < m → lengthIn leap m ≡ 0
+unfolding lengthIn monthLengths
+lengthIn-none leap m h = rw (ne-eqb m 2 (omega arith)) (List·getD-eq-default monthLengths 0 h)
+
+pub monthDays-none : (y m : ℕ) → 12 < m → 0 ≡ monthDays y m
+unfolding monthDays
+monthDays-none y m h = sym (lengthIn-none (isLeap y) m h)
+
+-- a month with a day is one of the twelve, and has at most 31
+pub monthDays-month : (y m d n : ℕ) → 1 ≤ d → n ≡ monthDays y m → d ≤ n → m ≤ 12
+monthDays-month y m d n h e k = go (decLt 12 m)
+  where
+    go : Dec (12 < m) → m ≤ 12
+    go (yes p) = absurd (omega (arith, monthDays-none y m p))
+    go (no q) = omega arith
+
+lengthIn-small : (leap : Bool) (m : ℕ) → m ≤ 12 → lengthIn leap m ≤ 31
+unfolding lengthIn monthLengths
+lengthIn-small leap m h = go (eqb m 2 && leap)
+  where
+    go : (t : Bool) → cond t 29 (getD monthLengths m 0) ≤ 31
+    go true = omega arith
+    go false = leb-true _ _ (below (λ m. leb (getD monthLengths m 0) 31) 13 refl m (omega arith))
+
+pub monthDays-small : (y m : ℕ) → m ≤ 12 → monthDays y m ≤ 31
+unfolding monthDays
+monthDays-small y m h = lengthIn-small (isLeap y) m h
+
+pub beforeMonth-small : (m : ℕ) → m ≤ 12 → getD beforeMonth m 0 ≤ 334
+beforeMonth-small m h = leb-true _ _ (below (λ m. leb (getD beforeMonth m 0) 334) 13 refl m (omega arith))
+
+-- the table, and one day more past the February of a leap year
+pub daysBeforeMonth-leap : (y m : ℕ) (leap : Bool) → leap ≡ isLeap y → (ltb 2 m && leap) ≡ true → m ≤ 12 → getD beforeMonth m 0 + 1 ≡ daysBeforeMonth y m
+unfolding daysBeforeMonth
+daysBeforeMonth-leap y m leap e t h = rw (← e, beforeIn-table leap m h, t)
+
+pub daysBeforeMonth-table : (y m : ℕ) (leap : Bool) → leap ≡ isLeap y → (ltb 2 m && leap) ≡ false → m ≤ 12 → getD beforeMonth m 0 ≡ daysBeforeMonth y m
+unfolding daysBeforeMonth
+daysBeforeMonth-table y m leap e t h = rw (← e, beforeIn-table leap m h, t) (omega arith)
+
+-- fewer than a year's days
+pub daysBeforeMonth-small : (y m : ℕ) → m ≤ 12 → daysBeforeMonth y m ≤ 335
+unfolding daysBeforeMonth
+daysBeforeMonth-small y m h = go (isLeap y)
+  where
+    go : (leap : Bool) → beforeIn leap m ≤ 335
+    go leap = omega (arith, beforeIn-table leap m h, beforeMonth-small m h, bit-small (ltb 2 m && leap))

@@ -1,10 +1,8 @@
 pub mod Below
-pub mod Years
-pub mod Months
+pub mod Stores
+pub mod DaysLaws
 pub mod DateTime
 pub mod LimitsLaws
 pub mod DurationLaws
-pub mod DaysLaws
-pub mod Stores
 pub mod WritingLaws
 pub mod Grammar

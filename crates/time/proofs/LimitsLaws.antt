@@ -11,7 +11,7 @@ use Rattle.time.specs.declared.date_time.Kind.{Kind}
 use Rattle.time.specs.declared.limits.Second.{Second}
 use Rattle.time.specs.Days.{daysBeforeYear}
 use Rattle.time.specs.Limits.{epoch, lastSecond, since, utcSecond}
-use Rattle.time.proofs.Years.{daysBeforeYear-direct}
+use Rattle.time.proofs.DaysLaws.{daysBeforeYear-direct}
 
 -- 1970 begins at the epoch
 pub epoch-year : 86400 * daysBeforeYear 1970 ≡ epoch

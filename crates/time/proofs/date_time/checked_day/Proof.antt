@@ -1,6 +1,6 @@
 -- The three ways out are the definition's tests; a day that is there is in one of twelve months, so that the sums fit.
 use Rattle.time.proofs.DateTime.{day-parts, checkedDay-below, checkedDay-above, checkedDay-of}
-use Rattle.time.proofs.Months.{monthDays-month}
+use Rattle.time.proofs.DaysLaws.{monthDays-month}
 use native.Mathlib.Omega.{arith}
 use borrow.Author.Needs.{needs}
 use Rattle.time.proofs.date_time.checked_day.Statement.{statement}

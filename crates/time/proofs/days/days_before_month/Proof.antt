@@ -1,5 +1,5 @@
 -- The table counts month by month, and a leap day comes after February.
-use Rattle.time.proofs.Months.{beforeMonth-small, daysBeforeMonth-leap, daysBeforeMonth-table}
+use Rattle.time.proofs.DaysLaws.{beforeMonth-small, daysBeforeMonth-leap, daysBeforeMonth-table}
 use native.Mathlib.Omega.{arith}
 use borrow.Author.Needs.{needs}
 use Rattle.time.proofs.days.days_before_month.Statement.{statement}

@@ -1,5 +1,5 @@
 -- The direct arithmetic is the count year by year (daysBeforeYear-direct), and no sum wraps up to the year 9999.
-use Rattle.time.proofs.Years.{daysBeforeYear-direct}
+use Rattle.time.proofs.DaysLaws.{daysBeforeYear-direct}
 use mathlib.Core.Path.{sym}
 use borrow.Author.Needs.{needs}
 use Rattle.time.proofs.days.days_before_year.Statement.{statement}

@@ -1,6 +1,6 @@
 -- Past December there is no day; a leap February has 29; any other month is in the table.
 use Rattle.time.specs.Days.{monthLengths}
-use Rattle.time.proofs.Months.{monthDays-none, monthDays-leap, monthDays-table}
+use Rattle.time.proofs.DaysLaws.{monthDays-none, monthDays-leap, monthDays-table}
 use borrow.Author.Needs.{needs}
 use Rattle.time.proofs.days.month_days.Statement.{statement}
 use Rattle.time.proofs.days.month_days.Tie as tie

@@ -1,6 +1,6 @@
 -- The year has begun on the day and is not over, and so has its month; no difference falls below 0.
 use Rattle.time.specs.Writing.{yearOf}
-use Rattle.time.proofs.DaysLaws.{yearOf-there, dayOf-parts, dayOf-made}
+use Rattle.time.proofs.WritingLaws.{yearOf-there, dayOf-parts, dayOf-made}
 use mathlib.Core.Path.{refl}
 use native.Mathlib.Omega.{arith}
 use borrow.Author.Needs.{needs}
