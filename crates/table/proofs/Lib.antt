@@ -1,6 +1,5 @@
 pub mod Runs
 pub mod Inserting
-pub mod Columns
-pub mod Moves
 pub mod Tables
+pub mod Columns
 pub mod Examples

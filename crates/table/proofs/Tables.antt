@@ -1,34 +1,73 @@
--- A table: what adding comes to, its rows one by one, and how many they are.
-use Prim.Native.Nat.{ℕ, _+_, _-_, _≤_, _<_}
-use mathlib.Core.Path.{_≡_, sym, ap, _∙_}
+-- A table: two columns as a list of periods, under take, drop and append;
+-- what adding comes to, the rows one by one, and how many they are.
+use Prim.Native.Nat.{ℕ, zero, suc, _+_, _≤_, _<_}
+use mathlib.Core.Path.{_≡_, refl, sym, ap, _∙_}
+use mathlib.Core.List.{List, [], _∷_, _++_}
 use mathlib.Core.Bool.{Bool, _||_}
-use mathlib.Core.List.{List, [], _∷_}
+use native.Mathlib.Numerals.{add-one}
 use native.Mathlib.Omega.{arith}
-use lib.ListN.{length, take, drop, getD}
-use lib.Seq.{length-take-le}
+use lib.ListN.{length, take, drop, getD, length-take, drop-of-length-le}
+use lib.Seq.{drop-cons, getD-take, length-take-le}
 use Rattle.periods.specs.declared.Period.{Period}
-use Rattle.table.specs.declared.Table.{Table}
-use Rattle.table.specs.declared.Widened.{Widened}
 use Rattle.periods.specs.Periods.{period, secondIn}
+use Rattle.table.specs.declared.Table.{Table}
+use Rattle.table.specs.Tables.{rows, listed, Sound, Added}
 use Rattle.table.specs.Runs.{runs}
 use Rattle.table.specs.Inserting.{inserted}
-use Rattle.table.specs.Tables.{rows, listed, Sound, Added}
-use Rattle.table.specs.Columns.{endsBefore, TookIn, Spliced}
 use Rattle.table.proofs.Inserting.{inserted-runs}
-use Rattle.table.proofs.Columns.{rows-length, rows-next, take-end, added-rows}
 
--- the rows that end before, the widened span, and the rows behind it are the list with the span added
-pub added : (t : Table) → Sound t → t .count < 512 → {a b i : ℕ} {w : Widened} {us vs : List ℕ}
-    → i ≡ endsBefore a (take (t .count) (t .ends)) → TookIn (t .starts) (t .ends) (t .count) i a b w
-    → Spliced (t .starts) us i (w .next) (t .count) (w .start) → Spliced (t .ends) vs i (w .next) (t .count) (w .end)
-    → Added t a b (record { count = i + 1 + (t .count - w .next); starts = us; ends = vs })
-unfolding listed
-added t good room e took p q =
-    record {
-      list = added-rows (omega (arith, good .starts-long)) (omega (arith, good .ends-long)) e took p q;
-      count = omega (arith, took .from, took .upto);
-      sound = record { few = omega (arith, took .from, took .upto); starts-long = p .long ∙ good .starts-long; ends-long = q .long ∙ good .ends-long };
-    }
+module _ {A : Type 0} (a : List A) (n i : ℕ) where
+  -- of the first n elements, what is left at i is the element there and what is left after it
+  pub take-next : (d : A) → i < n → i < length a → drop i (take n a) ≡ getD a i d ∷ drop (i + 1) (take n a)
+  take-next d h k =
+      rw add-one
+      (drop-cons (take n a) i d (omega (arith, length-take n a))
+      ∙ ap (λ (x : A). x ∷ drop (suc i) (take n a)) (getD-take n a i d h))
+
+  pub take-end : n ≤ i → drop i (take n a) ≡ []
+  take-end h =
+      let short : length (take n a) ≤ i = omega (arith, length-take n a) in
+      drop-of-length-le (take n a) short
+
+pub rows-take : (n : ℕ) (ss es : List ℕ) → take n (rows ss es) ≡ rows (take n ss) (take n es)
+unfolding rows
+rows-take zero ss es = refl
+rows-take (suc n) [] es = refl
+rows-take (suc n) (s ∷ ss) [] = refl
+rows-take (suc n) (s ∷ ss) (e ∷ es) = ap (λ (l : List Period). period s e ∷ l) (rows-take n ss es)
+
+rows-none : (ss : List ℕ) → rows ss [] ≡ []
+unfolding rows
+rows-none [] = refl
+rows-none (s ∷ ss) = refl
+
+pub rows-drop : (n : ℕ) (ss es : List ℕ) → drop n (rows ss es) ≡ rows (drop n ss) (drop n es)
+unfolding rows
+rows-drop zero ss es = refl
+rows-drop (suc n) [] es = refl
+rows-drop (suc n) (s ∷ ss) [] = sym (rows-none (drop n ss))
+rows-drop (suc n) (s ∷ ss) (e ∷ es) = rows-drop n ss es
+
+pub rows-append : (ss es us vs : List ℕ) → length ss ≡ length es → rows (ss ++ us) (es ++ vs) ≡ rows ss es ++ rows us vs
+unfolding rows
+rows-append [] [] us vs h = refl
+rows-append [] (e ∷ es) us vs h = absurd (omega arith)
+rows-append (s ∷ ss) [] us vs h = absurd (omega arith)
+rows-append (s ∷ ss) (e ∷ es) us vs h = ap (λ (l : List Period). period s e ∷ l) (rows-append ss es us vs (omega arith))
+
+pub rows-length : (ss es : List ℕ) → length ss ≡ length es → length (rows ss es) ≡ length ss
+unfolding rows
+rows-length [] es h = refl
+rows-length (s ∷ ss) [] h = absurd (omega arith)
+rows-length (s ∷ ss) (e ∷ es) h = ap (λ (n : ℕ). suc n) (rows-length ss es (omega arith))
+
+-- of the first n rows, what is left at i is the row there and what is left after it
+pub rows-next : (ss es : List ℕ) (n i : ℕ) → i < n → i < length ss → i < length es
+    → drop i (take n (rows ss es)) ≡ period (getD ss i 0) (getD es i 0) ∷ drop (i + 1) (take n (rows ss es))
+unfolding rows
+rows-next ss es n i h k l =
+    rw (rows-take n ss es, rows-drop i (take n ss) (take n es), rows-drop (i + 1) (take n ss) (take n es))
+    (rw (take-next ss n i 0 h k, take-next es n i 0 h l))
 
 -- the list of a table with a span added, where the list before is known
 pub added-to : {t r : Table} {a b : ℕ} {ps : List Period} → Added t a b r → listed t ≡ ps → listed r ≡ inserted a b ps

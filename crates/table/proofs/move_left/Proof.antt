@@ -1,5 +1,5 @@
 -- The elements moved are at their new place, and those still to move stand where they stood.
-use Rattle.table.proofs.Moves.{MovingLeft, left-start, left-more, left-end}
+use Rattle.table.proofs.Columns.{MovingLeft, left-start, left-more, left-end}
 use Prim.Native.Nat.{_-_, _≤_}
 use native.Mathlib.Omega.{arith}
 use Rattle.table.proofs.move_left.Statement.{statement}

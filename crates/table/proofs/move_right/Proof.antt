@@ -1,5 +1,5 @@
 -- The elements moved are one place on, and all before them stand where they stood.
-use Rattle.table.proofs.Moves.{MovingRight, right-start, right-more, right-end}
+use Rattle.table.proofs.Columns.{MovingRight, right-start, right-more, right-end}
 use Prim.Native.Nat.{_+_, _-_, _≤_}
 use native.Mathlib.Omega.{arith}
 use Rattle.table.proofs.move_right.Statement.{statement}

@@ -1,5 +1,5 @@
 -- The rest was moved behind the place, to the left or to the right, and the store fills it.
-use Rattle.table.proofs.Moves.{next-place, spliced}
+use Rattle.table.proofs.Columns.{next-place, spliced}
 use mathlib.Core.Logic.{⊎-elim}
 use native.Mathlib.Omega.{arith}
 use borrow.Author.Needs.{needs}

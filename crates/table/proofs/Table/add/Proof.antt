@@ -1,6 +1,5 @@
 -- The three steps make the definition: rows that end before, the widened span, the rows behind it.
-use Rattle.table.proofs.Columns.{ends-secondIn}
-use Rattle.table.proofs.Tables.{added}
+use Rattle.table.proofs.Columns.{ends-secondIn, added}
 use Rattle.table.specs.Tables.{Sound}
 use borrow.Author.Needs.{needs}
 use Rattle.table.proofs.Table.add.Statement.{statement}
