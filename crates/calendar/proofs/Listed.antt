@@ -12,7 +12,7 @@ use Rattle.line.specs.Splitting.{firstOutside, nextPlace, splitParts, plainSpli
 use Rattle.values.specs.Period.{periodOf, periodItems, goodPeriods}
 use Rattle.periods.specs.declared.Period.{Period}
 use Rattle.values.specs.declared.period.PeriodRead.{PeriodRead}
-use Rattle.values.proofs.Items.{itemAt, item-rises, item-inside, item-more, item-last}
+use Rattle.line.proofs.Splitting.{itemAt, item-rises, item-inside, item-more, item-last}
 use Rattle.values.proofs.PeriodLaws.{periodOf-small}
 use Rattle.calendar.specs.Periods.{periodsFrom, behind, NextPeriod, NoPeriod, PeriodAt}
 use Rattle.calendar.specs.declared.period_list.PeriodStep.{PeriodStep}

@@ -1,7 +1,7 @@
 pub mod Scanner
 pub mod Splitting
 pub mod Reading
-pub mod Parameters
+pub mod ReadingParameters
 pub mod WellFormed
 pub mod Rendering
 pub mod File

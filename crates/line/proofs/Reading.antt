@@ -20,7 +20,7 @@ use Rattle.line.specs.Scanner.{isWellFormed}
 use Rattle.line.specs.Splitting.{quotedAfter, cutsAt, firstOutside, before, after, splitParts, quotesOff}
 use Rattle.line.specs.Reading.{headOf, valueOf, nameOf, parameterTexts, valuesOf, parameterName, parameterOf, lineOf, Plain}
 use Rattle.line.proofs.Splitting.{firstOutside-cut, firstOutside-keep, firstOutside-end, firstOutside-le, nextPlace-first, closed, closed-append, closed-class, closed-quoted, parts-closed, parts-one, before-closed, before-alone, after-closed, quotesOff-quoted, quotesOff-class}
-use Rattle.line.proofs.Parameters.{parameters-end, parameters-all}
+use Rattle.line.proofs.ReadingParameters.{parameters-end, parameters-all}
 use Rattle.line.proofs.Scanner.{every-of-name, grammar-wellFormed, wellFormed-grammar}
 
 -- ---- the phrases hold no separator of an outer phrase outside quotes

@@ -15,7 +15,7 @@ use Rattle.line.specs.Grammar.{Parameter, ContentLine}
 use Rattle.line.specs.Splitting.{nextPlace}
 use Rattle.line.specs.Reading.{headOf, isNamed, valuesOf, parameterOf, lineOf, keepIf, parametersNamed, pooled, valuesNamed, hasParameter}
 use Rattle.line.proofs.Splitting.{nextPlace-le}
-use Rattle.line.proofs.Parameters.{parametersFrom, parameters-next, parameters-end, parameters-all, next-inside}
+use Rattle.line.proofs.ReadingParameters.{parametersFrom, parameters-next, parameters-end, parameters-all, next-inside}
 use Rattle.query.specs.Records.{textOf, parameterAt}
 use Rattle.query.specs.declared.Sections.{Sections}
 use Rattle.query.specs.declared.ParameterRecord.{ParameterRecord}

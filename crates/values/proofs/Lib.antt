@@ -1,5 +1,3 @@
-pub mod Usage
-pub mod Items
 pub mod TimesLaws
 pub mod RuleLaws
 pub mod PeriodLaws

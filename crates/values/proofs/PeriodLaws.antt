@@ -10,7 +10,7 @@ use borrow.Author.Tests.{lt-ltb, le-ltb, ltb-true}
 use Rattle.ascii.specs.Bytes.{isDigit}
 use Rattle.ascii.proofs.Bools.{clash}
 use Rattle.line.specs.Splitting.{firstOutside, nextPlace, before, after, splitAfter, plainSplit}
-use Rattle.line.proofs.Splitting.{closed, closed-append, closed-class, parts-one, before-closed, after-closed, before-fits, after-part}
+use Rattle.line.proofs.Splitting.{closed, closed-append, closed-class, parts-one, before-closed, after-closed, before-fits, after-part, itemAt, item-first, item-more, item-last, cut-test, taken-before}
 use Rattle.time.specs.DateTime.{readDateTime}
 use Rattle.time.specs.Limits.{lastSecond}
 use Rattle.time.specs.Duration.{durationSeconds, readDuration}
@@ -27,7 +27,6 @@ use Rattle.time.proofs.WritingLaws.{utcText-bytes, read-written, second-written
 use Rattle.values.specs.Period.{utcBy, utcAt, endBy, periodTo, periodFrom, periodOf, periodItems, isPeriod, allPeriods, goodPeriods, DurationSmall, PeriodSmall}
 use Rattle.periods.specs.declared.Period.{Period}
 use Rattle.values.specs.declared.period.PeriodRead.{PeriodRead}
-use Rattle.values.proofs.Items.{itemAt, item-first, item-more, item-last, cut-test, taken-before}
 
 -- ---- how late a period can be
 

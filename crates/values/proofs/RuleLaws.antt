@@ -17,7 +17,7 @@ use Rattle.ascii.proofs.Bools.{and-left, and-right}
 use Rattle.ascii.proofs.Lists.{drop-next, drop-end}
 use Rattle.ascii.proofs.Names.{every-next, every-stop, every-end}
 use Rattle.line.specs.Splitting.{firstOutside, nextPlace, before, after, plainSplit}
-use Rattle.line.proofs.Splitting.{nextPlace-first, after-part}
+use Rattle.line.proofs.Splitting.{nextPlace-first, after-part, itemAt, item-more, item-last, taken-before}
 use Rattle.time.proofs.DateTime.{digit-range}
 use Rattle.time.specs.Limits.{lastSecond}
 use Rattle.time.specs.declared.date_time.Number.{Number}
@@ -33,7 +33,6 @@ use Rattle.values.specs.declared.rule.Rule.{Rule}
 use Rattle.values.specs.declared.rule.Part.{Part}
 use Rattle.values.specs.declared.rule.Parts.{Parts}
 use Rattle.values.specs.declared.rule.RuleRead.{RuleRead}
-use Rattle.values.proofs.Items.{itemAt, item-more, item-last, taken-before}
 use Rattle.values.proofs.TimesLaws.{readTime-small}
 use Rattle.time.proofs.Below as tables
 

@@ -1,5 +1,5 @@
 -- One count of FBTYPE tells whether it stands badly; the periods decide the rest.
-use Rattle.values.proofs.Usage.{used-badly}
+use Rattle.line.proofs.ReadingParameters.{used-badly}
 use Rattle.property.proofs.Properties.{all-values}
 use Rattle.property.specs.declared.PropertyValue.{PropertyValue}
 use Rattle.property.specs.Properties.{periodsValue}

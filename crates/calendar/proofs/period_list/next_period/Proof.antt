@@ -1,7 +1,7 @@
 -- What is passed over is no period, so the periods from the place on are those asked for.
 use Prim.Native.Nat.{_-_}
 use lib.ListN.{length}
-use Rattle.values.proofs.Items.{item-rises, item-inside}
+use Rattle.line.proofs.Splitting.{item-rises, item-inside}
 use Rattle.calendar.proofs.Listed.{Leaving, leaving-start, leaving-bad, leaving-found, leaving-end, period-onward}
 use native.Mathlib.Omega.{arith}
 use borrow.Author.Needs.{needs}

@@ -1,5 +1,5 @@
 -- `line::read::counted` meets its contract: each branch is one case of the test on the name.
-use Rattle.line.proofs.Parameters.{counted-same, counted-other}
+use Rattle.line.proofs.ReadingParameters.{counted-same, counted-other}
 use mathlib.Core.Path.{sym, _∙_}
 use borrow.Author.Needs.{needs}
 use Rattle.line.proofs.read.counted.Statement.{statement}

@@ -1,5 +1,5 @@
 -- `line::read::first_value` meets its contract: no parameter before the semicolon has the name, so those from it on decide.
-use Rattle.line.proofs.Parameters.{next-rises, next-inside, Sought, sought-start, sought-next, sought-found, sought-end}
+use Rattle.line.proofs.ReadingParameters.{next-rises, next-inside, Sought, sought-start, sought-next, sought-found, sought-end}
 use lib.ListN.{length}
 use Prim.Native.Nat.{_-_}
 use mathlib.Core.Path.{sym, _∙_}

@@ -1,6 +1,6 @@
 -- `line::read::parameter` meets its contract: the parameters are the pieces behind the first semicolon of the head.
 use mathlib.Core.Bool.{true, false}
-use Rattle.line.proofs.Parameters.{parameterTexts-at}
+use Rattle.line.proofs.ReadingParameters.{parameterTexts-at}
 use Rattle.line.specs.Splitting.{before, after, splitParts}
 use lib.ListN.{getD}
 use mathlib.Core.List.{List, []}

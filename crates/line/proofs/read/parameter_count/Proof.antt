@@ -1,7 +1,7 @@
 -- `line::read::parameter_count` meets its contract: the first piece of the head is the name, and each piece more is a parameter.
 use mathlib.Core.Bool.{true, false}
 use Rattle.line.proofs.Splitting.{parts-some}
-use Rattle.line.proofs.Parameters.{parameterTexts-count}
+use Rattle.line.proofs.ReadingParameters.{parameterTexts-count}
 use Rattle.line.specs.Splitting.{before, splitParts}
 use lib.ListN.{length}
 use mathlib.Core.List.{List}

@@ -1,6 +1,6 @@
 -- `line::read::parameter_value` meets its contract: the value is a piece behind the equals sign, its quotes taken off.
 use mathlib.Core.Bool.{true, false}
-use Rattle.line.proofs.Parameters.{valuesOf-at}
+use Rattle.line.proofs.ReadingParameters.{valuesOf-at}
 use Rattle.line.specs.Splitting.{before, after, splitParts, quotesOff}
 use lib.ListN.{getD}
 use mathlib.Core.List.{List, []}

@@ -1,5 +1,5 @@
 -- `line::read::usage_of` meets its contract: with what was counted before a semicolon, the parameters from it on give the whole count.
-use Rattle.line.proofs.Parameters.{next-rises, next-inside, Used, used-start, used-next, used-end}
+use Rattle.line.proofs.ReadingParameters.{next-rises, next-inside, Used, used-start, used-next, used-end}
 use lib.ListN.{length}
 use Prim.Native.Nat.{_-_}
 use native.Mathlib.Omega.{arith}

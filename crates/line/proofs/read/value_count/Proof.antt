@@ -1,6 +1,6 @@
 -- `line::read::value_count` meets its contract: the values are the pieces behind the equals sign, cut at each comma.
 use mathlib.Core.Bool.{true, false}
-use Rattle.line.proofs.Parameters.{valuesOf-count}
+use Rattle.line.proofs.ReadingParameters.{valuesOf-count}
 use Rattle.line.specs.Splitting.{before, after, splitParts}
 use lib.ListN.{length}
 use mathlib.Core.List.{List}

@@ -1,7 +1,7 @@
 -- No value of a parameter before the semicolon holds up, so the parameters from it on decide.
 use Prim.Native.Nat.{_-_}
 use lib.ListN.{length}
-use Rattle.line.proofs.Parameters.{next-rises, next-inside}
+use Rattle.line.proofs.ReadingParameters.{next-rises, next-inside}
 use Rattle.property_tests.proofs.Searches.{Looking, looking-start, looking-next, looking-found, looking-end}
 use native.Mathlib.Omega.{arith}
 use borrow.Author.Needs.{needs}

@@ -3,7 +3,7 @@ use lib.ListN.{length}
 use Prim.Native.Nat.{_-_}
 use borrow.Author.Tests.{not-true, not-false}
 use Rattle.values.proofs.PeriodLaws.{Passed, passed-start, passed-bad, passed-next, passed-end}
-use Rattle.values.proofs.Items.{item-rises, item-inside}
+use Rattle.line.proofs.Splitting.{item-rises, item-inside}
 use mathlib.Core.Path.{sym, _∙_}
 use native.Mathlib.Omega.{arith}
 use borrow.Author.Needs.{needs}

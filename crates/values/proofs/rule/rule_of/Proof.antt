@@ -2,7 +2,7 @@
 use lib.ListN.{length}
 use Prim.Native.Nat.{_-_}
 use Rattle.values.proofs.RuleLaws.{PartsRead, parts-start, parts-next, parts-end}
-use Rattle.values.proofs.Items.{item-rises, item-inside}
+use Rattle.line.proofs.Splitting.{item-rises, item-inside}
 use mathlib.Core.Path.{_∙_}
 use native.Mathlib.Omega.{arith}
 use borrow.Author.Needs.{needs}

@@ -1,7 +1,7 @@
 -- One count of VALUE tells whether it stands badly, and whether it stands at all.
 use Rattle.values.specs.Times.{formOf, formNamed}
 use borrow.Author.Tests.{lt-ltb, le-ltb}
-use Rattle.values.proofs.Usage.{used-badly, used-at-all}
+use Rattle.line.proofs.ReadingParameters.{used-badly, used-at-all}
 use mathlib.Core.Path.{ap, _∙_}
 use borrow.Author.Needs.{needs}
 use Rattle.values.proofs.times.form_of.Statement.{statement}

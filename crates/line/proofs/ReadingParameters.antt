@@ -1,4 +1,5 @@
--- Laws of the parameters of a line, as the code reads them: one place after the other in the head.
+-- Laws of the parameters of a line, as the code reads them: one place after the other in the head,
+-- and what one count of a parameter tells.
 use Prim.Native.Nat.{ℕ, zero, suc, _+_, _-_, _≤_, _<_}
 use mathlib.Core.Path.{_≡_, refl, sym, ap, _∙_}
 use mathlib.Core.Bool.{Bool, true, false, cond, not, _||_, or-false, or-assoc}
@@ -10,10 +11,10 @@ use lib.ListN.{length, take, drop, getD, length-map, length-append, List·getD-m
 use borrow.Author.Tests.{ltb-true, ltb-false, lt-ltb, le-ltb}
 use Rattle.ascii.specs.Names.{sameName}
 use Rattle.ascii.proofs.Bools.{and-left, and-right, and-both, clash}
+use Rattle.line.specs.declared.read.Usage.{Usage}
 use Rattle.line.specs.Grammar.{Parameter, ContentLine}
 use Rattle.line.specs.Splitting.{nextPlace, after, splitParts, splitAfter, quotesOff}
 use Rattle.line.specs.Reading.{headOf, isNamed, parameterTexts, valuesOf, parameterOf, lineOf, firstOf, restOf, keepIf, parametersNamed, someList, usageOf, pooled, valuesNamed, countedWith, hasParameter, hasTwice, hasList, firstValue, allValued}
-use Rattle.line.specs.declared.read.Usage.{Usage}
 use Rattle.line.proofs.Scanner.{or-none}
 use Rattle.line.proofs.Splitting.{parts-from, parts-some, parts-end, splitAfter-in, splitAfter-out, splitAfter-next, nextPlace-ge, nextPlace-le, after-is, after-none}
 
@@ -346,3 +347,14 @@ only-first (v ∷ w ∷ vs) e = absurd (omega arith)
 pub one-value : (n : List ℕ) (x : ContentLine) → length (valuesNamed n (x .parameters)) ≡ 1 → valuesNamed n (x .parameters) ≡ firstValue n x ∷ []
 unfolding firstValue
 one-value n x e = only-first (valuesNamed n (x .parameters)) e
+
+-- twice or as a list
+pub used-badly : (n : List ℕ) (l : List ℕ) (u : Usage) → u ≡ usageOf n (lineOf l .parameters)
+    → (hasTwice n (lineOf l) || hasList n (lineOf l)) ≡ (ltb 1 (u .times) || u .listed)
+unfolding hasTwice hasList usageOf
+used-badly n l u e = rw e
+
+-- at all
+pub used-at-all : (n : List ℕ) (l : List ℕ) (u : Usage) → u ≡ usageOf n (lineOf l .parameters) → hasParameter n (lineOf l) ≡ ltb 0 (u .times)
+unfolding hasParameter usageOf
+used-at-all n l u e = rw e
