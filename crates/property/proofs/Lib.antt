@@ -1,3 +1,1 @@
-pub mod FirstBytes
-pub mod PlainLines
 pub mod Properties

@@ -5,7 +5,7 @@ use denote.Ref.{now}
 use Rattle.ascii.specs.Bytes.{upper}
 use Rattle.property.specs.declared.Scope.{Scope}
 use Rattle.property.specs.declared.Property.{Property}
-use Rattle.property.proofs.FirstBytes.{by-first}
+use Rattle.property.proofs.Properties.{by-first}
 use borrow.Author.Needs.{needs}
 use Rattle.property.proofs.event_d.Statement.{statement}
 use Rattle.property.proofs.event_d.Tie as tie

@@ -5,7 +5,7 @@ use denote.Ref.{now}
 use Rattle.ascii.specs.Bytes.{upper}
 use Rattle.property.specs.declared.Scope.{Scope}
 use Rattle.property.specs.declared.Property.{Property}
-use Rattle.property.proofs.FirstBytes.{by-first, event-unread}
+use Rattle.property.proofs.Properties.{by-first, event-unread}
 use borrow.Author.Needs.{needs}
 use Rattle.property.proofs.event_property.Statement.{statement}
 use Rattle.property.proofs.event_property.Tie as tie

@@ -1,6 +1,6 @@
 -- The byte that is read is the first one; without any it is 0.
 use denote.Ref.{now}
-use Rattle.property.proofs.FirstBytes.{no-first}
+use Rattle.property.proofs.Properties.{no-first}
 use borrow.Author.Needs.{needs}
 use Rattle.property.proofs.first_upper.Statement.{statement}
 use Rattle.property.proofs.first_upper.Tie as tie

@@ -1,5 +1,5 @@
 -- In each component the bytes are those that its words begin with.
-use Rattle.property.proofs.FirstBytes.{event-none, free-busy-none, other-none}
+use Rattle.property.proofs.Properties.{event-none, free-busy-none, other-none}
 use borrow.Author.Needs.{needs}
 use Rattle.property.proofs.may_be_read.Statement.{statement}
 use Rattle.property.proofs.may_be_read.Tie as tie

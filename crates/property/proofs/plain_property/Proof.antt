@@ -1,5 +1,5 @@
 -- Without parameters there is neither VALUE, TZID nor FBTYPE.
-use Rattle.property.proofs.PlainLines.{plain-start, plain-end, plain-busy-periods}
+use Rattle.property.proofs.Properties.{plain-start, plain-end, plain-busy-periods}
 use denote.Ref.{now}
 use borrow.Author.Needs.{needs}
 use Rattle.property.proofs.plain_property.Statement.{statement}

@@ -5,7 +5,7 @@ use lib.ListN.{length}
 use denote.Ref.{now}
 use Rattle.line.specs.Reading.{lineOf}
 use Rattle.property.specs.Properties.{propertyValueOf}
-use Rattle.property.proofs.PlainLines.{plain-value}
+use Rattle.property.proofs.Properties.{plain-value}
 use borrow.Author.Needs.{needs}
 use Rattle.property.proofs.property_value_named.Statement.{statement}
 use Rattle.property.proofs.property_value_named.Tie as tie

@@ -1,7 +1,7 @@
 -- A line whose first byte no word begins with says nothing; any other is read by its name.
 use denote.Ref.{now}
 use borrow.Author.Tests.{not-true}
-use Rattle.property.proofs.FirstBytes.{line-unread}
+use Rattle.property.proofs.Properties.{line-unread}
 use borrow.Author.Needs.{needs}
 use Rattle.property.proofs.property_value_of.Statement.{statement}
 use Rattle.property.proofs.property_value_of.Tie as tie
