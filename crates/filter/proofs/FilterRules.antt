@@ -25,8 +25,7 @@ use Rattle.values.specs.declared.times.Context.{Context}
 use Rattle.property.specs.declared.Scope.{Scope}
 use Rattle.nesting.specs.Components.{Numbered, Items, Component, componentsIn, propertiesIn}
 use Rattle.property_tests.specs.PropertyTests.{collationOf, textHolds, someValue, parameterHolds, parameterPasses, parametersHold, someNamed, lineHolds, someLine, propertyHolds, propertyPasses, propertiesHold}
-use Rattle.property_tests.proofs.Lines.{SomeOf}
-use Rattle.property_tests.proofs.PropertyTests.{named-lines, holding-lines}
+use Rattle.property_tests.proofs.PropertyTests.{SomeOf, named-lines, holding-lines}
 use Rattle.periods.specs.BusyTypes.{BusyPeriod, periodsOf}
 use Rattle.events.specs.declared.Event.{Event}
 use Rattle.events.specs.declared.EventRead.{EventRead}

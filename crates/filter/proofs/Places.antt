@@ -21,7 +21,7 @@ use Rattle.periods.specs.declared.BusyType.{BusyType}
 use Rattle.nesting.specs.Components.{Numbered, Items, Component, itemsOf, propertiesIn}
 use Rattle.nesting.specs.Passing.{linesFrom}
 use Rattle.property_tests.specs.PropertyTests.{propertiesAt}
-use Rattle.property_tests.proofs.Lines.{SomeOf}
+use Rattle.property_tests.proofs.PropertyTests.{SomeOf}
 use Rattle.periods.specs.BusyTypes.{BusyPeriod, typed, periodsOf}
 use Rattle.events.specs.declared.Event.{Event}
 use Rattle.events.specs.declared.Block.{Block}

@@ -1,3 +1,1 @@
-pub mod Searches
-pub mod Lines
 pub mod PropertyTests

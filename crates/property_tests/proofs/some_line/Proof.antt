@@ -1,10 +1,9 @@
 -- No line so far holds, so the lines that are left decide.
 use Rattle.property_tests.specs.PropertyTests.{someLine}
-use Rattle.property_tests.proofs.PropertyTests.{holding-lines}
+use Rattle.property_tests.proofs.PropertyTests.{holding-lines, Seeking, seeking-start, seeking-next, seeking-found, seeking-inner, seeking-end}
 use Prim.Native.Nat.{_-_}
 use lib.ListN.{length}
 use Rattle.nesting.proofs.Components.{property-at, inner-at, no-item-at}
-use Rattle.property_tests.proofs.Lines.{Seeking, seeking-start, seeking-next, seeking-found, seeking-inner, seeking-end}
 use native.Mathlib.Omega.{arith}
 use borrow.Author.Needs.{needs}
 use Rattle.property_tests.proofs.some_line.Statement.{statement}

@@ -1,11 +1,10 @@
 -- No line so far has the name, so the lines that are left decide.
 use Rattle.property_tests.specs.PropertyTests.{someNamed}
-use Rattle.property_tests.proofs.PropertyTests.{named-lines, named-line}
+use Rattle.property_tests.proofs.PropertyTests.{named-lines, named-line, Seeking, seeking-start, seeking-next, seeking-found, seeking-inner, seeking-end}
 use Prim.Native.Nat.{_-_}
 use mathlib.Core.Path.{refl}
 use lib.ListN.{length}
 use Rattle.nesting.proofs.Components.{property-at, inner-at, no-item-at}
-use Rattle.property_tests.proofs.Lines.{Seeking, seeking-start, seeking-next, seeking-found, seeking-inner, seeking-end}
 use native.Mathlib.Omega.{arith}
 use borrow.Author.Needs.{needs}
 use Rattle.property_tests.proofs.some_named.Statement.{statement}

@@ -4,7 +4,7 @@ use Rattle.filter.proofs.Places.{period-lines}
 use Prim.Native.Nat.{_-_}
 use lib.ListN.{length}
 use Rattle.nesting.proofs.Components.{property-at, inner-at, no-item-at}
-use Rattle.property_tests.proofs.Lines.{Seeking, seeking-start, seeking-next, seeking-found, seeking-inner, seeking-end}
+use Rattle.property_tests.proofs.PropertyTests.{Seeking, seeking-start, seeking-next, seeking-found, seeking-inner, seeking-end}
 use native.Mathlib.Omega.{arith}
 use borrow.Author.Needs.{needs}
 use Rattle.filter.proofs.ranges.lines_in.Statement.{statement}

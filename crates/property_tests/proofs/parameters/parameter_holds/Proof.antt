@@ -1,5 +1,5 @@
 -- The flag decides which of the two questions is asked.
-use Rattle.property_tests.proofs.Searches.{parameter-absent, parameter-there}
+use Rattle.property_tests.proofs.PropertyTests.{parameter-absent, parameter-there}
 use borrow.Author.Needs.{needs}
 use Rattle.property_tests.proofs.parameters.parameter_holds.Statement.{statement}
 use Rattle.property_tests.proofs.parameters.parameter_holds.Tie as tie

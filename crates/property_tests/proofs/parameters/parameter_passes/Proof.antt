@@ -1,5 +1,5 @@
 -- A record of another property asks nothing of the line.
-use Rattle.property_tests.proofs.Searches.{parameter-name, parameter-text, parameter-asked, parameter-unasked}
+use Rattle.property_tests.proofs.PropertyTests.{parameter-name, parameter-text, parameter-asked, parameter-unasked}
 use borrow.Author.Needs.{needs}
 use Rattle.property_tests.proofs.parameters.parameter_passes.Statement.{statement}
 use Rattle.property_tests.proofs.parameters.parameter_passes.Tie as tie

@@ -2,7 +2,7 @@
 use Prim.Native.Nat.{_-_}
 use lib.ListN.{length}
 use Rattle.line.proofs.ReadingParameters.{next-rises, next-inside}
-use Rattle.property_tests.proofs.Searches.{Looking, looking-start, looking-next, looking-found, looking-end}
+use Rattle.property_tests.proofs.PropertyTests.{Looking, looking-start, looking-next, looking-found, looking-end}
 use native.Mathlib.Omega.{arith}
 use borrow.Author.Needs.{needs}
 use Rattle.property_tests.proofs.parameters.some_named.Statement.{statement}

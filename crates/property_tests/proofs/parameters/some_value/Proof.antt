@@ -1,7 +1,7 @@
 -- No value so far holds up, so those that are left decide.
 use Prim.Native.Nat.{_-_}
 use Rattle.line.specs.Reading.{valuesOf}
-use Rattle.property_tests.proofs.Searches.{Trying, trying-start, trying-next, trying-found, trying-end}
+use Rattle.property_tests.proofs.PropertyTests.{Trying, trying-start, trying-next, trying-found, trying-end}
 use native.Mathlib.Omega.{arith}
 use borrow.Author.Needs.{needs}
 use Rattle.property_tests.proofs.parameters.some_value.Statement.{statement}

@@ -1,5 +1,5 @@
 -- 0 is the first clause, any other number the second.
-use Rattle.property_tests.proofs.Searches.{collation-octet, collation-casemap}
+use Rattle.property_tests.proofs.PropertyTests.{collation-octet, collation-casemap}
 use Rattle.property_tests.proofs.texts.collation_of.Statement.{statement}
 use Rattle.property_tests.proofs.texts.collation_of.Tie as tie
 

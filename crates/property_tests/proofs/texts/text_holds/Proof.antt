@@ -1,5 +1,5 @@
 -- Without a text any value holds up; with one, flag 2 turns the answer round.
-use Rattle.property_tests.proofs.Searches.{text-none, text-negated, text-plain}
+use Rattle.property_tests.proofs.PropertyTests.{text-none, text-negated, text-plain}
 use borrow.Author.Needs.{needs}
 use Rattle.property_tests.proofs.texts.text_holds.Statement.{statement}
 use Rattle.property_tests.proofs.texts.text_holds.Tie as tie
