@@ -8,11 +8,12 @@ use native.Mathlib.Omega.{arith}
 use Rattle.text.specs.Unfolding.{unfolded}
 use Rattle.nesting.specs.Passing.{treeIn}
 use Rattle.calendar.specs.declared.Fault.{Fault}
-use Rattle.query.proofs.LayoutLaws.{layout-fits, layout-sections}
+use Rattle.query.proofs.Fits.{layout-fits}
+use Rattle.query.proofs.LayoutLaws.{layout-sections}
 use Rattle.query_check.specs.QueryRules.{WellFormedQuery}
 use Rattle.query_check.specs.WellFormed.{queryGood}
-use Rattle.query_check.proofs.Queries.{query-records}
-use Rattle.query_check.proofs.WellFormed.{queryGood-iff}
+use Rattle.query_check.proofs.WellFormed.{query-records}
+use Rattle.query_check.proofs.QueryRules.{queryGood-iff}
 use Rattle.filter.proofs.FilterRules.{query-iff}
 use Rattle.filter.specs.FilterRules.{QueryPasses}
 use Rattle.filter.specs.Tests.{queryHolds}

@@ -9,7 +9,7 @@ use Rattle.query.specs.declared.Sections.{Sections}
 use Rattle.query.specs.declared.SectionsRead.{SectionsRead}
 use Rattle.query_check.specs.WellFormed.{queryRead, ReadSays}
 use Rattle.query_check.specs.declared.QueryRead.{QueryRead}
-use Rattle.query_check.proofs.Queries.{read-says}
+use Rattle.query_check.proofs.WellFormed.{read-says}
 use Rattle.refusals.specs.Refusals.{Row, lowest, NumbersRise}
 use Rattle.refusals.proofs.Stages.{rises}
 use Rattle.engine.specs.Matching.{misplacedIn, queryRows}

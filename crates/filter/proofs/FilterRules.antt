@@ -20,7 +20,7 @@ use Rattle.query.proofs.Counting.{every-at, every-all, or-left, or-right}
 use Rattle.line.specs.Grammar.{ContentLine}
 use Rattle.line.specs.Reading.{hasParameter, valuesNamed}
 use Rattle.query_check.specs.WellFormed.{recordsGood}
-use Rattle.query_check.proofs.WellFormed.{records-say}
+use Rattle.query_check.proofs.QueryRules.{records-say}
 use Rattle.values.specs.declared.times.Context.{Context}
 use Rattle.property.specs.declared.Scope.{Scope}
 use Rattle.nesting.specs.Components.{Numbered, Items, Component, componentsIn, propertiesIn}

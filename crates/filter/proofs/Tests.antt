@@ -17,7 +17,7 @@ use Rattle.query.specs.declared.ComponentRecord.{ComponentRecord}
 use Rattle.line.specs.Reading.{valueOf, lineOf}
 use Rattle.query_check.specs.QueryRules.{GoodComponent}
 use Rattle.query_check.specs.WellFormed.{recordsGood}
-use Rattle.query_check.proofs.WellFormed.{records-say}
+use Rattle.query_check.proofs.QueryRules.{records-say}
 use Rattle.values.specs.declared.times.Context.{Context}
 use Rattle.property.specs.declared.Scope.{Scope}
 use Rattle.nesting.specs.Components.{Items, Component, itemsOf, componentsIn, propertiesIn}

@@ -11,7 +11,7 @@ use Rattle.time.specs.Limits.{lastSecond}
 use Rattle.query.specs.Records.{rangeStart, rangeEnd}
 use Rattle.query.specs.declared.Sections.{Sections}
 use Rattle.query_check.specs.WellFormed.{recordsGood}
-use Rattle.query_check.proofs.WellFormed.{records-say}
+use Rattle.query_check.proofs.QueryRules.{records-say}
 use Rattle.values.specs.declared.times.Context.{Context}
 use Rattle.property.specs.declared.Scope.{Scope}
 use Rattle.nesting.specs.Components.{Component, itemsOf}

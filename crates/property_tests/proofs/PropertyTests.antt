@@ -26,7 +26,7 @@ use Rattle.line.proofs.Splitting.{nextPlace-le}
 use Rattle.line.proofs.ReadingParameters.{parametersFrom, parameters-next, parameters-end, parameters-all, next-inside}
 use Rattle.query_check.specs.QueryRules.{GoodParameter, GoodProperty}
 use Rattle.query_check.specs.WellFormed.{recordsGood}
-use Rattle.query_check.proofs.WellFormed.{records-say}
+use Rattle.query_check.proofs.QueryRules.{records-say}
 use Rattle.nesting.specs.Components.{Numbered, Items, itemsOf, propertiesIn}
 use Rattle.nesting.specs.Passing.{linesFrom, PropertyAt, InnerAt, NoItemAt, SkipsTo}
 use Rattle.nesting.specs.declared.items.Place.{Place}

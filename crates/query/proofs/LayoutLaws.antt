@@ -16,8 +16,8 @@ use Rattle.query.specs.declared.PlaceRead.{PlaceRead}
 use Rattle.query.specs.declared.Section.{Section}
 use Rattle.query.specs.declared.Sections.{Sections}
 use Rattle.query.specs.declared.SectionsRead.{SectionsRead}
-use Rattle.query.proofs.Counting.{below-suc}
-use Rattle.query.proofs.Records.{place-suc}
+use Rattle.query.proofs.Records.{start-below}
+use Rattle.query.proofs.Fits.{layout-fits}
 use Rattle.query.proofs.SectionsLaws.{no-place, reached, placeWithin-reached, texts-stop, count-least, count-most, behind-yes, text-yes, text-no, text-section-yes, records-count, records-end, texts-count, texts-end, no-first, no-second, no-third, no-fourth, no-fifth, all-five}
 
 -- read sections and none are apart
@@ -25,19 +25,6 @@ no-sections : {A : Type 0} {r : SectionsRead} {q : Sections} → r ≡ SectionsR
 no-sections e k = let z : _≡_ {A = ℕ} 0 1 = cc in absurd (omega arith)
 
 module _ (s : List ℕ) where
-  -- later texts stand further on
-  pub place-grows : (n m at : ℕ) → m ≤ n → textPlace s m at ≤ textPlace s n at
-  place-grows zero m at h = let e : m ≡ 0 = omega arith in omega (arith, ap (λ (k : ℕ). textPlace s k at) e)
-  place-grows (suc n) m at h =
-      below-suc (λ (k : ℕ). textPlace s k at ≤ textPlace s (suc n) at) (suc n) m (omega arith)
-      (λ k. omega (arith, place-grows n m at (omega arith), place-suc s n at))
-      (omega arith)
-
-  start-below : (n at : ℕ) → at ≤ textPlace s n at
-  unfolding textPlace
-  start-below zero at = omega arith
-  start-below (suc n) at = omega (arith, start-below n (at + 1 + byteAt s at))
-
   text-end : (at p : ℕ) → behindText s at ≡ PlaceRead.At p → Reached s (at + 1 + byteAt s at) p
   text-end at p e = go (ltb at (length s)) refl
     where
@@ -64,7 +51,7 @@ module _ (s : List ℕ) where
   texts-reach zero at h = refl
   texts-reach (suc n) at h =
       let p = at + 1 + byteAt s at in
-      let g : p ≤ textPlace s n p = start-below n p in
+      let g : p ≤ textPlace s n p = start-below s n p in
       let k : behindText s at ≡ PlaceRead.At p = sym (text-yes s at (omega arith) refl refl) ∙ placeWithin-reached s p (omega arith) in
       rw k (texts-reach n p h)
 
@@ -141,34 +128,9 @@ module _ (s : List ℕ) where
       pub layout-of : Layout s q
       layout-of = first (behindRecords s 0 0 8 16) refl
 
-    -- what is laid out lies inside
-    pub layout-fits : Layout s q → Fits s q
-    layout-fits l =
-        let a = l .ranges-laid in
-        let b = l .texts-laid in
-        let c = l .components-laid in
-        let d = l .properties-laid in
-        let e = l .parameters-laid in
-        let g : q .texts .at ≤ textPlace s (q .texts .count) (q .texts .at) = start-below (q .texts .count) (q .texts .at) in
-        record {
-          ranges-inside = omega arith;
-          texts-inside =
-              λ n h.
-              omega (arith, place-suc s n (q .texts .at), place-grows (q .texts .count) (suc n) (q .texts .at) (omega arith));
-          components-inside = omega arith;
-          properties-inside = omega arith;
-          parameters-inside = omega arith;
-          ranges-few = a .most-holds;
-          texts-few = b .most-holds;
-          components-some = c .least-holds;
-          components-few = c .most-holds;
-          properties-few = d .most-holds;
-          parameters-few = e .most-holds;
-        }
-
     -- so what was read lies inside
     pub sections-fit : sectionsOf s ≡ SectionsRead.Of q → Fits s q
-    sections-fit e = layout-fits (layout-of e)
+    sections-fit e = layout-fits s q (layout-of e)
 
     -- and what is laid out is read
     module _ (l : Layout s q) where
@@ -192,17 +154,17 @@ module _ (s : List ℕ) where
 
       texts-at : behindTextSection s (q .ranges .at + q .ranges .count * 16) ≡ PlaceRead.At (textPlace s (q .texts .count) (q .texts .at))
       texts-at =
-          let f = layout-fits l in
+          let f = layout-fits s q l in
           let g = l .texts-laid in
           let h = l .components-laid in
           sym (text-section-yes s (q .ranges .at + q .ranges .count * 16)
-          (count-tests _ 0 32 g (omega (arith, start-below (q .texts .count) (q .texts .at))))
+          (count-tests _ 0 32 g (omega (arith, start-below s (q .texts .count) (q .texts .at))))
           (g .counts)
           (sym (texts-reach (q .texts .count) (q .texts .at) (omega arith)) ∙ ap (behindTexts s (q .texts .count)) (g .begins)))
 
       pub layout-sections : sectionsOf s ≡ SectionsRead.Of q
       layout-sections =
-          let f = layout-fits l in
+          let f = layout-fits s q l in
           let g = l .ends in
           sym (all-five s (records-at (q .ranges) 0 0 8 16 (l .ranges-laid) (f .ranges-inside)) texts-at
           (records-at (q .components) _ 1 16 4 (l .components-laid) (f .components-inside))

@@ -12,6 +12,7 @@ use Rattle.query.specs.declared.Sections.{Sections}
 use Rattle.query.specs.declared.ComponentRecord.{ComponentRecord}
 use Rattle.query.specs.declared.PropertyRecord.{PropertyRecord}
 use Rattle.query.specs.declared.ParameterRecord.{ParameterRecord}
+use Rattle.query.proofs.Counting.{below-suc}
 
 module _ (s : List ℕ) where
   -- four bytes are a number, and two such numbers are one of eight bytes
@@ -44,6 +45,20 @@ module _ (s : List ℕ) where
 
   pub place-end : {p : ℕ} (i n at : ℕ) → i ≤ n → n ≤ i → p ≡ textPlace s i at → p ≡ textPlace s n at
   place-end i n at h k e = let j : i ≡ n = omega arith in e ∙ ap (λ (m : ℕ). textPlace s m at) j
+
+  -- later texts stand further on
+  pub place-grows : (n m at : ℕ) → m ≤ n → textPlace s m at ≤ textPlace s n at
+  place-grows zero m at h = let e : m ≡ 0 = omega arith in omega (arith, ap (λ (k : ℕ). textPlace s k at) e)
+  place-grows (suc n) m at h =
+      below-suc (λ (k : ℕ). textPlace s k at ≤ textPlace s (suc n) at) (suc n) m (omega arith)
+      (λ k. omega (arith, place-grows n m at (omega arith), place-suc n at))
+      (omega arith)
+
+  -- and none before the first
+  pub start-below : (n at : ℕ) → at ≤ textPlace s n at
+  unfolding textPlace
+  start-below zero at = omega arith
+  start-below (suc n) at = omega (arith, start-below n (at + 1 + byteAt s at))
 
   module _ (q : Sections) where
     -- a text that is there lies inside

@@ -1,5 +1,3 @@
-pub mod Loops
-pub mod Fields
-pub mod Queries
 pub mod WellFormed
+pub mod QueryRules
 pub mod Examples

@@ -1,5 +1,5 @@
 -- `query_check::component_good` meets its contract: a good name is the number of a text, and without one the component is not good.
-use Rattle.query_check.proofs.Fields.{name-below, component-named, component-unnamed}
+use Rattle.query_check.proofs.WellFormed.{name-below, component-named, component-unnamed}
 use mathlib.Core.Path.{sym, _∙_}
 use borrow.Author.Needs.{needs}
 use Rattle.query_check.proofs.component_good.Statement.{statement}

@@ -1,5 +1,5 @@
 -- `query_check::component_misplaced` meets its contract: the tests are those of the definition, on the text of the name.
-use Rattle.query_check.proofs.Fields.{component-off}
+use Rattle.query_check.proofs.WellFormed.{component-off}
 use borrow.Author.Needs.{needs}
 use Rattle.query_check.proofs.component_misplaced.Statement.{statement}
 use Rattle.query_check.proofs.component_misplaced.Tie as tie

@@ -1,5 +1,5 @@
 -- `query_check::components_good` meets its contract: every component so far is good, and the first that is not decides.
-use Rattle.query_check.proofs.Loops.{componentHolds}
+use Rattle.query_check.proofs.WellFormed.{componentHolds}
 use borrow.Author.Tests.{not-true, not-false}
 use mathlib.Core.Bool.{true}
 use Prim.Native.Nat.{_≤_, _-_}

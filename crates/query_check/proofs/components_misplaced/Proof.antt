@@ -1,11 +1,10 @@
 -- `query_check::components_misplaced` meets its contract: no component so far has a misplaced range, and every name is the number of a text.
 use Rattle.query.specs.Counting.{someBelow}
 use Rattle.query_check.specs.WellFormed.{componentMisplaced, componentsMisplaced}
-use Rattle.query_check.proofs.Fields.{component-text}
+use Rattle.query_check.proofs.WellFormed.{component-text, componentOff}
 use mathlib.Core.Bool.{false}
 use Prim.Native.Nat.{_≤_, _-_}
 use Rattle.query.proofs.Counting.{none-start, none-next, none-end, some-found}
-use Rattle.query_check.proofs.Loops.{componentOff}
 use mathlib.Core.Path.{_≡_, sym, ap, _∙_}
 use native.Mathlib.Omega.{arith}
 use Rattle.query_check.proofs.components_misplaced.Statement.{statement}

@@ -5,7 +5,7 @@ use lib.Dec.{ltb, eqb}
 use Prim.Native.Nat.{_≤_, _-_}
 use Rattle.query.specs.Counting.{someBelow}
 use Rattle.query.proofs.Counting.{none-start, none-next, none-end, some-found}
-use Rattle.query_check.proofs.Loops.{childOf}
+use Rattle.query_check.proofs.WellFormed.{childOf}
 use Rattle.query_check.specs.WellFormed.{hasChildComponent}
 use mathlib.Core.Path.{_≡_, sym, ap, _∙_}
 use native.Mathlib.Omega.{arith}

@@ -6,7 +6,7 @@ use lib.Dec.{eqb}
 use Prim.Native.Nat.{_≤_, _-_}
 use Rattle.query.specs.Counting.{someBelow}
 use Rattle.query.proofs.Counting.{none-start, none-next, none-end, some-found}
-use Rattle.query_check.proofs.Loops.{propertyOf}
+use Rattle.query_check.proofs.WellFormed.{propertyOf}
 use Rattle.query_check.specs.WellFormed.{hasProperty}
 use mathlib.Core.Path.{_≡_, sym, ap, _∙_}
 use native.Mathlib.Omega.{arith}

@@ -1,5 +1,5 @@
 -- `query_check::name_good` meets its contract: a number below the count has its text, and any other is no name.
-use Rattle.query_check.proofs.Fields.{name-there, name-absent}
+use Rattle.query_check.proofs.WellFormed.{name-there, name-absent}
 use mathlib.Core.Path.{sym}
 use borrow.Author.Needs.{needs}
 use Rattle.query_check.proofs.name_good.Statement.{statement}

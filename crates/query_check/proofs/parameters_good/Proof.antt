@@ -1,5 +1,5 @@
 -- `query_check::parameters_good` meets its contract: every parameter so far is good, and the first that is not decides.
-use Rattle.query_check.proofs.Loops.{parameterHolds}
+use Rattle.query_check.proofs.WellFormed.{parameterHolds}
 use borrow.Author.Tests.{not-true, not-false}
 use mathlib.Core.Bool.{true}
 use Prim.Native.Nat.{_≤_, _-_}

@@ -1,5 +1,5 @@
 -- `query_check::parent_good` meets its contract: the two branches are the two cases of the definition.
-use Rattle.query_check.proofs.Fields.{parent-first, parent-other}
+use Rattle.query_check.proofs.WellFormed.{parent-first, parent-other}
 use borrow.Author.Needs.{needs}
 use Rattle.query_check.proofs.parent_good.Statement.{statement}
 use Rattle.query_check.proofs.parent_good.Tie as tie

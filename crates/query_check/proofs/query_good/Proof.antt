@@ -1,6 +1,6 @@
 -- `query_check::query_good` meets its contract: sections that were read lie inside the query, so that their records can be read.
 use Rattle.query.proofs.LayoutLaws.{sections-fit}
-use Rattle.query_check.proofs.Queries.{query-of, query-none}
+use Rattle.query_check.proofs.WellFormed.{query-of, query-none}
 use mathlib.Core.Path.{sym, _∙_}
 use borrow.Author.Needs.{needs}
 use Rattle.query_check.proofs.query_good.Statement.{statement}

@@ -1,7 +1,7 @@
 -- `query_check::read_query` meets its contract: a good query has its sections, and they lie inside it.
 use borrow.Author.Tests.{not-true, not-false}
 use Rattle.query.proofs.LayoutLaws.{sections-fit}
-use Rattle.query_check.proofs.Queries.{query-none, query-records, read-bad, read-misplaced, read-of}
+use Rattle.query_check.proofs.WellFormed.{query-none, query-records, read-bad, read-misplaced, read-of}
 use mathlib.Core.Path.{sym, _∙_}
 use borrow.Author.Needs.{needs}
 use Rattle.query_check.proofs.read_query.Statement.{statement}

@@ -3,7 +3,7 @@ use mathlib.Core.Path.{_≡_, sym, _∙_}
 use denote.Ref.{now}
 use Rattle.query_check.specs.WellFormed.{queryRead}
 use Rattle.query_check.specs.declared.QueryRead.{QueryRead}
-use Rattle.query_check.proofs.Queries.{read-fits, read-records}
+use Rattle.query_check.proofs.WellFormed.{read-fits, read-records}
 use Rattle.engine.proofs.MatchStages.{match-refused-4, match-refused-5, match-query-passed}
 use borrow.Author.Needs.{needs}
 use Rattle.engine.proofs.matching.match_query.Statement.{statement}
