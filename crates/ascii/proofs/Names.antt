@@ -10,7 +10,7 @@ use lib.Dec.{eqb}
 use borrow.Author.Tests.{eqb-true, eq-eqb, ne-eqb}
 use Rattle.ascii.specs.Names.{every, sameBytes, sameName, isName}
 use Rattle.ascii.specs.Bytes.{upper, isNameByte}
-use Rattle.ascii.proofs.Bools.{and-left, and-right, and-both}
+use Rattle.ascii.proofs.Bools.{and-left, and-right, and-both, clash}
 use Rattle.ascii.proofs.Lists.{drop-next, drop-end}
 
 -- every, while a loop goes through a list
@@ -91,3 +91,8 @@ sameName-first [] [] h = absurd (h refl)
 sameName-first [] (b ∷ t) h = refl
 sameName-first (a ∷ s) [] h = refl
 sameName-first (a ∷ s) (b ∷ t) h = rw (ne-eqb _ _ h)
+
+pub every-of-name : (n : List ℕ) → isName n ≡ true → every isNameByte n ≡ true
+unfolding isName
+every-of-name [] e = clash e refl
+every-of-name (b ∷ n) e = e

@@ -21,7 +21,8 @@ use Rattle.line.specs.File.{FileGrammar, done, next, ReadBack}
 use Rattle.line.specs.declared.scan.State.{State}
 use Rattle.line.specs.declared.scan.State.the-variants.{Start, Name, ParameterStart, ParameterName, ValueStart, Unquoted, Quoted, AfterQuoted, Value, Wrong}
 use Rattle.line.specs.declared.check.LineCheck.the-variants.{Good}
-use Rattle.line.proofs.Scanner.{wrong-stays, grammar-wellFormed}
+use Rattle.line.proofs.Scanner.{wrong-stays}
+use Rattle.line.proofs.Grammar.{grammar-wellFormed}
 use Rattle.line.proofs.Reading.{grammar-read, line-iff}
 use Rattle.line.proofs.Rendering.{rendered-grammar}
 use Rattle.line.proofs.WellFormed.{lines-good, good-iff}

@@ -1,7 +1,8 @@
 pub mod Scanner
+pub mod Grammar
 pub mod Splitting
-pub mod Reading
 pub mod ReadingParameters
+pub mod Reading
 pub mod WellFormed
 pub mod Rendering
 pub mod File

@@ -13,7 +13,7 @@ use borrow.Author.Tests.{eqb-true, ltb-true, ltb-false}
 use Rattle.ascii.specs.Bytes.{isNameByte, isLetter, isDigit, upper}
 use Rattle.ascii.specs.Names.{isName, sameName}
 use Rattle.ascii.proofs.Bools.{and-left, and-right, and-both}
-use Rattle.ascii.proofs.Names.{sameName-first}
+use Rattle.ascii.proofs.Names.{sameName-first, every-of-name}
 use Rattle.ascii.proofs.Lists.{drop-next, drop-end}
 use Rattle.line.specs.Grammar.{Parameter, ContentLine, contentLine, parameter, isQuotable, isUnquoted, ParameterValue, ParameterValues, Parameters, LineGrammar, quoted, unquoted, one, comma, none, semicolon, colon}
 use Rattle.line.specs.Scanner.{isWellFormed}
@@ -21,7 +21,7 @@ use Rattle.line.specs.Splitting.{quotedAfter, cutsAt, firstOutside, befo
 use Rattle.line.specs.Reading.{headOf, valueOf, nameOf, parameterTexts, valuesOf, parameterName, parameterOf, lineOf, Plain}
 use Rattle.line.proofs.Splitting.{firstOutside-cut, firstOutside-keep, firstOutside-end, firstOutside-le, nextPlace-first, closed, closed-append, closed-class, closed-quoted, parts-closed, parts-one, before-closed, before-alone, after-closed, quotesOff-quoted, quotesOff-class}
 use Rattle.line.proofs.ReadingParameters.{parameters-end, parameters-all}
-use Rattle.line.proofs.Scanner.{every-of-name, grammar-wellFormed, wellFormed-grammar}
+use Rattle.line.proofs.Grammar.{grammar-wellFormed, wellFormed-grammar}
 
 -- ---- the phrases hold no separator of an outer phrase outside quotes
 

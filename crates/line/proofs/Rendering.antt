@@ -14,7 +14,7 @@ use Rattle.line.specs.Grammar.{Parameter, ContentLine, isQuotable, isUnq
 use Rattle.line.specs.Scanner.{isWellFormed}
 use Rattle.line.specs.Reading.{lineOf}
 use Rattle.line.specs.Rendering.{renderedValue, renderedValues, renderedParameters, rendered, canRender, canRenderAll, Renderable, AllRenderable, no-line, one-more}
-use Rattle.line.proofs.Scanner.{grammar-wellFormed}
+use Rattle.line.proofs.Grammar.{grammar-wellFormed}
 use Rattle.line.proofs.Reading.{grammar-read}
 
 rendered-value : (v : List ℕ) → every isQuotable v ≡ true → ParameterValue (renderedValue v) v

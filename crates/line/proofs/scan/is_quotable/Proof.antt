@@ -1,5 +1,5 @@
 -- `line::scan::is_quotable` meets its contract: above 34 one byte alone is refused, and the other bytes are tested as the definition says.
-use Rattle.line.proofs.Scanner.{high-quotable}
+use Rattle.line.proofs.Grammar.{high-quotable}
 use Rattle.line.specs.Grammar.{isQuotable}
 use borrow.Author.Needs.{needs}
 use Rattle.line.proofs.scan.is_quotable.Statement.{statement}

@@ -1,5 +1,5 @@
 -- `line::scan::is_unquoted` meets its contract: above 59 one byte alone is refused, and the other bytes are tested as the definition says.
-use Rattle.line.proofs.Scanner.{high-unquoted}
+use Rattle.line.proofs.Grammar.{high-unquoted}
 use Rattle.line.specs.Grammar.{isUnquoted}
 use borrow.Author.Needs.{needs}
 use Rattle.line.proofs.scan.is_unquoted.Statement.{statement}

@@ -1,5 +1,6 @@
 -- `line::scan::pass_quoted` meets its contract: bytes between quotes leave the scanner there.
-use Rattle.line.proofs.Scanner.{Leads, leads-none, leads-next, quoted-stays}
+use Rattle.line.proofs.Scanner.{Leads, leads-none, leads-next}
+use Rattle.line.proofs.Grammar.{quoted-stays}
 use Rattle.line.specs.Grammar.{isQuotable}
 use Rattle.line.specs.declared.scan.State.the-variants.{Quoted}
 use lib.ListN.{length}

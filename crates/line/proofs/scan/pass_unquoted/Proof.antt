@@ -1,5 +1,6 @@
 -- `line::scan::pass_unquoted` meets its contract: bytes of a value without quotes leave the scanner in it.
-use Rattle.line.proofs.Scanner.{Leads, leads-none, leads-next, unquoted-stays}
+use Rattle.line.proofs.Scanner.{Leads, leads-none, leads-next}
+use Rattle.line.proofs.Grammar.{unquoted-stays}
 use Rattle.line.specs.Grammar.{isUnquoted}
 use Rattle.line.specs.declared.scan.State.the-variants.{Unquoted}
 use lib.ListN.{length}

@@ -1,6 +1,7 @@
 -- `line::scan::pass_value` meets its contract: its first byte leads the scanner between quotes or into a value without them, and the call goes on from there.
 use Rattle.line.specs.declared.scan.State.the-variants.{ValueStart, Quoted, Unquoted}
-use Rattle.line.proofs.Scanner.{leads-on, leads-byte, leads-after, quote-opens, unquoted-starts}
+use Rattle.line.proofs.Scanner.{leads-on, leads-byte, leads-after, quote-opens}
+use Rattle.line.proofs.Grammar.{unquoted-starts}
 use Prim.Native.Nat.{_+_}
 use mathlib.Core.Path.{sym, _∙_}
 use borrow.Author.Needs.{needs}
