@@ -17,7 +17,8 @@ use Rattle.events.specs.declared.Event.{Event}
 use Rattle.events.specs.declared.Block.{Block}
 use Rattle.events.specs.declared.EventRead.{EventRead}
 use Rattle.events.specs.declared.BlockRead.{BlockRead}
-use Rattle.events.proofs.Sizes.{AllSmall, event-small, block-small}
+use Rattle.events.proofs.ComponentPropertiesLaws.{AllSmall}
+use Rattle.events.proofs.Sizes.{event-small, block-small}
 use Rattle.calendar.specs.Meaning.{propertyValuesIn, eventOf, blockOf, eventEntry, blockEntry, entryOf, entriesOf, componentScope}
 use Rattle.calendar.specs.Places.{propertyValuesAt, componentPropertiesAt, eventAt, blockAt}
 

@@ -1,4 +1,4 @@
--- What a line is to the nesting, and what it does to the innermost open component.
+-- What a line is to the nesting: a BEGIN line, an END line, or a property.
 use Prim.Native.Nat.{ℕ, _+_, _-_}
 use mathlib.Core.Path.{_≡_, refl, sym, ap, _∙_}
 use mathlib.Core.Bool.{Bool, true, false, cond, not, _&&_}
@@ -17,10 +17,8 @@ use Rattle.line.specs.Reading.{lineOf, nameOf, valueOf, parameterTexts, paramet
 use Rattle.line.proofs.Splitting.{suffix}
 use Rattle.line.proofs.Reading.{other-first}
 use Rattle.delimiters.specs.Delimiters.{delimiterOf, delimitedBy, noParameters}
-use Rattle.delimiters.specs.Innermost.{isCalendar, mayBegin, nestingStepBy, beginsBy}
 use Rattle.delimiters.specs.declared.Delimiter.{Delimiter}
 use Rattle.delimiters.specs.declared.Delimiter.the-variants.{Begins, Ends, Property, Wrong}
-use Rattle.delimiters.specs.declared.NestingStep.the-variants.{Opens, Stays, Closes, Breaks}
 
 -- ---- what a line is
 
@@ -94,39 +92,3 @@ delimiter-other l b e h =
     (sym (other-first l (ascii "END") (omega arith) (λ q. eqb-false b 69 (not-true _ (and-right (not (eqb b 66)) _ h)) (e ∙ q))))
     refl
     refl
-
--- ---- the function that says what a line does
-
-module _ (n : List ℕ) (d k : ℕ) {m r : Delimiter} {v w : List ℕ} {t : Bool} (p : r ≡ m) (g : w ≡ v) where
-  pub step-opens : r ≡ Begins → t ≡ mayBegin w d k → t ≡ true → Opens ≡ nestingStepBy m v n d k
-  unfolding nestingStepBy
-  step-opens b e h = rw (sym p ∙ b, sym g, sym e ∙ h)
-
-  pub step-begin-breaks : r ≡ Begins → t ≡ mayBegin w d k → t ≡ false → Breaks ≡ nestingStepBy m v n d k
-  unfolding nestingStepBy
-  step-begin-breaks b e h = rw (sym p ∙ b, sym g, sym e ∙ h)
-
-  pub step-closes : r ≡ Ends → t ≡ sameName w n → t ≡ true → Closes ≡ nestingStepBy m v n d k
-  unfolding nestingStepBy
-  step-closes b e h = rw (sym p ∙ b, sym g, sym e ∙ h)
-
-  pub step-end-breaks : r ≡ Ends → t ≡ sameName w n → t ≡ false → Breaks ≡ nestingStepBy m v n d k
-  unfolding nestingStepBy
-  step-end-breaks b e h = rw (sym p ∙ b, sym g, sym e ∙ h)
-
-pub step-stays : (v n : List ℕ) (d k : ℕ) {m r : Delimiter} → r ≡ m → r ≡ Property → Stays ≡ nestingStepBy m v n d k
-unfolding nestingStepBy
-step-stays v n d k p b = rw (sym p ∙ b)
-
-pub step-wrong : (v n : List ℕ) (d k : ℕ) {m r : Delimiter} → r ≡ m → r ≡ Wrong → Breaks ≡ nestingStepBy m v n d k
-unfolding nestingStepBy
-step-wrong v n d k p b = rw (sym p ∙ b)
-
--- ---- the line that begins VCALENDAR
-
-pub begins-yes : {m r : Delimiter} {v w : List ℕ} (t : Bool) → r ≡ m → w ≡ v → r ≡ Begins → t ≡ sameName w (ascii "VCALENDAR") → t ≡ beginsBy m v
-unfolding isCalendar
-begins-yes t p g b e = rw (sym p ∙ b, sym g) e
-
-pub begins-no : {m r : Delimiter} (v : List ℕ) (q : Delimiter) → r ≡ m → r ≡ q → beginsBy q v ≡ false → false ≡ beginsBy m v
-begins-no v q p b e = sym (ap (λ (j : Delimiter). beginsBy j v) (sym p ∙ b) ∙ e)

@@ -1,2 +1,3 @@
+pub mod ComponentPropertiesLaws
 pub mod Events
 pub mod Sizes

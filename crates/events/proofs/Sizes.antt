@@ -2,7 +2,7 @@
 use Prim.Native.Nat.{ℕ, _≤_}
 use mathlib.Core.Path.{_≡_, refl, subst}
 use mathlib.Core.Bool.{Bool, true, false, cond, _&&_}
-use mathlib.Core.List.{List, [], _∷_}
+use mathlib.Core.List.{List}
 use native.Mathlib.Omega.{arith}
 use lib.Dec.{ltb, leb}
 use borrow.Author.Tests.{ltb-true, leb-true}
@@ -10,12 +10,11 @@ use Rattle.ascii.proofs.Bools.{and-right}
 use Rattle.time.specs.Limits.{lastSecond}
 use Rattle.time.specs.declared.duration.Duration.{Duration}
 use Rattle.values.specs.Period.{DurationSmall}
-use Rattle.values.specs.Rule.{LimitSmall, RuleSmall}
+use Rattle.values.specs.Rule.{LimitSmall}
 use Rattle.values.specs.declared.times.Time.{Time}
 use Rattle.values.specs.declared.rule.Limit.{Limit}
-use Rattle.property.specs.Properties.{PropertyValueSmall}
 use Rattle.property.specs.declared.PropertyValue.{PropertyValue}
-use Rattle.events.specs.ComponentProperties.{noProperties, withProperty, withProperties}
+use Rattle.events.specs.ComponentProperties.{noProperties, withProperties}
 use Rattle.events.specs.Events.{sameKind, isDate, statedEnd, statedDuration, endingBy, limitBy, repeatBy, daysBy, intervalBy, eventMade, eventWith, eventFrom, eventBy, blockBetween, blockFrom, blockBy}
 use Rattle.events.specs.Sizes.{EndingSmall, RepeatSmall, EventSmall, BlockSmall}
 use Rattle.events.specs.declared.Ending.{Ending}
@@ -31,59 +30,9 @@ use Rattle.events.specs.declared.EndingRead.{EndingRead}
 use Rattle.events.specs.declared.RepeatRead.{RepeatRead}
 use Rattle.events.specs.declared.EventRead.{EventRead}
 use Rattle.events.specs.declared.BlockRead.{BlockRead}
+use Rattle.events.proofs.ComponentPropertiesLaws.{TimeSmall, LastsSmall, RepeatsSmall, ComponentPropertiesSmall, nothing-small, AllSmall, with-properties-small}
 
 -- ---- what lines say together
-
-abbrev TimeSmall : TimeGiven → Type 0
-TimeSmall (TimeGiven.Given t) = t .second ≤ lastSecond
-TimeSmall TimeGiven.Absent = Unit {0}
-
-abbrev LastsSmall : DurationGiven → Type 0
-LastsSmall (DurationGiven.Given d) = DurationSmall d
-LastsSmall DurationGiven.Absent = Unit {0}
-
-abbrev RepeatsSmall : RuleGiven → Type 0
-RepeatsSmall (RuleGiven.Given r) = RuleSmall r
-RepeatsSmall RuleGiven.Absent = Unit {0}
-
-record ComponentPropertiesSmall (g : ComponentProperties) : Type 0 where
-  start-small : TimeSmall (g .start)
-  end-small : TimeSmall (g .end)
-  lasts-small : LastsSmall (g .lasts)
-  repeats-small : RepeatsSmall (g .repeats)
-
-nothing-small : ComponentPropertiesSmall noProperties
-unfolding noProperties
-nothing-small = record { start-small = tt; end-small = tt; lasts-small = tt; repeats-small = tt }
-
-with-small : (g : ComponentProperties) (x : PropertyValue) → ComponentPropertiesSmall g → PropertyValueSmall x → ComponentPropertiesSmall (withProperty g x)
-unfolding withProperty
-with-small g PropertyValue.Nothing r h = r
-with-small g PropertyValue.Unsupported r h = r
-with-small g PropertyValue.Bad r h = r
-with-small g (PropertyValue.Start t) r h =
-    record { start-small = h; end-small = r .end-small; lasts-small = r .lasts-small; repeats-small = r .repeats-small }
-with-small g (PropertyValue.End t) r h =
-    record { start-small = r .start-small; end-small = h; lasts-small = r .lasts-small; repeats-small = r .repeats-small }
-with-small g (PropertyValue.Lasts d) r h =
-    record { start-small = r .start-small; end-small = r .end-small; lasts-small = h; repeats-small = r .repeats-small }
-with-small g (PropertyValue.Repeats x) r h =
-    record { start-small = r .start-small; end-small = r .end-small; lasts-small = r .lasts-small; repeats-small = h }
-with-small g (PropertyValue.HasStatus x) r h =
-    record { start-small = r .start-small; end-small = r .end-small; lasts-small = r .lasts-small; repeats-small = r .repeats-small }
-with-small g (PropertyValue.Transparent x) r h =
-    record { start-small = r .start-small; end-small = r .end-small; lasts-small = r .lasts-small; repeats-small = r .repeats-small }
-with-small g (PropertyValue.HasPeriods b) r h = r
-
--- each line says something small
-pub data AllSmall : List PropertyValue → Type 0 where
-  none : AllSmall []
-  then : {x : PropertyValue} {ss : List PropertyValue} → PropertyValueSmall x → AllSmall ss → AllSmall (x ∷ ss)
-
-with-properties-small : (ss : List PropertyValue) (g : ComponentProperties) → ComponentPropertiesSmall g → AllSmall ss → ComponentPropertiesSmall (withProperties g ss)
-unfolding withProperties
-with-properties-small [] g r AllSmall.none = r
-with-properties-small (x ∷ ss) g r (AllSmall.then h k) = with-properties-small ss (withProperty g x) (with-small g x r h) k
 
 -- ---- the ending and the limit
 

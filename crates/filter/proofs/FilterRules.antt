@@ -36,7 +36,8 @@ use Rattle.calendar.specs.Meaning.{componentScope, eventOf, blockOf, blockPerio
 use Rattle.calendar.proofs.Sizes.{eventOf-small}
 use Rattle.recurrence.specs.TimeRange.{EventIn, betweenIn, periodsOverlap, boundsIn, blockIn, Decides}
 use Rattle.recurrence.proofs.Blocks.{periods-iff}
-use Rattle.recurrence.proofs.Candidates.{search-finds, decided-once}
+use Rattle.recurrence.proofs.Candidates.{search-finds}
+use Rattle.recurrence.proofs.TimeRange.{decided-once}
 use Rattle.recurrence.specs.Instances.{instancesAtMost}
 use Rattle.filter.specs.Tests.{eventIn, blockRangeIn, componentIn, rangeHolds, someComponentNamed, someComponent, componentHolds, childrenHold, componentTest, queryHolds}
 use Rattle.filter.specs.FilterRules.{ValuePasses, ParameterPasses, LinePasses, PropertyPasses, ComponentIn, RangePasses, ComponentPasses, QueryPasses}

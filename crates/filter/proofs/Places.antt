@@ -33,9 +33,8 @@ use Rattle.calendar.proofs.Listed.{periods-all}
 use Rattle.calendar.proofs.Steps.{periods-number}
 use Rattle.events.specs.Sizes.{EventSmall}
 use Rattle.recurrence.specs.TimeRange.{overlaps, instanceIn, EventIn, betweenIn, periodsOverlap, boundsIn, blockIn, Decides}
-use Rattle.recurrence.proofs.Candidates.{few-before}
-use Rattle.recurrence.proofs.Instances.{in-range-starts}
-use Rattle.recurrence.proofs.Blocks.{periods-append}
+use Rattle.recurrence.proofs.Candidates.{few-before, in-range-starts}
+use Rattle.recurrence.proofs.TimeRange.{periods-append}
 use Rattle.recurrence.specs.Instances.{instancesAtMost}
 use Rattle.filter.specs.Tests.{blockRangeIn}
 use Rattle.filter.specs.Places.{givesPeriods, lineIn, linesIn, blockLinesIn}

@@ -26,7 +26,8 @@ use Rattle.calendar.proofs.Sizes.{eventAt-small}
 use Rattle.calendar.proofs.Steps.{eventOf-at, blockOf-at}
 use Rattle.events.specs.Sizes.{EventSmall}
 use Rattle.recurrence.specs.Candidates.{FirstCandidate}
-use Rattle.recurrence.proofs.Candidates.{search-finds, search-ends, decided-once, few-before}
+use Rattle.recurrence.proofs.Candidates.{search-finds, search-ends, few-before}
+use Rattle.recurrence.proofs.TimeRange.{decided-once}
 use Rattle.filter.specs.Tests.{eventIn, blockRangeIn, componentIn, rangeHolds}
 use Rattle.filter.specs.Places.{blockLinesIn}
 use Rattle.filter.specs.Trials.{eventTrial, trialIn, trialOf, trialWhere, trialHolds, trialPasses, trialGoesOn, Tried, SmallTrial}

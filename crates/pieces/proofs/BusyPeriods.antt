@@ -17,8 +17,7 @@ use Rattle.recurrence.specs.Instances.{startOf, endOf, occurs, lengthBy, instan
 use Rattle.events.specs.Sizes.{EventSmall}
 use Rattle.recurrence.specs.TimeRange.{overlaps, instanceIn}
 use Rattle.recurrence.specs.Candidates.{FirstCandidate, startsBefore}
-use Rattle.recurrence.proofs.Candidates.{few-before}
-use Rattle.recurrence.proofs.Instances.{none-after}
+use Rattle.recurrence.proofs.Candidates.{few-before, none-after}
 use Rattle.pieces.specs.BusyPeriods.{listBelow, instancePeriod, eventPeriods, busyPeriod}
 use Rattle.pieces.specs.Columns.{Stored}
 use Rattle.pieces.specs.Pieces.{clipped, isPiece, pieceOf, piecesOf}

@@ -18,7 +18,7 @@ use Rattle.events.specs.declared.Event.{Event}
 use Rattle.events.specs.declared.Block.{Block}
 use Rattle.periods.proofs.BusyTypes.{sameBusy-iff}
 use Rattle.recurrence.specs.Instances.{startOf, endOf, occurs, instancesAtMost}
-use Rattle.recurrence.proofs.Sizes.{starts-long}
+use Rattle.recurrence.proofs.Instances.{starts-long}
 use Rattle.pieces.specs.BusyPeriods.{listBelow, instancePeriod, eventPeriods, entryPeriods, busyPeriods, busyPeriod}
 use Rattle.pieces.specs.Covered.{coveredBy, covered, Covers, by-instance, by-period}
 use Rattle.pieces.proofs.Pieces.{covers-none, hits, hits-first}

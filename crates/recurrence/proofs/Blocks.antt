@@ -1,10 +1,9 @@
 -- Whether some period of a list overlaps a range.
 use Prim.Native.Nat.{ℕ}
 use mathlib.Core.Path.{_≡_, refl, sym, ap, _∙_}
-use mathlib.Core.Bool.{Bool, true, false, _||_, or-assoc}
-use mathlib.Core.List.{List, [], _∷_, _++_, List·Memᴰ, List·Memᴰ·head, List·Memᴰ·tail}
+use mathlib.Core.Bool.{Bool, true, false, _||_}
+use mathlib.Core.List.{List, [], _∷_, List·Memᴰ, List·Memᴰ·head, List·Memᴰ·tail}
 use mathlib.Core.Logic.{_↔_}
-use Rattle.periods.specs.declared.Period.{Period}
 use Rattle.ascii.proofs.Bools.{clash}
 use Rattle.periods.specs.BusyTypes.{BusyPeriod, periodsOf}
 use Rattle.recurrence.specs.TimeRange.{overlaps, periodsOverlap, Decides}
@@ -19,14 +18,6 @@ or-left {x = true} y e = refl
 or-left {x = false} y e = clash e refl
 
 module _ (a b : ℕ) where
-  -- two lists after each other: one or the other
-  pub periods-append : (ps qs : List Period) → periodsOverlap a b (ps ++ qs) ≡ (periodsOverlap a b ps || periodsOverlap a b qs)
-  unfolding periodsOverlap
-  periods-append [] qs = refl
-  periods-append (p ∷ ps) qs =
-      ap (λ (t : Bool). overlaps a b (p .start) (p .end) || t) (periods-append ps qs)
-      ∙ sym (or-assoc (overlaps a b (p .start) (p .end)) (periodsOverlap a b ps) (periodsOverlap a b qs))
-
   listed-overlaps : {p : BusyPeriod} {ps : List BusyPeriod} → List·Memᴰ p ps → overlaps a b (p .period .start) (p .period .end) ≡ true → periodsOverlap a b (periodsOf ps) ≡ true
   unfolding periodsOverlap
   listed-overlaps (List·Memᴰ·head {xs = xs} e) h =

@@ -1,19 +1,87 @@
--- The search for an instance in range: from the first candidate on, while instances start before the range's end.
-use Prim.Native.Nat.{ℕ, _+_, _≤_, _<_}
+-- The search for an instance in range: from the first candidate on, which a division finds,
+-- while instances start before the range's end.
+use Prim.Native.Nat.{ℕ, _+_, _-_, _*_, _/_, _≤_, _<_}
 use mathlib.Core.Path.{_≡_, refl}
-use mathlib.Core.Bool.{Bool, true, false}
+use mathlib.Core.Bool.{Bool, true, false, cond}
 use native.Mathlib.Omega.{arith}
-use lib.Dec.{ltb}
-use borrow.Author.Tests.{ltb-true, ltb-false}
+use native.Mathlib.Nat.{mul-le-mul-right, mul-le-mul-left, div-mul-le-self, lt-div-mul-add, add-mul}
+use lib.Dec.{eqb, ltb}
+use borrow.Author.Tests.{ltb-true, ltb-false, lt-ltb}
+use Rattle.ascii.proofs.Bools.{and-left, and-right, and-both, clash, not-so}
 use Rattle.time.specs.Limits.{lastSecond}
-use Rattle.ascii.proofs.Bools.{and-right, clash, not-so}
 use Rattle.events.specs.declared.Event.{Event}
-use Rattle.recurrence.specs.Instances.{stepOf, startOf, isInstance}
 use Rattle.events.specs.Sizes.{EventSmall}
+use Rattle.recurrence.specs.Instances.{lengthBy, startOf, isInstance, occurs, endOf, stepOf}
+use Rattle.recurrence.specs.Candidates.{firstAt, spanOf, startsBefore, candidateOf, FirstCandidate}
 use Rattle.recurrence.specs.TimeRange.{instanceIn, EventIn, Decides}
-use Rattle.recurrence.specs.Candidates.{spanOf, candidateOf, FirstCandidate, startsBefore}
-use Rattle.recurrence.proofs.Sizes.{step-long, starts-long, before-first, from-first, first-few}
-use Rattle.recurrence.proofs.Instances.{in-range-ends, none-after}
+use Rattle.recurrence.proofs.Instances.{length-small, starts-rise, instance-before, occurs-instance, step-long, starts-long}
+use Rattle.recurrence.proofs.TimeRange.{overlapping-ends, starts-early}
+
+cond-span : (l : ℕ) (t : Bool) → l ≤ lastSecond → cond t 1 l ≤ lastSecond
+cond-span l true p = omega arith
+cond-span l false p = p
+
+pub span-small : {e : Event} → EventSmall e → spanOf e ≤ lastSecond
+unfolding spanOf
+span-small {e} h = cond-span _ (eqb (lengthBy e (e .ending)) 0) (length-small h)
+
+-- ---- the division
+
+first-by : (x s d span a : ℕ) (t : Bool) → 0 < d → ltb a (s + span) ≡ t → x < cond t 0 ((a - (s + span)) / d + 1) → s + x * d + span ≤ a
+first-by x s d span a true g q p = absurd (omega arith)
+first-by x s d span a false g q p =
+    let m : x * d ≤ (a - (s + span)) / d * d = mul-le-mul-right d (omega arith) in
+    omega (arith, div-mul-le-self (a - (s + span)) d, ltb-false a (s + span) q)
+
+-- whatever comes before the first ends at or before a
+pub before-first : (x s d span a : ℕ) → 0 < d → x < firstAt s d span a → s + x * d + span ≤ a
+unfolding firstAt
+before-first x s d span a g p = first-by x s d span a _ g refl p
+
+from-by : (s d span a : ℕ) (t : Bool) → 0 < d → ltb a (s + span) ≡ t → a < s + cond t 0 ((a - (s + span)) / d + 1) * d + span
+from-by s d span a true g q = omega (arith, ltb-true a (s + span) q)
+from-by s d span a false g q =
+    omega (arith, lt-div-mul-add {a = a - (s + span)} {b = d} g, ltb-false a (s + span) q, add-mul ((a - (s + span)) / d) 1 d)
+
+-- the first ends after a
+pub from-first : (s d span a : ℕ) → 0 < d → a < s + firstAt s d span a * d + span
+unfolding firstAt
+from-first s d span a g = from-by s d span a _ g refl
+
+few-by : (s d span a : ℕ) (t : Bool) → 86400 ≤ d → a ≤ lastSecond → cond t 0 ((a - (s + span)) / d + 1) ≤ 47482
+few-by s d span a true g h = omega arith
+few-by s d span a false g h =
+    let m : (a - (s + span)) / d * 86400 ≤ (a - (s + span)) / d * d = mul-le-mul-left _ g in
+    omega (arith, div-mul-le-self (a - (s + span)) d)
+
+-- from 1970 to 2099 there are so many days
+pub first-few : (s d span a : ℕ) → 86400 ≤ d → a ≤ lastSecond → firstAt s d span a ≤ 47482
+unfolding firstAt
+first-few s d span a g h = few-by s d span a (ltb a (s + span)) g h
+
+-- ---- instances in range
+
+pub in-range-ends : (e : Event) (a b k : ℕ) → instanceIn e a b k ≡ true → a < startOf e k + spanOf e
+unfolding instanceIn endOf spanOf
+in-range-ends e a b k h = overlapping-ends a b (startOf e k) (lengthBy e (e .ending)) (and-right (occurs e k) _ h)
+
+pub in-range-starts : (e : Event) (a b k : ℕ) → instanceIn e a b k ≡ true → startsBefore e b k ≡ true
+unfolding instanceIn startsBefore
+in-range-starts e a b k h =
+    and-both (occurs-instance e k (and-left (occurs e k) _ h))
+    (lt-ltb _ b (starts-early e a b k h))
+
+pub starts-before-too : (e : Event) (b j k : ℕ) → j ≤ k → startsBefore e b k ≡ true → startsBefore e b j ≡ true
+unfolding startsBefore
+starts-before-too e b j k p h =
+    and-both (instance-before e j k p (and-left (isInstance e k) _ h))
+    (lt-ltb _ b (omega (arith, starts-rise e p, ltb-true (startOf e k) b (and-right (isInstance e k) _ h))))
+
+-- from the first that is not the rule's, or starts at b or later, none is in range
+pub none-after : (e : Event) (a b j k : ℕ) → k ≤ j → startsBefore e b k ≡ false → instanceIn e a b j ≡ false
+none-after e a b j k p h = not-so _ (λ q. clash (starts-before-too e b k j p (in-range-starts e a b j q)) h)
+
+-- ---- the search
 
 -- none before what the division finds is in range
 pub before-candidate : (e : Event) (a : ℕ) → 0 < stepOf e → (b j : ℕ) → j < candidateOf e a → instanceIn e a b j ≡ false
@@ -52,10 +120,3 @@ pub search-ends : {e : Event} {a b : ℕ} (k : ℕ)
     → ((j : ℕ) → j < k → instanceIn e a b j ≡ false) → startsBefore e b k ≡ false → Decides false (EventIn e a b)
 search-ends {e} {a} {b} k s q =
     record { holds = λ z. clash z refl; fails = λ _ i. clash (i .passes) (none-at e a b k (i .number) (ltb (i .number) k) s q refl) }
-
--- two Bools that decide one statement are equal
-pub decided-once : {P : Type 0} (x y : Bool) → Decides x P → Decides y P → x ≡ y
-decided-once true true d f = refl
-decided-once true false d f = absurd (f .fails refl (d .holds refl))
-decided-once false true d f = absurd (d .fails refl (f .holds refl))
-decided-once false false d f = refl

@@ -1,17 +1,21 @@
--- Instances start one after the other, and the rule has all before one that it has.
-use Prim.Native.Nat.{ℕ, _+_, _*_, _≤_, _<_}
-use mathlib.Core.Path.{_≡_, refl}
-use mathlib.Core.Bool.{Bool, true, false, cond, _&&_}
+-- Instances start one after the other, and the rule has all before one that it has;
+-- how large the numbers of an event are.
+use Prim.Native.Nat.{ℕ, _*_, _≤_, _<_}
+use mathlib.Core.Path.{_≡_, refl, subst}
+use mathlib.Core.Bool.{true, false}
 use native.Mathlib.Omega.{arith}
-use native.Mathlib.Nat.{mul-le-mul-right}
-use lib.Dec.{eqb, ltb, leb}
+use native.Mathlib.Nat.{mul-le-mul-right, mul-le-mul, mul-le-mul-left}
 use borrow.Author.Tests.{ltb-true, leb-true, eqb-true, lt-ltb, le-leb, eq-eqb}
-use Rattle.ascii.proofs.Bools.{and-left, and-right, and-both, clash, not-so}
+use Rattle.ascii.proofs.Bools.{clash, not-so}
+use Rattle.time.specs.Limits.{lastSecond}
+use Rattle.time.specs.declared.duration.Duration.{Duration}
+use Rattle.time.specs.declared.date_time.Kind.{Kind}
+use Rattle.values.specs.Period.{DurationSmall}
 use Rattle.events.specs.declared.Repeat.{Repeat}
 use Rattle.events.specs.declared.Event.{Event}
-use Rattle.recurrence.specs.Instances.{stepOf, startOf, repeats, isInstance, occurs, lengthBy, endOf}
-use Rattle.recurrence.specs.TimeRange.{overlaps, instanceIn}
-use Rattle.recurrence.specs.Candidates.{spanOf, startsBefore}
+use Rattle.events.specs.declared.Ending.{Ending}
+use Rattle.events.specs.Sizes.{EventSmall, EndingSmall}
+use Rattle.recurrence.specs.Instances.{stepOf, startOf, repeats, isInstance, occurs, defaultLength, lengthBy}
 
 pub starts-rise : (e : Event) {j k : ℕ} → j ≤ k → startOf e j ≤ startOf e k
 unfolding startOf
@@ -38,54 +42,53 @@ pub occurs-instance : (e : Event) (k : ℕ) → occurs e k ≡ true → isInstan
 unfolding occurs
 occurs-instance e k h = h
 
--- what touches a range starts before its end
-overlaps-start : (a b s t : ℕ) (x : Bool) → cond x (leb a s && ltb s b) (ltb a t && ltb s b) ≡ true → s < b
-overlaps-start a b s t true h = ltb-true s b (and-right (leb a s) _ h)
-overlaps-start a b s t false h = ltb-true s b (and-right (ltb a t) _ h)
+-- ---- how large the numbers of an event are
 
-pub overlapping-starts : (a b s t : ℕ) → overlaps a b s t ≡ true → s < b
-unfolding overlaps
-overlapping-starts a b s t h = overlaps-start a b s t (eqb s t) h
+pub days-small : {e : Event} → EventSmall e → e .days * e .interval ≤ 6993
+days-small h = mul-le-mul (h .few-days) (h .few-interval)
 
-span-of-some : (a s l : ℕ) (y : Bool) → eqb l 0 ≡ y → a < s + l → a < s + cond y 1 l
-span-of-some a s l true r p = omega (arith, eqb-true l 0 r)
-span-of-some a s l false r p = p
+pub step-small : {e : Event} → EventSmall e → stepOf e ≤ 604195200
+unfolding stepOf
+step-small h = omega (arith, days-small h)
 
--- and it ends after the range's start: of no length, it counts as a second
-overlaps-end : (a b s l : ℕ) (x : Bool) → eqb s (s + l) ≡ x → cond x (leb a s && ltb s b) (ltb a (s + l) && ltb s b) ≡ true → a < s + cond (eqb l 0) 1 l
-overlaps-end a b s l true q h =
-    let z : l ≡ 0 = omega (arith, eqb-true s (s + l) q) in
-    rw (eq-eqb l 0 z) (omega (arith, leb-true a s (and-left (leb a s) _ h)))
-overlaps-end a b s l false q h = span-of-some a s l _ refl (ltb-true a (s + l) (and-left (ltb a (s + l)) _ h))
+-- a step is a day at least
+pub step-long : {e : Event} → EventSmall e → 86400 ≤ stepOf e
+unfolding stepOf
+step-long {e} h = let p : 1 * 1 ≤ e .days * e .interval = mul-le-mul (h .some-days) (h .some-interval) in omega arith
 
-pub overlapping-ends : (a b s l : ℕ) → overlaps a b s (s + l) ≡ true → a < s + cond (eqb l 0) 1 l
-unfolding overlaps
-overlapping-ends a b s l h = overlaps-end a b s l (eqb s (s + l)) refl h
+pub steps-small : {e : Event} {k d : ℕ} → EventSmall e → k ≤ 100000 → d ≡ stepOf e → k * d ≤ 60419520000000
+steps-small {d = d} h p q = let s : d ≤ 604195200 = omega (arith, step-small h, q) in mul-le-mul p s
 
-pub in-range-ends : (e : Event) (a b k : ℕ) → instanceIn e a b k ≡ true → a < startOf e k + spanOf e
-unfolding instanceIn endOf spanOf
-in-range-ends e a b k h = overlapping-ends a b (startOf e k) (lengthBy e (e .ending)) (and-right (occurs e k) _ h)
+pub start-small : {e : Event} {k : ℕ} → EventSmall e → k ≤ 100000 → startOf e k ≤ 60423622444799
+unfolding startOf
+start-small {e} {k} h p = omega (arith, steps-small {k = k} {d = stepOf e} h p refl, h .start-small)
 
-starts-early : (e : Event) (a b k : ℕ) → instanceIn e a b k ≡ true → startOf e k < b
-unfolding instanceIn
-starts-early e a b k h = overlapping-starts a b (startOf e k) (endOf e k) (and-right (occurs e k) _ h)
+-- k starts take k days at least
+pub starts-long : {e : Event} (k : ℕ) → EventSmall e → k * 86400 ≤ startOf e k
+unfolding startOf
+starts-long {e} k h = let p : k * 86400 ≤ k * stepOf e = mul-le-mul-left k (step-long h) in omega arith
 
-pub in-range-starts : (e : Event) (a b k : ℕ) → instanceIn e a b k ≡ true → startsBefore e b k ≡ true
-unfolding instanceIn startsBefore
-in-range-starts e a b k h =
-    and-both (occurs-instance e k (and-left (occurs e k) _ h))
-    (lt-ltb _ b (starts-early e a b k h))
+-- the ending of an event that is small, by its case
+ending-by : {e : Event} {x : Ending} → EventSmall e → e .ending ≡ x → EndingSmall (e .start) x
+ending-by {e} h p = subst (EndingSmall (e .start)) p (h .ending-small)
 
-pub starts-before-too : (e : Event) (b j k : ℕ) → j ≤ k → startsBefore e b k ≡ true → startsBefore e b j ≡ true
-unfolding startsBefore
-starts-before-too e b j k p h =
-    and-both (instance-before e j k p (and-left (isInstance e k) _ h))
-    (lt-ltb _ b (omega (arith, starts-rise e p, ltb-true (startOf e k) b (and-right (isInstance e k) _ h))))
+pub ends-by : {e : Event} {t : ℕ} → EventSmall e → e .ending ≡ Ending.End t → (e .start < t) × (t ≤ lastSecond)
+ends-by h p = ending-by h p
 
--- from the first that is not the rule's, or starts at b or later, none is in range
-pub none-after : (e : Event) (a b j k : ℕ) → k ≤ j → startsBefore e b k ≡ false → instanceIn e a b j ≡ false
-none-after e a b j k p h = not-so _ (λ q. clash (starts-before-too e b k j p (in-range-starts e a b j q)) h)
+pub lasts-by : {e : Event} {d : Duration} → EventSmall e → e .ending ≡ Ending.Lasts d → DurationSmall d
+lasts-by h p = ending-by h p
 
--- once an instance starts at b or later, none is in range
-pub none-late : (e : Event) (a b j k : ℕ) → k ≤ j → b ≤ startOf e k → instanceIn e a b j ≡ false
-none-late e a b j k p h = not-so _ (λ q. omega (arith, starts-rise e p, starts-early e a b j q))
+default-small : (kind : Kind) → defaultLength kind ≤ 86400
+unfolding defaultLength
+default-small Kind.Utc = omega arith
+default-small Kind.Floating = omega arith
+default-small Kind.Date = omega arith
+
+length-by-small : {e : Event} → EventSmall e → (x : Ending) → e .ending ≡ x → lengthBy e x ≤ lastSecond
+unfolding lengthBy
+length-by-small h (Ending.End t) p = omega (arith, ends-by h p .1)
+length-by-small h (Ending.Lasts d) p = omega (arith, lasts-by h p .limited)
+length-by-small {e} h Ending.None p = omega (arith, default-small (e .kind))
+
+pub length-small : {e : Event} → EventSmall e → lengthBy e (e .ending) ≤ lastSecond
+length-small h = length-by-small h _ refl

@@ -1,4 +1,4 @@
-pub mod Sizes
 pub mod Instances
+pub mod TimeRange
 pub mod Candidates
 pub mod Blocks

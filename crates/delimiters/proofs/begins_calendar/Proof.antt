@@ -1,6 +1,6 @@
 -- `delimiters::begins_calendar` meets its contract: each arm is the definition's own case.
 use Rattle.line.specs.Reading.{lineOf}
-use Rattle.delimiters.proofs.Delimiters.{begins-yes, begins-no}
+use Rattle.delimiters.proofs.Innermost.{begins-yes, begins-no}
 use Rattle.delimiters.specs.Innermost.{beginsCalendar}
 use Rattle.delimiters.specs.declared.Delimiter.the-variants.{Ends, Property, Wrong}
 use mathlib.Core.Path.{refl}

@@ -1,5 +1,5 @@
 -- `delimiters::nesting_step` meets its contract: each arm is one case of the delimiter that the line is.
-use Rattle.delimiters.proofs.Delimiters.{step-opens, step-begin-breaks, step-closes, step-end-breaks, step-stays, step-wrong}
+use Rattle.delimiters.proofs.Innermost.{step-opens, step-begin-breaks, step-closes, step-end-breaks, step-stays, step-wrong}
 use borrow.Author.Needs.{needs}
 use Rattle.delimiters.proofs.nesting_step.Statement.{statement}
 use Rattle.delimiters.proofs.nesting_step.Tie as tie

@@ -1,6 +1,6 @@
 -- An instance that stands has the piece of its period, any other none.
 use Rattle.pieces.proofs.BusyPeriods.{instance-stored, instance-left}
-use Rattle.recurrence.proofs.Sizes.{start-small, length-small}
+use Rattle.recurrence.proofs.Instances.{start-small, length-small}
 use native.Mathlib.Omega.{arith}
 use borrow.Author.Needs.{needs}
 use Rattle.pieces.proofs.storing.store_instance.Statement.{statement}

@@ -1,5 +1,5 @@
 -- Each arm is the definition at its variant; an end is later than the start, and a duration small.
-use Rattle.recurrence.proofs.Sizes.{ends-by, lasts-by}
+use Rattle.recurrence.proofs.Instances.{ends-by, lasts-by}
 use Rattle.recurrence.specs.Instances.{lengthBy}
 use native.Mathlib.Omega.{arith}
 use borrow.Author.Needs.{needs}

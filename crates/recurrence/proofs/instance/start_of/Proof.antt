@@ -1,6 +1,6 @@
 -- The sum is the definition's own, and small.
 use Rattle.recurrence.specs.Instances.{startOf}
-use Rattle.recurrence.proofs.Sizes.{steps-small}
+use Rattle.recurrence.proofs.Instances.{steps-small}
 use native.Mathlib.Omega.{arith}
 use borrow.Author.Needs.{needs}
 use Rattle.recurrence.proofs.instance.start_of.Statement.{statement}

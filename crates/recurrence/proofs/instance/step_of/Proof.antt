@@ -1,6 +1,6 @@
 -- The product is the definition's own, and small.
 use Rattle.recurrence.specs.Instances.{stepOf}
-use Rattle.recurrence.proofs.Sizes.{days-small}
+use Rattle.recurrence.proofs.Instances.{days-small}
 use mathlib.Core.Path.{refl}
 use native.Mathlib.Omega.{arith}
 use Rattle.recurrence.proofs.instance.step_of.Statement.{statement}

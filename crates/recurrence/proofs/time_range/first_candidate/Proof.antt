@@ -1,6 +1,6 @@
 -- The division finds the first candidate.
-use Rattle.recurrence.proofs.Candidates.{first-is-candidate}
-use Rattle.recurrence.proofs.Sizes.{step-long, span-small}
+use Rattle.recurrence.proofs.Candidates.{first-is-candidate, span-small}
+use Rattle.recurrence.proofs.Instances.{step-long}
 use Prim.Native.Nat.{ℕ}
 use mathlib.Core.Path.{sym, _∙_, subst}
 use Rattle.recurrence.specs.Candidates.{FirstCandidate}

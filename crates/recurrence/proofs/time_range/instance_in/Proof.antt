@@ -1,7 +1,7 @@
 -- The two tests are the definition's own, at the start and the end of k.
 use Rattle.recurrence.specs.Instances.{endOf}
 use Rattle.recurrence.specs.TimeRange.{instanceIn}
-use Rattle.recurrence.proofs.Sizes.{start-small, length-small}
+use Rattle.recurrence.proofs.Instances.{start-small, length-small}
 use native.Mathlib.Omega.{arith}
 use borrow.Author.Needs.{needs}
 use Rattle.recurrence.proofs.time_range.instance_in.Statement.{statement}
