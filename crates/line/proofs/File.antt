@@ -1,78 +1,25 @@
 -- A file of the grammar is read back: it unfolds to itself, is cut into its lines, and each reads as what it says; and what is good is such a file.
 use Prim.Native.Nat.{ℕ}
 use mathlib.Core.Path.{_≡_, refl, sym, ap, _∙_, subst}
-use mathlib.Core.Bool.{Bool, true, false, not, _||_}
+use mathlib.Core.Bool.{true}
 use mathlib.Core.List.{List, [], _∷_, _++_, map}
 use mathlib.Core.Logic.{_↔_}
-use lib.Dec.{eqb, leb}
-use lib.ListN.{length}
-use borrow.Author.Tests.{eqb-true, ne-eqb}
-use Rattle.ascii.specs.Bytes.{isNameByte, isControl, isLetter, isDigit}
-use Rattle.ascii.proofs.Bools.{and-left, and-right, and-both, clash, apart}
-use Rattle.text.specs.Unfolding.{isBlank, unfolded}
-use Rattle.text.specs.Lines.{line, cut, bytesOf, joined, linesOf, allLines, contentLines, everyLine, holdsNoCR, noLeadingBlank, isWholeLine}
+use Rattle.ascii.proofs.Bools.{and-left, and-right, and-both}
+use Rattle.text.specs.Unfolding.{unfolded}
+use Rattle.text.specs.Lines.{cut, bytesOf, joined, linesOf, allLines, contentLines, everyLine, isWholeLine}
 use Rattle.text.proofs.Lines.{bytesOf-cut, unfolded-joined, cut-unfolded-joined}
 use Rattle.line.specs.Grammar.{ContentLine}
-use Rattle.line.specs.Scanner.{step, afterValue, scan, isWellFormed}
+use Rattle.line.specs.Scanner.{isWellFormed}
 use Rattle.line.specs.Reading.{lineOf}
 use Rattle.line.specs.WellFormed.{lineCheck, AllGood}
 use Rattle.line.specs.Rendering.{rendered, AllRenderable, no-line, one-more}
 use Rattle.line.specs.File.{FileGrammar, done, next, ReadBack}
-use Rattle.line.specs.declared.scan.State.{State}
-use Rattle.line.specs.declared.scan.State.the-variants.{Start, Name, ParameterStart, ParameterName, ValueStart, Unquoted, Quoted, AfterQuoted, Value, Wrong}
 use Rattle.line.specs.declared.check.LineCheck.the-variants.{Good}
-use Rattle.line.proofs.Scanner.{wrong-stays}
 use Rattle.line.proofs.Grammar.{grammar-wellFormed}
 use Rattle.line.proofs.Reading.{grammar-read, line-iff}
 use Rattle.line.proofs.Rendering.{rendered-grammar}
 use Rattle.line.proofs.WellFormed.{lines-good, good-iff}
-
--- ---- a well formed line stands in a file as it is
-
--- CR is a control, and no state takes it
-cr-wrong : (q : State) → step q 13 ≡ Wrong
-unfolding step afterValue isNameByte isLetter isDigit isControl
-cr-wrong Start = refl
-cr-wrong Name = refl
-cr-wrong ParameterStart = refl
-cr-wrong ParameterName = refl
-cr-wrong ValueStart = refl
-cr-wrong Unquoted = refl
-cr-wrong Quoted = refl
-cr-wrong AfterQuoted = refl
-cr-wrong Value = refl
-cr-wrong Wrong = refl
-
-scan-noCR : (q : State) (s : List ℕ) → scan q s ≡ true → holdsNoCR s ≡ true
-unfolding scan
-scan-noCR q [] e = refl
-scan-noCR q (b ∷ s) e = and-both (go (eqb b 13) refl) (scan-noCR (step q b) s e)
-  where
-    go : (t : Bool) → eqb b 13 ≡ t → not (eqb b 13) ≡ true
-    go true h =
-        clash (subst (λ (k : ℕ). scan (step q k) s ≡ true) (eqb-true b 13 h) e) (ap (λ (p : State). scan p s) (cr-wrong q) ∙ wrong-stays s)
-    go false h = ap not h
-
--- a line begins with a name byte, and a blank is none
-scan-begins : (s : List ℕ) → scan Start s ≡ true → noLeadingBlank s ≡ true
-unfolding scan step isBlank isNameByte isLetter isDigit
-scan-begins [] e = refl
-scan-begins (b ∷ s) e = go (isNameByte b) refl
-  where
-    go : (t : Bool) → isNameByte b ≡ t → not (eqb b 32 || eqb b 9) ≡ true
-    go true h = rw (ne-eqb b 32 (apart isNameByte b 32 h refl), ne-eqb b 9 (apart isNameByte b 9 h refl))
-    go false h = clash e (rw h (wrong-stays s))
-
-pub wellFormed-plain : (l : List ℕ) → isWellFormed l ≡ true → isWholeLine l ≡ true
-unfolding isWellFormed
-wellFormed-plain l e =
-    let k : scan Start l ≡ true = and-right (leb (length l) 1024) _ e in
-    and-both (scan-noCR Start l k) (scan-begins l k)
-
-every-plain : (ls : List (List ℕ)) → everyLine isWellFormed ls ≡ true → everyLine isWholeLine ls ≡ true
-every-plain [] e = refl
-every-plain (l ∷ ls) e =
-    and-both (wellFormed-plain l (and-left (isWellFormed l) _ e)) (every-plain ls (and-right (isWellFormed l) _ e))
+use Rattle.line.proofs.Scanner.{every-plain}
 
 -- ---- a file of the grammar is read back
 

@@ -1,20 +1,22 @@
--- Laws of the scanner: the step that each byte makes from each state,
--- and the loops of the code, which go from state to state.
+-- Laws of the scanner: the step that each byte makes from each state, the loops of the code,
+-- which go from state to state, and that a well formed line stands in a file as it is.
 use Prim.Native.Nat.{ℕ, zero, suc, _+_, _-_, _≤_, _<_}
 use mathlib.Core.Path.{_≡_, refl, sym, ap, _∙_, subst}
 use mathlib.Core.Bool.{Bool, true, false, cond, not, _&&_, _||_}
 use mathlib.Core.List.{List, [], _∷_, _++_}
-use lib.Dec.{ltb}
-use lib.ListN.{length, drop, getD}
 use native.Mathlib.Omega.{arith}
-use borrow.Author.Tests.{le-leb, lt-leb, lt-ltb, not-false, ltb-true, ltb-false}
-use Rattle.ascii.proofs.Lists.{drop-next, drop-end}
+use lib.Dec.{ltb, eqb, leb}
+use lib.ListN.{length, drop, getD}
+use borrow.Author.Tests.{le-leb, lt-leb, lt-ltb, not-false, ltb-true, ltb-false, eqb-true, ne-eqb}
 use Rattle.ascii.specs.Bytes.{isNameByte, isControl, isLetter, isDigit}
 use Rattle.ascii.specs.Names.{isName, every}
-use Rattle.ascii.proofs.Bools.{and-left, and-right, clash}
-use Rattle.line.specs.Scanner.{afterValue, step, isEnding, scan, isWellFormed}
+use Rattle.ascii.proofs.Lists.{drop-next, drop-end}
+use Rattle.ascii.proofs.Bools.{and-left, and-right, clash, and-both, apart}
+use Rattle.text.specs.Unfolding.{isBlank}
+use Rattle.text.specs.Lines.{everyLine, holdsNoCR, noLeadingBlank, isWholeLine}
 use Rattle.line.specs.declared.scan.State.{State}
 use Rattle.line.specs.declared.scan.State.the-variants.{Start, Name, ParameterStart, ParameterName, ValueStart, Unquoted, Quoted, AfterQuoted, Value, Wrong}
+use Rattle.line.specs.Scanner.{afterValue, step, isEnding, scan, isWellFormed}
 
 -- ---- one step
 
@@ -305,3 +307,50 @@ pub clean-parts : (l : List ℕ) (e a f i : ℕ) (p q : Bool) → Between l 0 e 
 clean-parts l e a f i p q x y n h k =
     let z = or-none p q n in
     value-from l 0 i (omega arith) (sym (between-known l 0 e p false x (z .0)) ∙ sym (clean-end l a f e q y (z .1) k h))
+
+-- ---- a well formed line stands in a file as it is
+
+-- CR is a control, and no state takes it
+cr-wrong : (q : State) → step q 13 ≡ Wrong
+unfolding step afterValue isNameByte isLetter isDigit isControl
+cr-wrong Start = refl
+cr-wrong Name = refl
+cr-wrong ParameterStart = refl
+cr-wrong ParameterName = refl
+cr-wrong ValueStart = refl
+cr-wrong Unquoted = refl
+cr-wrong Quoted = refl
+cr-wrong AfterQuoted = refl
+cr-wrong Value = refl
+cr-wrong Wrong = refl
+
+scan-noCR : (q : State) (s : List ℕ) → scan q s ≡ true → holdsNoCR s ≡ true
+unfolding scan
+scan-noCR q [] e = refl
+scan-noCR q (b ∷ s) e = and-both (go (eqb b 13) refl) (scan-noCR (step q b) s e)
+  where
+    go : (t : Bool) → eqb b 13 ≡ t → not (eqb b 13) ≡ true
+    go true h =
+        clash (subst (λ (k : ℕ). scan (step q k) s ≡ true) (eqb-true b 13 h) e) (ap (λ (p : State). scan p s) (cr-wrong q) ∙ wrong-stays s)
+    go false h = ap not h
+
+-- a line begins with a name byte, and a blank is none
+scan-begins : (s : List ℕ) → scan Start s ≡ true → noLeadingBlank s ≡ true
+unfolding scan step isBlank isNameByte isLetter isDigit
+scan-begins [] e = refl
+scan-begins (b ∷ s) e = go (isNameByte b) refl
+  where
+    go : (t : Bool) → isNameByte b ≡ t → not (eqb b 32 || eqb b 9) ≡ true
+    go true h = rw (ne-eqb b 32 (apart isNameByte b 32 h refl), ne-eqb b 9 (apart isNameByte b 9 h refl))
+    go false h = clash e (rw h (wrong-stays s))
+
+pub wellFormed-plain : (l : List ℕ) → isWellFormed l ≡ true → isWholeLine l ≡ true
+unfolding isWellFormed
+wellFormed-plain l e =
+    let k : scan Start l ≡ true = and-right (leb (length l) 1024) _ e in
+    and-both (scan-noCR Start l k) (scan-begins l k)
+
+pub every-plain : (ls : List (List ℕ)) → everyLine isWellFormed ls ≡ true → everyLine isWholeLine ls ≡ true
+every-plain [] e = refl
+every-plain (l ∷ ls) e =
+    and-both (wellFormed-plain l (and-left (isWellFormed l) _ e)) (every-plain ls (and-right (isWellFormed l) _ e))
