@@ -1,5 +1,4 @@
 pub mod Places
-pub mod Parts
 pub mod TrialsLaws
 pub mod Tests
 pub mod FilterRules

@@ -27,9 +27,9 @@ use Rattle.property_tests.specs.PropertyTests.{propertiesHold, propertiesAt}
 use Rattle.property_tests.proofs.PropertyTests.{properties-by-place}
 use Rattle.calendar.specs.Meaning.{scopeOf, componentScope}
 use Rattle.calendar.specs.Places.{componentsFrom, componentAt as placedAt}
+use Rattle.filter.specs.declared.trials.Trial.{Trial}
 use Rattle.filter.specs.Tests.{rangeHolds, someComponentNamed, someComponent, componentHolds, childrenHold, componentTest, queryHolds}
 use Rattle.filter.specs.Trials.{trialOf, trialWhere, hereAlone, trialHere, trialHolds, SmallTrial}
-use Rattle.filter.specs.declared.trials.Trial.{Trial}
 use Rattle.filter.proofs.TrialsLaws.{trial-of-small, where-small, small-as, trial-by-place, where-holds}
 
 -- ---- what a good query gives
@@ -44,21 +44,24 @@ module _ (p : List ℕ) (q : Sections) {r : ComponentRecord} (j : ℕ) (g : reco
   pub component-range : r .range ≤ q .ranges .count
   component-range = component-good .range-there
 
+-- ---- a component of the name
+
+module _ (n : List ℕ) (s : List ℕ) (at e next i : ℕ) {v : List ℕ} {b : Bool} (q : v ≡ valueOf (part s at e)) (w : b ≡ sameName v n) where
+  named-here : (ks : List Component) → someComponentNamed n (placedAt s at e next i ∷ ks) ≡ (b || someComponentNamed n ks)
+  unfolding someComponentNamed placedAt lineOf
+  named-here ks = ap (λ (t : Bool). t || someComponentNamed n ks) (sym (w ∙ ap (λ (x : List ℕ). sameName x n) q))
+
+  pub component-named : b ≡ true → (ks : List Component) → someComponentNamed n (placedAt s at e next i ∷ ks) ≡ true
+  component-named z ks = named-here ks ∙ ap (λ (t : Bool). t || someComponentNamed n ks) z
+
+  pub component-other : b ≡ false → (ks : List Component) → someComponentNamed n (placedAt s at e next i ∷ ks) ≡ someComponentNamed n ks
+  component-other z ks = named-here ks ∙ ap (λ (t : Bool). t || someComponentNamed n ks) z
+
+pub no-component : (n : List ℕ) → false ≡ someComponentNamed n []
+unfolding someComponentNamed
+no-component n = refl
+
 -- ---- one component: its name and its own lines, then its inner components, then its range
-
-module _ (p : List ℕ) (q : Sections) (j : ℕ) (v s : List ℕ) (at : ℕ) where
-  module _ {r : ComponentRecord} {w : List ℕ} {a : Bool} (e : r ≡ componentAt p q j) (x : w ≡ textOf p q (r .name)) (y : a ≡ sameName v w) where
-    alone-as : (a && propertiesHold p q j (propertiesAt s at)) ≡ hereAlone p q j v s at
-    unfolding hereAlone
-    alone-as =
-        ap (λ (t : Bool). t && propertiesHold p q j (propertiesAt s at))
-        (y ∙ ap (sameName v) (x ∙ ap (λ (z : ComponentRecord). textOf p q (z .name)) e))
-
-    pub alone-named : {b : Bool} → a ≡ true → b ≡ propertiesHold p q j (propertiesAt s at) → b ≡ hereAlone p q j v s at
-    alone-named z h = h ∙ ap (λ (t : Bool). t && propertiesHold p q j (propertiesAt s at)) (sym z) ∙ alone-as
-
-    pub alone-other : a ≡ false → false ≡ hereAlone p q j v s at
-    alone-other z = ap (λ (t : Bool). t && propertiesHold p q j (propertiesAt s at)) (sym z) ∙ alone-as
 
 module _ (c : Context) (p : List ℕ) (q : Sections) (j : ℕ) where
   abbrev inner : Items → Bool

@@ -7,31 +7,33 @@ use native.Mathlib.Omega.{arith}
 use lib.Dec.{eqb}
 use borrow.Author.Count.{below-more}
 use borrow.Author.Tests.{eqb-true, eqb-false}
+use Rattle.ascii.specs.Names.{sameName}
 use Rattle.time.specs.Limits.{lastSecond}
-use Rattle.query.specs.Records.{rangeStart, rangeEnd}
+use Rattle.query.specs.Records.{rangeStart, rangeEnd, textOf, componentAt}
 use Rattle.query.specs.declared.Sections.{Sections}
+use Rattle.query.specs.declared.ComponentRecord.{ComponentRecord}
 use Rattle.query_check.specs.WellFormed.{recordsGood}
 use Rattle.query_check.proofs.QueryRules.{records-say}
 use Rattle.values.specs.declared.times.Context.{Context}
 use Rattle.property.specs.declared.Scope.{Scope}
 use Rattle.nesting.specs.Components.{Component, itemsOf}
 use Rattle.nesting.specs.Passing.{linesFrom}
-use Rattle.property_tests.specs.PropertyTests.{propertiesAt}
+use Rattle.property_tests.specs.PropertyTests.{propertiesAt, propertiesHold}
 use Rattle.events.specs.declared.Event.{Event}
 use Rattle.events.specs.declared.EventRead.{EventRead}
 use Rattle.events.specs.declared.BlockRead.{BlockRead}
-use Rattle.calendar.specs.Meaning.{componentScope}
-use Rattle.calendar.specs.Places.{eventAt, blockAt}
-use Rattle.calendar.proofs.Sizes.{eventAt-small}
-use Rattle.calendar.proofs.Steps.{eventOf-at, blockOf-at}
 use Rattle.events.specs.Sizes.{EventSmall}
 use Rattle.recurrence.specs.Candidates.{FirstCandidate}
 use Rattle.recurrence.proofs.Candidates.{search-finds, search-ends, few-before}
 use Rattle.recurrence.proofs.TimeRange.{decided-once}
+use Rattle.calendar.specs.Meaning.{componentScope}
+use Rattle.calendar.specs.Places.{eventAt, blockAt}
+use Rattle.calendar.proofs.Sizes.{eventAt-small}
+use Rattle.calendar.proofs.Steps.{eventOf-at, blockOf-at}
+use Rattle.filter.specs.declared.trials.Trial.{Trial}
 use Rattle.filter.specs.Tests.{eventIn, blockRangeIn, componentIn, rangeHolds}
 use Rattle.filter.specs.Places.{blockLinesIn}
-use Rattle.filter.specs.Trials.{eventTrial, trialIn, trialOf, trialWhere, trialHolds, trialPasses, trialGoesOn, Tried, SmallTrial}
-use Rattle.filter.specs.declared.trials.Trial.{Trial}
+use Rattle.filter.specs.Trials.{eventTrial, trialIn, trialOf, trialWhere, trialHolds, trialPasses, trialGoesOn, Tried, SmallTrial, hereAlone}
 use Rattle.filter.proofs.Places.{some-decides, range-at}
 
 -- ---- a trial is small
@@ -184,3 +186,19 @@ pub where-holds : (b : Bool) (t : Trial) → trialHolds (trialWhere b t) ≡ (b 
 unfolding trialHolds trialWhere
 where-holds true t = refl
 where-holds false t = refl
+
+-- ---- a component by its name and its own lines alone
+
+module _ (p : List ℕ) (q : Sections) (j : ℕ) (v s : List ℕ) (at : ℕ) where
+  module _ {r : ComponentRecord} {w : List ℕ} {a : Bool} (e : r ≡ componentAt p q j) (x : w ≡ textOf p q (r .name)) (y : a ≡ sameName v w) where
+    alone-as : (a && propertiesHold p q j (propertiesAt s at)) ≡ hereAlone p q j v s at
+    unfolding hereAlone
+    alone-as =
+        ap (λ (t : Bool). t && propertiesHold p q j (propertiesAt s at))
+        (y ∙ ap (sameName v) (x ∙ ap (λ (z : ComponentRecord). textOf p q (z .name)) e))
+
+    pub alone-named : {b : Bool} → a ≡ true → b ≡ propertiesHold p q j (propertiesAt s at) → b ≡ hereAlone p q j v s at
+    alone-named z h = h ∙ ap (λ (t : Bool). t && propertiesHold p q j (propertiesAt s at)) (sym z) ∙ alone-as
+
+    pub alone-other : a ≡ false → false ≡ hereAlone p q j v s at
+    alone-other z = ap (λ (t : Bool). t && propertiesHold p q j (propertiesAt s at)) (sym z) ∙ alone-as

@@ -1,5 +1,6 @@
 -- The name and the property tests are the definition's own, the second asked where the first holds.
-use Rattle.filter.proofs.Tests.{component-name, alone-named, alone-other}
+use Rattle.filter.proofs.Tests.{component-name}
+use Rattle.filter.proofs.TrialsLaws.{alone-named, alone-other}
 use borrow.Author.Needs.{needs}
 use Rattle.filter.proofs.components.alone_holds.Statement.{statement}
 use Rattle.filter.proofs.components.alone_holds.Tie as tie

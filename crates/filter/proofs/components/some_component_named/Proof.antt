@@ -4,7 +4,7 @@ use lib.ListN.{length}
 use Rattle.nesting.proofs.Components.{property-at, inner-at, no-item-at}
 use Rattle.filter.specs.Tests.{someComponentNamed}
 use Rattle.calendar.proofs.Loops.{Passing, passing-start, passing-property, passing-inner, passing-found, passing-end}
-use Rattle.filter.proofs.Parts.{component-named, component-other, no-component}
+use Rattle.filter.proofs.Tests.{component-named, component-other, no-component}
 use mathlib.Core.Path.{refl, _∙_}
 use native.Mathlib.Omega.{arith}
 use borrow.Author.Needs.{needs}
