@@ -1,2 +1,1 @@
-pub mod NoPieces
 pub mod Examples

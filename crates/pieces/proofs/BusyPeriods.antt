@@ -2,25 +2,26 @@
 use Prim.Native.Nat.{ℕ, zero, suc, _+_, _-_, _*_, _≤_, _<_, min, max}
 use mathlib.Core.Path.{_≡_, refl, sym, ap, _∙_, subst}
 use mathlib.Core.Bool.{Bool, true, false, cond, _&&_}
-use mathlib.Core.List.{List, [], _∷_, _++_}
+use mathlib.Core.List.{List, [], _∷_, _++_, append-nil}
 use native.Mathlib.Omega.{arith}
 use lib.Dec.{eqb, leb, ltb}
 use lib.ListN.{length}
 use lib.Seq.{sets}
 use borrow.Author.Tests.{ltb-true, ltb-false, lt-ltb, eqb-true}
-use Rattle.time.specs.Limits.{lastSecond}
 use Rattle.ascii.proofs.Bools.{and-left, and-right, and-both, clash, not-so}
+use Rattle.time.specs.Limits.{lastSecond}
 use Rattle.periods.specs.declared.BusyType.{BusyType}
 use Rattle.periods.specs.BusyTypes.{reportPlace, isBusy, BusyPeriod}
 use Rattle.events.specs.declared.Event.{Event}
-use Rattle.recurrence.specs.Instances.{startOf, endOf, occurs, lengthBy, instancesAtMost}
 use Rattle.events.specs.Sizes.{EventSmall}
+use Rattle.events.specs.Events.{event}
+use Rattle.recurrence.specs.Instances.{startOf, endOf, occurs, lengthBy, instancesAtMost}
 use Rattle.recurrence.specs.TimeRange.{overlaps, instanceIn}
 use Rattle.recurrence.specs.Candidates.{FirstCandidate, startsBefore}
 use Rattle.recurrence.proofs.Candidates.{few-before, none-after}
-use Rattle.pieces.specs.BusyPeriods.{listBelow, instancePeriod, eventPeriods, busyPeriod}
+use Rattle.pieces.specs.BusyPeriods.{listBelow, instancePeriod, eventPeriods, busyPeriod, entryPeriods, busyPeriods}
 use Rattle.pieces.specs.Columns.{Stored}
-use Rattle.pieces.specs.Pieces.{clipped, isPiece, pieceOf, piecesOf}
+use Rattle.pieces.specs.Pieces.{clipped, isPiece, pieceOf, piecesOf, busyPieces}
 use Rattle.pieces.proofs.Columns.{stored-none, stored-full, stored-piece, stored-as, stored-then, stored-few, stored-long}
 use Rattle.pieces.proofs.Pieces.{chosen, left-out, is-piece, is-none, one-piece, piecesOf-none, piecesOf-append}
 
@@ -226,6 +227,11 @@ free-event e h a b = event-none e a b (λ k. free-none a b (startOf e k) (endOf 
 pub empty-event : (e : Event) → lengthBy e (e .ending) ≡ 0 → (a b : ℕ) → piecesOf a b (eventPeriods e) ≡ []
 unfolding endOf
 empty-event e h a b = event-none e a b (λ k. empty-none a b (startOf e k) (endOf e k) (e .busy) (let z : endOf e k ≡ startOf e k = omega arith in z))
+
+-- such an event by itself, in any range
+pub no-pieces : (a b : ℕ) (e : Event) → lengthBy e (e .ending) ≡ 0 → busyPieces a b (event e ∷ []) ≡ []
+unfolding busyPieces busyPeriods entryPeriods
+no-pieces a b e h = ap (piecesOf a b) (append-nil (eventPeriods e)) ∙ empty-event e h a b
 
 -- by the test that the code makes of its place in a report and of its length
 pub no-event-pieces : (e : Event) {p n : ℕ} → p ≡ reportPlace (e .busy) → n ≡ lengthBy e (e .ending) → (ltb p 3 && ltb 0 n) ≡ false
