@@ -1,26 +1,31 @@
--- Collected tables: none where something is refused; otherwise, from the stored pieces, the covered seconds of the range.
-use Prim.Native.Nat.{ℕ, zero, suc, _+_, _-_, _≤_, _<_}
-use mathlib.Core.Path.{_≡_, sym, ap, _∙_, refl}
-use mathlib.Core.Bool.{Bool, true, _&&_}
-use mathlib.Core.List.{List, [], _∷_, List·Memᴰ}
+-- The stages of collecting: range, stamp and offset read; tables, none where something is refused,
+-- otherwise, from the stored pieces, the covered seconds of the range; and the work buffer that goes with them.
+use Prim.Native.Nat.{ℕ, _≤_, _<_, zero, suc, _+_, _-_}
+use mathlib.Core.Path.{_≡_, sym, ap, _∙_, refl, subst}
+use mathlib.Core.Bool.{Bool, true, false, _&&_}
+use mathlib.Core.List.{List, _++_, [], _∷_, List·Memᴰ}
 use native.Mathlib.Omega.{arith}
-use lib.Dec.{ltb}
-use lib.ListN.{length, take}
+use lib.Dec.{ltb, leb}
+use lib.IntN.{ℤ}
+use lib.ListN.{length, take, drop}
 use lib.Seq.{sets}
-use borrow.Author.Tests.{lt-ltb, le-ltb}
-use Rattle.ascii.proofs.Bools.{clash}
+use borrow.Author.Tests.{ltb-true, leb-true, lt-leb, lt-ltb, le-ltb}
+use Rattle.ascii.proofs.Bools.{and-left, and-right, clash}
+use Rattle.text.specs.Unfolding.{unfolded, Unfolded}
+use Rattle.text.proofs.Unfolding.{unfolded-front}
+use Rattle.time.specs.Limits.{lastSecond, rangeGood}
 use Rattle.periods.specs.declared.Period.{Period}
-use Rattle.values.specs.declared.times.Context.{Context}
 use Rattle.periods.specs.declared.BusyType.{BusyType}
+use Rattle.periods.specs.BusyTypes.{reportPlace, isBusy, BusyPeriod}
+use Rattle.periods.proofs.Periods.{secondIn-true}
+use Rattle.values.specs.declared.times.Context.{Context}
 use Rattle.table.specs.Runs.{runs, Lies}
 use Rattle.table.specs.Tables.{listed, Empty}
 use Rattle.table.specs.declared.Table.{Table}
 use Rattle.table.proofs.Runs.{runs-same}
-use Rattle.periods.proofs.Periods.{secondIn-true}
 use Rattle.report.specs.Writing.{byType}
-use Rattle.periods.specs.BusyTypes.{reportPlace, isBusy, BusyPeriod}
 use Rattle.events.specs.Events.{Entry}
-use Rattle.calendar.specs.Meaning.{entriesOf, componentsOf}
+use Rattle.calendar.specs.Meaning.{structureFault, entriesOf, componentsOf}
 use Rattle.calendar.specs.declared.Fault.{Fault}
 use Rattle.pieces.specs.BusyPeriods.{busyPeriods}
 use Rattle.pieces.specs.Columns.{flat, stored, Stored, Room}
@@ -28,16 +33,64 @@ use Rattle.pieces.specs.Covered.{coveredBy, covered}
 use Rattle.pieces.specs.Pieces.{busyPieces}
 use Rattle.pieces.proofs.Columns.{stored-all}
 use Rattle.pieces.proofs.Pieces.{busyPieces-cover, pieces-inside}
-use Rattle.refusals.specs.Refusals.{Row, row, lowest}
-use Rattle.refusals.proofs.Refusals.{row-applies, row-passed}
-use Rattle.refusals.proofs.Stages.{contents-passed, contents-refused}
+use Rattle.refusals.specs.Refusals.{Row, lowest, NumbersRise, ends, row}
+use Rattle.refusals.specs.Offsets.{offsetGood, offsetRead}
+use Rattle.refusals.specs.Stages.{earlyFault, workBy}
+use Rattle.refusals.specs.declared.OffsetRead.{OffsetRead}
+use Rattle.refusals.proofs.Offsets.{read-out, shift-bound, offset-given}
+use Rattle.refusals.proofs.Refusals.{lowest-above, row-applies, row-passed}
+use Rattle.refusals.proofs.Stages.{rises, structure-passed, structure-refused, calendar-rising, work-by, contents-passed, contents-refused}
 use Rattle.walk.specs.Walks.{StoresContents}
 use Rattle.walk.specs.declared.ContentsStored.{ContentsStored}
 use Rattle.tables.specs.Building.{Built}
 use Rattle.tables.proofs.Built.{built-stored}
-use Rattle.collecting.specs.CalendarTerms.{pieceRows}
-use Rattle.collecting.specs.CollectStages.{AllSound, Refuses, Typed, unlessFault, Tabled, fewestPeriods, ContentsTabled}
 use Rattle.collecting.specs.declared.Collected.{Collected}
+use Rattle.collecting.specs.CalendarTerms.{stampGood, pieceRows}
+use Rattle.collecting.specs.CollectStages.{callRead, Refuses, Tabled, ContentsTabled, CollectedAs, laterRows, laterPeriods, AllSound, Typed, unlessFault, fewestPeriods}
+
+-- ---- range, stamp and offset
+
+module _ (a e t : ℕ) where
+  pub call-good : {z o : ℤ} {r : OffsetRead} → z ≡ o → (rangeGood a e && stampGood t) ≡ true → r ≡ offsetRead z → r ≡ callRead a e o t
+  unfolding callRead
+  call-good q h k = rw h (sym (offset-given q k refl))
+
+  pub call-bad : (o : ℤ) → (rangeGood a e && stampGood t) ≡ false → OffsetRead.Bad ≡ callRead a e o t
+  unfolding callRead
+  call-bad o h = rw h
+
+  -- what was read tells what is good
+  pub read-call-good : {s : ℕ} (o : ℤ) → callRead a e o t ≡ OffsetRead.Of s
+      → (rangeGood a e ≡ true) × (stampGood t ≡ true) × (offsetRead o ≡ OffsetRead.Of s)
+  unfolding callRead
+  read-call-good {s} o q = go (rangeGood a e && stampGood t) refl
+    where
+      go : (y : Bool) → (rangeGood a e && stampGood t) ≡ y
+          → (rangeGood a e ≡ true) × (stampGood t ≡ true) × (offsetRead o ≡ OffsetRead.Of s)
+      go true h =
+          let k : offsetRead o ≡ OffsetRead.Of s = rw h at q in
+          (and-left (rangeGood a e) (stampGood t) h, and-right (rangeGood a e) (stampGood t) h, k)
+      go false h = let k : OffsetRead.Bad ≡ OffsetRead.Of s = rw h at q in let z : _≡_ {A = ℕ} 0 1 = cc in absurd (omega arith)
+
+  pub read-call-bad : (o : ℤ) → callRead a e o t ≡ OffsetRead.Bad → (rangeGood a e && stampGood t && offsetGood o) ≡ false
+  unfolding callRead
+  read-call-bad o q = go (rangeGood a e) refl (stampGood t) refl
+    where
+      go : (x : Bool) → rangeGood a e ≡ x → (y : Bool) → stampGood t ≡ y → (rangeGood a e && stampGood t && offsetGood o) ≡ false
+      go true h true k = let w : offsetRead o ≡ OffsetRead.Bad = rw (h, k) at q in rw (h, k) (read-out o w)
+      go true h false k = rw (h, k)
+      go false h y k = rw h
+
+  -- what was read of z, the number that the machine reads back from the bits of the offset, was read of the offset
+  pub call-given : {z o : ℤ} {r x : OffsetRead} → z ≡ o → r ≡ callRead a e z t → r ≡ x → callRead a e o t ≡ x
+  call-given q k h = ap (λ (y : ℤ). callRead a e y t) (sym q) ∙ sym k ∙ h
+
+  -- what later stages are promised of the call
+  pub call-bounds : {s : ℕ} (o : ℤ) → callRead a e o t ≡ OffsetRead.Of s → (s ≤ 100800) × (a < e) × (e ≤ lastSecond)
+  unfolding rangeGood
+  call-bounds o q =
+      let h = read-call-good o q in
+      (shift-bound o (h .2), ltb-true a e (and-left (ltb a e) _ (h .0)), leb-true e lastSecond (and-right (ltb a e) _ (h .0)))
 
 -- ---- a refusal
 
@@ -168,3 +221,52 @@ module _ {c : Context} {u : List ℕ} {a e : ℕ} {o o′ : List ℕ} {x : Conte
 
     pub contents-few : x .count ≤ 512 → Room o → a < e → Typed o′ (x .count) r → ContentsTabled c u a e r
     contents-few m l w t = contents-pass (tabled-stored a e _ (k .stored q) m l w t)
+
+-- ---- the work buffer
+
+module _ (cal work : List ℕ) where
+  module _ {rows : List Row} {ps : BusyType → List Period} {r : Collected} where
+    -- a refusal by 1 to 5 leaves the buffer as it was; otherwise the unfolded calendar is left in it
+    pub collected-early : {n i : ℕ} → lowest rows ≡ Fault.At n i → leb n 5 ≡ true → Refuses (Fault.At n i) r → CollectedAs rows ps cal work r work
+    unfolding earlyFault
+    collected-early {n} {i} f h k =
+        record { tabled = tabled-refused f k; work-left = sym (ap (λ (g : Fault). workBy g cal work) f ∙ work-by cal work (Fault.At n i) h) }
+
+    collected-late : {left : List ℕ} → left ≡ unfolded cal ++ drop (length (unfolded cal)) work → earlyFault (lowest rows) ≡ false
+        → Tabled rows ps r → CollectedAs rows ps cal work r left
+    collected-late u h t = record { tabled = t; work-left = u ∙ sym (work-by cal work (lowest rows) h) }
+
+-- ---- from the calendar on
+
+late-above : (rows : List Row) → NumbersRise 5 rows → earlyFault (lowest rows) ≡ false
+unfolding earlyFault
+late-above rows g = go (lowest rows) refl
+  where
+    go : (f : Fault) → lowest rows ≡ f → earlyFault f ≡ false
+    go Fault.None h = refl
+    go (Fault.At n i) h = lt-leb n 5 (lowest-above rows g h)
+
+later-late : (c : Context) (cal : List ℕ) (a e : ℕ) → earlyFault (lowest (laterRows c cal a e)) ≡ false
+unfolding laterRows pieceRows
+later-late c cal a e = late-above (laterRows c cal a e) (calendar-rising c (unfolded cal) _ (rises 10 11 refl (omega arith) ends))
+
+module _ {cal work left : List ℕ} {m : ℕ} (k : Unfolded cal work left m) {f : Fault} (q : f ≡ structureFault (take m left)) where
+  structure-found : structureFault (unfolded cal) ≡ f
+  structure-found = sym (q ∙ ap structureFault (unfolded-front k))
+
+  module _ (c : Context) (a e : ℕ) {r : Collected} where
+    calendar-collected : Tabled (laterRows c cal a e) (laterPeriods c cal a e) r → CollectedAs (laterRows c cal a e) (laterPeriods c cal a e) cal work r left
+    calendar-collected t = collected-late cal work (k .bytes) (later-late c cal a e) t
+
+    pub calendar-refuses : {n i : ℕ} → f ≡ Fault.At n i → Refuses (Fault.At n i) r
+        → CollectedAs (laterRows c cal a e) (laterPeriods c cal a e) cal work r left
+    unfolding laterRows
+    calendar-refuses h w = calendar-collected (tabled-refused (structure-refused c (unfolded cal) _ (structure-found ∙ h)) w)
+
+    pub calendar-passes : f ≡ Fault.None → ContentsTabled c (take m left) a e r
+        → CollectedAs (laterRows c cal a e) (laterPeriods c cal a e) cal work r left
+    unfolding laterRows laterPeriods
+    calendar-passes h t =
+        calendar-collected
+        (tabled-passed (structure-passed c (unfolded cal) _ (structure-found ∙ h))
+        (subst (λ (u : List ℕ). ContentsTabled c u a e r) (unfolded-front k) t))

@@ -1,2 +1,3 @@
+pub mod CalendarTerms
 pub mod CollectStages
 pub mod Collecting

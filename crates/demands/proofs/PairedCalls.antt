@@ -21,9 +21,7 @@ use Rattle.engine.specs.Reporting.{ReportCall, Reported}
 use Rattle.engine.specs.Meanings.{IsReport, OnReport, HasRoom, ReadsBack}
 use Rattle.engine.specs.declared.Answer.{Answer}
 use Rattle.engine.proofs.ReportAnswers.{written-report}
-use Rattle.engine.proofs.CoveredSeconds.{says-covered}
-use Rattle.engine.proofs.ReadingBack.{reads-back}
-use Rattle.engine.proofs.Meanings.{one-meaning}
+use Rattle.engine.proofs.Meanings.{says-covered, reads-back, one-meaning}
 use Rattle.demands.specs.PairedCalls.{lengthOf, sameReports, ReadBackCalls, Compared}
 
 -- ---- the length of a report

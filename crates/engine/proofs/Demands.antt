@@ -1,45 +1,35 @@
--- The manager's demands of a match call follow from its promise.
+-- The manager's demands of a match call follow from its promise,
+-- and answers that keep no call's promise (document 01, How far the contracts reach).
 use Prim.Native.Nat.{ℕ}
 use mathlib.Core.Path.{_≡_, refl, sym, ap, _∙_}
-use mathlib.Core.Bool.{Bool, true, false, not}
-use mathlib.Core.List.{List, [], List·Memᴰ·head, List·Memᴰ·tail}
+use mathlib.Core.Bool.{Bool, true, false, not, true≢false}
+use mathlib.Core.List.{List, List·Memᴰ·head, List·Memᴰ·tail}
 use mathlib.Core.Logic.{_↔_}
-use native.Mathlib.Omega.{arith}
+use lib.ListN.{length, take}
+use lib.Seq.{take-at}
 use Rattle.text.specs.Unfolding.{unfolded}
-use Rattle.nesting.specs.Passing.{treeIn}
-use Rattle.calendar.specs.declared.Fault.{Fault}
 use Rattle.query.proofs.Fits.{layout-fits}
 use Rattle.query.proofs.LayoutLaws.{layout-sections}
 use Rattle.query_check.specs.QueryRules.{WellFormedQuery}
 use Rattle.query_check.specs.WellFormed.{queryGood}
 use Rattle.query_check.proofs.WellFormed.{query-records}
 use Rattle.query_check.proofs.QueryRules.{queryGood-iff}
-use Rattle.filter.proofs.FilterRules.{query-iff}
+use Rattle.nesting.specs.Passing.{treeIn}
+use Rattle.refusals.specs.Refusals.{NoneApplies, lowest, sizeRows}
+use Rattle.refusals.specs.Offsets.{offsetGood, contextOf}
+use Rattle.refusals.specs.Stages.{earlyFault}
+use Rattle.refusals.proofs.Refusals.{none-iff, lowest-iff}
 use Rattle.filter.specs.FilterRules.{QueryPasses}
 use Rattle.filter.specs.Tests.{queryHolds}
-use Rattle.refusals.specs.Refusals.{NoneApplies, lowest, NumbersRise, ends, sizeRows}
-use Rattle.refusals.specs.Offsets.{offsetGood, contextOf}
-use Rattle.refusals.proofs.Refusals.{none-iff, lowest-iff}
-use Rattle.refusals.proofs.Stages.{rises, sizes-rising, calendar-rising}
-use Rattle.engine.specs.Answers.{verdict, unlessRefused}
+use Rattle.filter.proofs.FilterRules.{query-iff}
+use Rattle.engine.specs.declared.Answer.{Answer}
+use Rattle.engine.specs.Answers.{verdict, Outcome, outcomeOf, refusalIn}
 use Rattle.engine.specs.Matching.{MatchCall, queryRows, matchRows, verdictBy, verdictOf, matchOutcome, Matched}
 use Rattle.engine.specs.Demands.{AnswersOrRefuses, MatchesWhen}
-use Rattle.engine.specs.declared.Answer.{Answer}
-use Rattle.engine.proofs.MatchingLaws.{query-rising}
-use Rattle.engine.proofs.MatchStages.{refused, let-through, verdict-apart, refusal-found, answer-found}
-
--- ---- the table of a match call
-
-pub match-rising : (m : MatchCall) → NumbersRise 0 (matchRows m)
-unfolding matchRows
-match-rising m =
-    rises 0 1 refl (omega arith)
-    (sizes-rising _ _ _ (query-rising _ _ (calendar-rising (contextOf (m .offset)) (unfolded (m .calendar)) [] ends)))
+use Rattle.engine.proofs.Answers.{refused, let-through, verdict-apart, refusal-found, verdict-found, no-report, same-verdict, left-by}
+use Rattle.engine.proofs.MatchingLaws.{match-rising}
 
 -- ---- Demand 1
-
-verdict-found : {t : Bool} (b : Bool) (f : Fault) → unlessRefused f (verdict b) ≡ verdict t → (f ≡ Fault.None) × (b ≡ t)
-verdict-found {t} b f e = let w = answer-found (verdict b) (verdict-apart t) f e in let same = w .1 in (w .0, cc)
 
 module _ {m : MatchCall} {a : Answer} {left : List ℕ} (p : Matched m a left) where
   pub answers-or-refuses : AnswersOrRefuses m a
@@ -109,3 +99,33 @@ module _ {m : MatchCall} {a : Answer} {left : List ℕ} (p : Matched m a left) w
               ∙ ap verdict (verdict-iff m (x .0) (x .1) .1 (x .2)),
         );
       }
+
+-- ---- answers that keep no promise
+
+module _ {m : MatchCall} {left : List ℕ} where
+  -- a refusal where nothing refuses
+  pub refuses-everything : {n : ℕ} → NoneApplies (matchRows m) → Matched m (Answer.Refused n) left → ⊥
+  unfolding NoneApplies outcomeOf
+  refuses-everything {n} h p = h n (answers-or-refuses p .refused-when n .0 refl .applies)
+
+  -- a length, made up or not, for a match
+  pub length-given : {n : ℕ} → Matched m (Answer.Length n) left → ⊥
+  unfolding matchOutcome outcomeOf
+  length-given {n} p = no-report (lowest (matchRows m)) (verdictOf m) n (p .answered)
+
+  -- no, where nothing refuses and the query passes
+  pub always-no : NoneApplies (matchRows m) → (w : WellFormedQuery (m .query))
+      → QueryPasses (contextOf (m .offset)) (m .query) (w .sections) (treeIn (unfolded (m .calendar)))
+      → Matched m (Answer.Verdict false) left
+      → ⊥
+  unfolding outcomeOf
+  always-no h w q p = true≢false (sym (same-verdict (matches-when p .matched-when .1 (h, w, q))))
+
+-- an answer that leaves the work buffer as it was: only where the unfolded calendar stood in it before
+pub work-unwritten : {m : MatchCall} {b : Bool} → Matched m (Answer.Verdict b) (m .work)
+    → take (length (unfolded (m .calendar))) (m .work) ≡ unfolded (m .calendar)
+unfolding outcomeOf refusalIn earlyFault
+work-unwritten {m} {b} p =
+    let cal = m .calendar in
+    let n = length (unfolded cal) in
+    ap (take n) (p .work-left ∙ left-by cal (m .work) (matchOutcome m) (ap (λ (x : Outcome). earlyFault (refusalIn x)) (sym (p .answered)))) ∙ take-at (unfolded cal) _ n refl

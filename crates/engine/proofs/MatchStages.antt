@@ -2,17 +2,15 @@
 use Prim.Native.Nat.{ℕ}
 use mathlib.Core.Path.{_≡_, refl, sym, ap, _∙_}
 use mathlib.Core.Bool.{Bool, true, false, not}
-use mathlib.Core.List.{List, [], _++_}
-use native.Mathlib.Omega.{arith}
+use mathlib.Core.List.{List, []}
 use lib.Dec.{leb}
 use lib.IntN.{ℤ}
-use lib.ListN.{length, take, drop}
+use lib.ListN.{take}
 use Rattle.text.specs.Unfolding.{unfolded}
 use Rattle.text.proofs.Unfolding.{unfolded-front}
 use Rattle.nesting.specs.Passing.{treeIn}
 use Rattle.values.specs.declared.times.Context.{Context}
 use Rattle.calendar.specs.declared.Fault.{Fault}
-use Rattle.query.specs.Sections.{sectionsOf}
 use Rattle.query.specs.declared.Sections.{Sections}
 use Rattle.query_check.specs.WellFormed.{queryRead}
 use Rattle.query_check.specs.declared.QueryRead.{QueryRead}
@@ -24,55 +22,23 @@ use Rattle.refusals.specs.declared.OffsetRead.{OffsetRead}
 use Rattle.refusals.specs.declared.Reading.{Reading}
 use Rattle.refusals.proofs.Offsets.{read-good, read-out}
 use Rattle.refusals.proofs.Refusals.{row-applies, row-passed}
-use Rattle.refusals.proofs.Stages.{sizes-early, sizes-passed, sizes-refused, calendar-lowest, calendar-late, work-by}
-use Rattle.engine.specs.Answers.{Outcome, verdict, report, refusal, outcomeOf, refusalIn, workAfter, unlessRefused}
+use Rattle.refusals.proofs.Stages.{sizes-early, sizes-passed, sizes-refused, calendar-lowest, calendar-late}
+use Rattle.engine.specs.Answers.{Outcome, verdict, refusal, outcomeOf, refusalIn, workAfter}
 use Rattle.engine.specs.Matching.{MatchCall, queryRows, matchRows, verdictBy, verdictOf, matchOutcome, Matched}
 use Rattle.engine.specs.MatchStages.{Answered, calendarOutcome, queryOutcome}
 use Rattle.engine.specs.declared.Answer.{Answer}
 use Rattle.engine.proofs.MatchingLaws.{query-refused-4, query-refused-5, query-passed, query-sections}
-
--- ---- refused or not
-
-pub refused : {f : Fault} {n i : ℕ} (o : Outcome) → f ≡ Fault.At n i → unlessRefused f o ≡ refusal n
-unfolding unlessRefused
-refused o e = rw e
-
-pub let-through : {f : Fault} (o : Outcome) → f ≡ Fault.None → unlessRefused f o ≡ o
-unfolding unlessRefused
-let-through o e = rw e
-
--- a verdict and a report are no refusals
-pub verdict-apart : (b : Bool) (k : ℕ) → verdict b ≡ refusal k → ⊥
-verdict-apart b k e = let z : _≡_ {A = ℕ} 0 1 = cc in absurd (omega arith)
-
-pub report-apart : (n k : ℕ) → report n ≡ refusal k → ⊥
-report-apart n k e = let z : _≡_ {A = ℕ} 0 1 = cc in absurd (omega arith)
-
--- an outcome that is a refusal names the lowest row; one that is none has no row
-pub refusal-found : {k : ℕ} (o : Outcome) → ((n : ℕ) → o ≡ refusal n → ⊥) → (f : Fault) → unlessRefused f o ≡ refusal k → (i : ℕ) × (f ≡ Fault.At k i)
-unfolding unlessRefused
-refusal-found {k} o h Fault.None e = absurd (h k e)
-refusal-found {k} o h (Fault.At n i) e = let z : n ≡ k = cc in (i, ap (λ (j : ℕ). Fault.At j i) z)
-
-pub answer-found : {p : Outcome} (o : Outcome) → ((n : ℕ) → p ≡ refusal n → ⊥) → (f : Fault) → unlessRefused f o ≡ p → (f ≡ Fault.None) × (o ≡ p)
-unfolding unlessRefused
-answer-found o h Fault.None e = (refl, e)
-answer-found o h (Fault.At n i) e = absurd (h n (sym e))
+use Rattle.engine.proofs.Answers.{refused, let-through, left-by}
 
 module _ (cal work : List ℕ) where
-  pub left-by : {t : Bool} (o : Outcome) → earlyFault (refusalIn o) ≡ t
-      → workAfter o cal work ≡ elim t as (λ y. List ℕ) [ true ↦ work | false ↦ unfolded cal ++ drop (length (unfolded cal)) work ]
-  unfolding workAfter
-  left-by o e = work-by cal work (refusalIn o) e
-
   -- a refusal by 1 to 5 leaves the buffer as it was; any other answer leaves the unfolded calendar in it
   pub early : {o : Outcome} (n : ℕ) → leb n 5 ≡ true → o ≡ refusal n → Answered o cal work (Answer.Refused n) work
   unfolding refusalIn earlyFault outcomeOf
-  early n h e = rw e (record { answered = refl; work-left = sym (left-by (refusal n) h) })
+  early n h e = rw e (record { answered = refl; work-left = sym (left-by cal work (refusal n) h) })
 
   module _ {left : List ℕ} {c : Context} {r : Reading} (k : CalendarRead c cal work left r) where
     pub late : {o : Outcome} (a : Answer) → outcomeOf a ≡ o → earlyFault (refusalIn o) ≡ false → Answered o cal work a left
-    late {o} a e h = record { answered = e; work-left = k .unfolds .bytes ∙ sym (left-by o h) }
+    late {o} a e h = record { answered = e; work-left = k .unfolds .bytes ∙ sym (left-by cal work o h) }
 
     pub lowest-fault : lowest (calendarRows c (unfolded cal) []) ≡ r .fault
     lowest-fault = calendar-lowest c (unfolded cal) ∙ sym (k .fault-is)

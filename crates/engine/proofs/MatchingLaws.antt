@@ -1,18 +1,21 @@
--- Refusals 4 and 5: what the rows of the query refuse, whatever rows follow, and what they leave to them.
+-- The rows of a match call: what 4 and 5 refuse, whatever rows follow, what they leave to them,
+-- and that the numbers rise.
 use Prim.Native.Nat.{ℕ}
 use mathlib.Core.Path.{_≡_, refl, subst}
-use mathlib.Core.List.{List}
+use mathlib.Core.List.{List, []}
 use native.Mathlib.Omega.{arith}
-use Rattle.calendar.specs.declared.Fault.{Fault}
+use Rattle.text.specs.Unfolding.{unfolded}
 use Rattle.query.specs.Sections.{sectionsOf}
 use Rattle.query.specs.declared.Sections.{Sections}
 use Rattle.query.specs.declared.SectionsRead.{SectionsRead}
 use Rattle.query_check.specs.WellFormed.{queryRead, ReadSays}
 use Rattle.query_check.specs.declared.QueryRead.{QueryRead}
 use Rattle.query_check.proofs.WellFormed.{read-says}
-use Rattle.refusals.specs.Refusals.{Row, lowest, NumbersRise}
-use Rattle.refusals.proofs.Stages.{rises}
-use Rattle.engine.specs.Matching.{misplacedIn, queryRows}
+use Rattle.calendar.specs.declared.Fault.{Fault}
+use Rattle.refusals.specs.Refusals.{Row, lowest, NumbersRise, ends}
+use Rattle.refusals.specs.Offsets.{contextOf}
+use Rattle.refusals.proofs.Stages.{rises, sizes-rising, calendar-rising}
+use Rattle.engine.specs.Matching.{misplacedIn, queryRows, MatchCall, matchRows}
 
 pub query-rising : (s : List ℕ) (rows : List Row) → NumbersRise 5 rows → NumbersRise 3 (queryRows s rows)
 unfolding queryRows
@@ -36,3 +39,11 @@ module _ (s : List ℕ) (rows : List Row) where
 
   pub query-sections : (q : Sections) → queryRead s ≡ QueryRead.Of q → sectionsOf s ≡ SectionsRead.Of q
   query-sections q e = let h : ReadSays s (QueryRead.Of q) = says e in h .1
+
+-- ---- the table of a match call
+
+pub match-rising : (m : MatchCall) → NumbersRise 0 (matchRows m)
+unfolding matchRows
+match-rising m =
+    rises 0 1 refl (omega arith)
+    (sizes-rising _ _ _ (query-rising _ _ (calendar-rising (contextOf (m .offset)) (unfolded (m .calendar)) [] ends)))

@@ -1,51 +1,23 @@
--- Demand 1 of the report call follows from its promise: the lowest refusal that applies, else the report, whose bytes stand first in the output.
-use Prim.Native.Nat.{ℕ, _≤_, _<_}
-use mathlib.Core.Path.{_≡_, refl, sym, ap, _∙_}
-use mathlib.Core.Bool.{false}
-use mathlib.Core.List.{List, _++_, List·Memᴰ}
+-- Demand 1 of the report call follows from its promise: the lowest refusal that applies, else the report, whose bytes stand first in the output;
+-- and answers and outputs that keep no promise (document 01, How far the contracts reach).
+use Prim.Native.Nat.{ℕ}
+use mathlib.Core.Path.{_≡_, sym, ap, _∙_, refl}
+use mathlib.Core.List.{List, _++_}
+use mathlib.Core.Bool.{Bool}
 use native.Mathlib.Omega.{arith}
 use lib.ListN.{length, take, drop, length-append}
 use lib.Seq.{take-at}
-use Rattle.ascii.proofs.Bools.{not-so}
-use Rattle.text.specs.Unfolding.{unfolded}
-use Rattle.calendar.specs.declared.Fault.{Fault}
 use Rattle.report.specs.Bytes.{reportBytes}
-use Rattle.refusals.specs.Refusals.{NoneApplies, Row, lowest, NumbersRise, ends, goes-on}
-use Rattle.refusals.specs.Offsets.{contextOf}
+use Rattle.refusals.specs.Refusals.{NoneApplies, lowest}
 use Rattle.refusals.proofs.Refusals.{none-iff, lowest-iff}
-use Rattle.refusals.proofs.Stages.{rises, sizes-rising, calendar-rising}
-use Rattle.collecting.specs.CalendarTerms.{reportFor, pieceRows, collectRows}
-use Rattle.engine.specs.Answers.{Outcome, report, refusal, unlessRefused}
+use Rattle.collecting.specs.CalendarTerms.{reportFor}
+use Rattle.engine.specs.declared.Answer.{Answer}
+use Rattle.engine.specs.Answers.{Outcome, report, outcomeOf}
 use Rattle.engine.specs.Reporting.{ReportCall, reportRows, reportOutcome, outputAfter, Reported}
 use Rattle.engine.specs.Meanings.{IsReport}
 use Rattle.engine.specs.ReportAnswers.{ReportsOrRefuses, ReportWritten}
-use Rattle.engine.specs.declared.Answer.{Answer}
-use Rattle.engine.proofs.MatchStages.{refused, let-through, report-apart, refusal-found, answer-found}
-
--- ---- the table of a report call
-
--- rows above a number are above any lower one
-from-lower : {n m : ℕ} {rows : List Row} → n ≤ m → NumbersRise m rows → NumbersRise n rows
-from-lower h ends = ends
-from-lower {n} {m} h (goes-on {r = r} k g) = let z : n < r .number = omega arith in goes-on z g
-
-pub report-rising : (m : ReportCall) → NumbersRise 0 (reportRows m)
-unfolding reportRows collectRows pieceRows
-report-rising m =
-    rises 0 1 refl (omega arith)
-    (sizes-rising _ _ _
-    (from-lower (omega arith)
-    (calendar-rising (contextOf (m .terms .offset)) (unfolded (m .terms .calendar)) _ (rises 10 11 refl (omega arith) (rises 11 12 refl (omega arith) ends)))))
-
--- no row of a call that nothing refuses applies
-pub not-applied : (m : ReportCall) → NoneApplies (reportRows m) → {r : Row} → List·Memᴰ r (reportRows m) → r .applies ≡ false
-unfolding NoneApplies
-not-applied m h {r} l = not-so (r .applies) (λ e. h (r .number) (record { which = r; listed = l; numbered = refl; applies = e }))
-
--- ---- outcomes
-
-report-found : {k : ℕ} (n : ℕ) (f : Fault) → unlessRefused f (report n) ≡ report k → (f ≡ Fault.None) × (k ≡ n)
-report-found {k} n f e = let w = answer-found (report n) (report-apart k) f e in let same = w .1 in (w .0, cc)
+use Rattle.engine.proofs.Answers.{refused, let-through, report-apart, refusal-found, report-found, no-verdict}
+use Rattle.engine.proofs.ReportingLaws.{report-rising}
 
 -- ---- the promise
 
@@ -78,3 +50,32 @@ module _ {m : ReportCall} {a : Answer} {work-left out-left : List ℕ} (p : Repo
         its-bytes = ap (take n) z ∙ take-at x _ n (sym (f .1));
         has-room = rw z (omega (arith, f .1, length-append x (drop (length x) (m .output))));
       }
+
+-- ---- answers and outputs that keep no promise
+
+module _ {m : ReportCall} {work-left out-left : List ℕ} where
+  -- a refusal where nothing refuses
+  pub refuses-report : {n : ℕ} → NoneApplies (reportRows m) → Reported m (Answer.Refused n) work-left out-left → ⊥
+  unfolding NoneApplies outcomeOf
+  refuses-report {n} h p = h n (reports-or-refuses p .refused-when n .0 refl .applies)
+
+  -- a length that is not the report's
+  pub made-up-length : {n : ℕ} → (n ≡ length (reportBytes (reportFor (m .terms))) → ⊥) → Reported m (Answer.Length n) work-left out-left → ⊥
+  unfolding IsReport outcomeOf
+  made-up-length h p = h (written-report p refl .its-length)
+
+  -- a verdict for a report
+  pub verdict-given : {t : Bool} → Reported m (Answer.Verdict t) work-left out-left → ⊥
+  unfolding reportOutcome outcomeOf
+  verdict-given {t} p = no-verdict (lowest (reportRows m)) t (length (reportBytes (reportFor (m .terms)))) (p .answered)
+
+  -- any refusal leaves the output as it was
+  pub output-kept : {n : ℕ} → Reported m (Answer.Refused n) work-left out-left → out-left ≡ m .output
+  unfolding outcomeOf outputAfter
+  output-kept p = p .output-left-is ∙ ap (λ (o : Outcome). outputAfter o (reportBytes (reportFor (m .terms))) (m .output)) (sym (p .answered))
+
+-- an output left as it was: only where the report stood in it before
+pub output-unwritten : {m : ReportCall} {n : ℕ} {work-left : List ℕ} → Reported m (Answer.Length n) work-left (m .output)
+    → take n (m .output) ≡ reportBytes (reportFor (m .terms))
+unfolding IsReport outcomeOf
+output-unwritten p = written-report p refl .its-bytes

@@ -12,11 +12,11 @@ use Rattle.table.specs.Tables.{Sound}
 use Rattle.table.specs.declared.Table.{Table}
 use Rattle.report.specs.Bytes.{reportBytes, reportLength}
 use Rattle.report.specs.Writing.{reportOf, Put}
-use Rattle.report.proofs.Bytes.{tables-length}
+use Rattle.report.proofs.Writing.{tables-length}
 use Rattle.refusals.specs.Refusals.{lowest}
 use Rattle.refusals.specs.Stages.{earlyFault}
 use Rattle.calendar.specs.declared.Fault.{Fault}
-use Rattle.engine.specs.Answers.{Outcome, report, outcomeOf, answerBy, lengthIn, refusalIn, unlessRefused}
+use Rattle.engine.specs.Answers.{Outcome, report, lengthIn, refusalIn, unlessRefused}
 use Rattle.engine.specs.Reporting.{outputAfter}
 use Rattle.engine.specs.ReportWriting.{writeRows, writeOutcome, Wrote}
 use Rattle.engine.specs.declared.reporting.Written.{Written}
@@ -28,12 +28,6 @@ module _ (a b s : ℕ) (x y z : Table) (g : Sound x × Sound y × Sound z) {n : 
 
   pub counted-room : {l : ℕ} → n ≤ l → length (reportBytes (reportOf a b s x y z)) ≤ l
   counted-room h = omega (arith, counted)
-
--- an answer by its refusal and length has the outcome that they make
-pub answer-by : (f : Fault) (n : ℕ) → outcomeOf (answerBy f (lengthIn (unlessRefused f (report n)))) ≡ unlessRefused f (report n)
-unfolding outcomeOf answerBy lengthIn unlessRefused
-answer-by Fault.None n = refl
-answer-by (Fault.At k i) n = refl
 
 module _ (bytes out : List ℕ) where
   rows-short : length out < length bytes → lowest (writeRows bytes out) ≡ Fault.At 12 0

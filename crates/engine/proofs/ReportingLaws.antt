@@ -1,35 +1,86 @@
--- A report call from its collected tables on: the rows that are left, what can be written, and the outcome at each way out.
-use Prim.Native.Nat.{ℕ}
+-- The rows of a report call and what is known where none applies; from its collected tables on,
+-- the rows that are left, what can be written, and the outcome at each way out.
+use Prim.Native.Nat.{ℕ, _≤_, _<_}
 use mathlib.Core.Path.{_≡_, refl, sym, ap, _∙_, subst}
-use mathlib.Core.Bool.{true, _&&_}
-use mathlib.Core.List.{List, [], List·Memᴰ·head}
-use lib.IntN.{ℤ}
+use mathlib.Core.Bool.{false, true, _&&_}
+use mathlib.Core.List.{List, List·Memᴰ, List·Memᴰ·head, List·Memᴰ·tail, []}
+use native.Mathlib.Omega.{arith}
 use lib.ListN.{length}
-use borrow.Author.Tests.{not-false}
+use lib.IntN.{ℤ}
+use borrow.Author.Tests.{ltb-false, not-false}
+use Rattle.ascii.proofs.Bools.{not-so, and-left, and-right}
+use Rattle.text.specs.Unfolding.{unfolded}
 use Rattle.time.specs.Limits.{rangeGood}
-use Rattle.ascii.proofs.Bools.{and-left, and-right, not-so}
 use Rattle.periods.specs.declared.BusyType.{BusyType}
-use Rattle.table.specs.declared.Table.{Table}
-use Rattle.report.specs.Bytes.{Report, reportBytes, GoodPeriods, Writable}
-use Rattle.report.specs.Writing.{byType, reportOf}
 use Rattle.periods.specs.BusyTypes.{isBusy, reportPlace}
+use Rattle.table.specs.declared.Table.{Table}
+use Rattle.report.specs.Bytes.{periodCount, Report, reportBytes, GoodPeriods, Writable}
+use Rattle.report.specs.Writing.{byType, reportOf}
+use Rattle.report.proofs.Bytes.{equal-bytes}
 use Rattle.calendar.specs.declared.Fault.{Fault}
-use Rattle.refusals.specs.Refusals.{NoneApplies, Row, lowest, sizeRows, calendarRows, contentsRows}
-use Rattle.refusals.specs.Offsets.{offsetGood}
-use Rattle.refusals.proofs.Refusals.{none-iff, stage-passed, stage-refused}
+use Rattle.refusals.specs.Refusals.{NoneApplies, Row, NumbersRise, ends, goes-on, sizeRows, calendarRows, contentsRows, lowest}
+use Rattle.refusals.specs.Offsets.{contextOf, offsetGood}
 use Rattle.refusals.specs.Stages.{earlyFault, workBy}
-use Rattle.collecting.specs.CalendarTerms.{CalendarTerms, stampGood, reportFor, pieceRows, collectRows}
+use Rattle.refusals.proofs.Stages.{rises, sizes-rising, calendar-rising}
+use Rattle.refusals.proofs.Refusals.{none-iff, stage-passed, stage-refused}
+use Rattle.collecting.specs.CalendarTerms.{pieceRows, collectRows, stampGood, piecesFor, reportFor, CalendarTerms}
 use Rattle.collecting.specs.Collecting.{periodsBy, Collects}
 use Rattle.collecting.specs.declared.Collected.{Collected}
-use Rattle.engine.specs.Answers.{Outcome, report, refusal, outcomeOf, answerBy, lengthIn, refusalIn, workAfter, unlessRefused}
-use Rattle.engine.specs.Reporting.{ReportCall, reportRows, reportOutcome, outputAfter, Reported, ReportedTables}
-use Rattle.engine.specs.ReportWriting.{writeRows, writeOutcome, Wrote}
+use Rattle.collecting.proofs.CalendarTerms.{periods-few, writable}
 use Rattle.engine.specs.declared.Answer.{Answer}
 use Rattle.engine.specs.declared.ReportTables.{ReportTables}
 use Rattle.engine.specs.declared.reporting.Written.{Written}
-use Rattle.engine.proofs.MatchStages.{refused, left-by}
-use Rattle.engine.proofs.Reports.{writable, equal-bytes}
-use Rattle.engine.proofs.ReportWriting.{answer-by, write-late}
+use Rattle.engine.specs.Reporting.{ReportCall, reportRows, reportOutcome, outputAfter, Reported, ReportedTables}
+use Rattle.engine.specs.Answers.{Outcome, report, refusal, outcomeOf, answerBy, lengthIn, refusalIn, workAfter, unlessRefused}
+use Rattle.engine.specs.ReportWriting.{writeRows, writeOutcome, Wrote}
+use Rattle.engine.proofs.Answers.{refused, answer-by, left-by}
+use Rattle.engine.proofs.ReportWriting.{write-late}
+
+-- ---- the table of a report call
+
+-- rows above a number are above any lower one
+from-lower : {n m : ℕ} {rows : List Row} → n ≤ m → NumbersRise m rows → NumbersRise n rows
+from-lower h ends = ends
+from-lower {n} {m} h (goes-on {r = r} k g) = let z : n < r .number = omega arith in goes-on z g
+
+pub report-rising : (m : ReportCall) → NumbersRise 0 (reportRows m)
+unfolding reportRows collectRows pieceRows
+report-rising m =
+    rises 0 1 refl (omega arith)
+    (sizes-rising _ _ _
+    (from-lower (omega arith)
+    (calendar-rising (contextOf (m .terms .offset)) (unfolded (m .terms .calendar)) _ (rises 10 11 refl (omega arith) (rises 11 12 refl (omega arith) ends)))))
+
+-- no row of a call that nothing refuses applies
+pub not-applied : (m : ReportCall) → NoneApplies (reportRows m) → {r : Row} → List·Memᴰ r (reportRows m) → r .applies ≡ false
+unfolding NoneApplies
+not-applied m h {r} l = not-so (r .applies) (λ e. h (r .number) (record { which = r; listed = l; numbered = refl; applies = e }))
+
+-- ---- what is known where nothing refuses
+
+module _ (m : ReportCall) (h : NoneApplies (reportRows m)) where
+  first-row : (rangeGood (m .terms .start) (m .terms .end) && stampGood (m .terms .stamp) && offsetGood (m .terms .offset)) ≡ true
+  unfolding reportRows collectRows
+  first-row = not-false _ (not-applied m h (List·Memᴰ·head refl))
+
+  pub range-good : rangeGood (m .terms .start) (m .terms .end) ≡ true
+  range-good = and-left (rangeGood (m .terms .start) (m .terms .end)) _ (and-left (rangeGood (m .terms .start) (m .terms .end) && stampGood (m .terms .stamp)) _ first-row)
+
+  pub stamp-good : stampGood (m .terms .stamp) ≡ true
+  stamp-good = and-right (rangeGood (m .terms .start) (m .terms .end)) _ (and-left (rangeGood (m .terms .start) (m .terms .end) && stampGood (m .terms .stamp)) _ first-row)
+
+  pub few-pieces : length (piecesFor (m .terms)) ≤ 512
+  unfolding reportRows collectRows sizeRows calendarRows contentsRows pieceRows
+  few-pieces =
+      ltb-false _ _
+      (not-applied m h
+      (List·Memᴰ·tail
+      (List·Memᴰ·tail
+      (List·Memᴰ·tail
+      (List·Memᴰ·tail (List·Memᴰ·tail (List·Memᴰ·tail (List·Memᴰ·tail (List·Memᴰ·tail (List·Memᴰ·head refl))))))))))
+
+pub few-periods : (m : ReportCall) → NoneApplies (reportRows m) → periodCount (reportFor (m .terms)) ≤ 512
+few-periods m h = omega (arith, periods-few (m .terms) (range-good m h), few-pieces m h)
 
 -- ---- the rows that are left once the tables are collected
 

@@ -1,6 +1,3 @@
-pub mod Lines
-pub mod Nested
-pub mod Values
+pub mod ReadingLines
+pub mod ReadingNested
 pub mod Reading
-pub mod Sizes
-pub mod BusyTypes

@@ -1,19 +1,20 @@
--- How long a report is: its lines in parts, and the length of each part.
-use Prim.Native.Nat.{ℕ, zero, suc, _+_, _*_, _≤_}
+-- How long a report is: its lines in parts, the length of each part, and how many bytes it has at most;
+-- equal periods have equal bytes.
+use Prim.Native.Nat.{ℕ, suc, _+_, _*_, _≤_}
 use mathlib.Core.Path.{_≡_, refl, sym, ap, _∙_}
 use mathlib.Core.List.{List, [], _∷_, _++_, append-assoc}
+use mathlib.Core.Bool.{true}
 use native.Mathlib.Omega.{arith}
 use native.Mathlib.Nat.{mul-suc}
-use lib.ListN.{length, take, length-append}
+use lib.ListN.{length, length-append}
+use Rattle.ascii.proofs.Bools.{clash}
 use Rattle.text.specs.Lines.{joined}
 use Rattle.time.specs.Writing.{utcText, dateText, timeText}
 use Rattle.periods.specs.declared.Period.{Period}
 use Rattle.periods.specs.declared.BusyType.{BusyType}
-use Rattle.table.specs.Tables.{rows, listed, Sound}
-use Rattle.table.specs.declared.Table.{Table}
-use Rattle.report.specs.Bytes.{Report, periodHead, periodText, periodLines, busyLines, reportLines, reportBytes, reportLength}
+use Rattle.periods.specs.BusyTypes.{reportPlace, isBusy}
+use Rattle.report.specs.Bytes.{Report, periodHead, periodText, periodLines, busyLines, reportLines, reportBytes, reportLength, periodCount}
 use Rattle.report.specs.Heads.{stampHead, startHead, endHead, timed, opening, closing}
-use Rattle.report.specs.Writing.{byType, reportOf}
 
 -- lines behind lines
 pub joined-append : (ls ms : List (List ℕ)) → joined (ls ++ ms) ≡ joined ls ++ joined ms
@@ -32,16 +33,6 @@ unfolding busyLines
 busy-parts f =
     joined-append (periodLines (periodHead BusyType.Busy) (f BusyType.Busy)) _
     ∙ ap (λ (x : List ℕ). typeBytes BusyType.Busy (f BusyType.Busy) ++ x) (joined-append (periodLines (periodHead BusyType.Tentative) (f BusyType.Tentative)) _)
-
-pub types-parts : (x y z : Table)
-    → joined (busyLines (byType x y z)) ≡ typeBytes BusyType.Busy (listed x) ++ (typeBytes BusyType.Tentative (listed y) ++ typeBytes BusyType.Unavailable (listed z))
-unfolding byType
-types-parts x y z = busy-parts (byType x y z)
-
-pub types-length : (x y z : Table)
-    → length (joined (busyLines (byType x y z)))
-    ≡ length (typeBytes BusyType.Busy (listed x)) + (length (typeBytes BusyType.Tentative (listed y)) + length (typeBytes BusyType.Unavailable (listed z)))
-types-length x y z = ap length (types-parts x y z) ∙ simp length-append
 
 -- a report is its opening, the lines of its periods, and its closing
 pub report-parts : (r : Report) → reportBytes r ≡ opening (r .start) (r .end) (r .stamp) ++ (joined (busyLines (r .periods)) ++ closing)
@@ -88,23 +79,23 @@ pub report-length : (r : Report) → length (reportBytes r) ≡ reportLength (le
 unfolding reportLength
 report-length r = omega (arith, parts-length r, busy-length (r .periods))
 
--- as many periods as rows are counted
-pub rows-length : (n : ℕ) (ss es : List ℕ) → n ≤ length ss → n ≤ length es → length (take n (rows ss es)) ≡ n
-unfolding rows
-rows-length zero ss es h k = refl
-rows-length (suc n) [] es h k = absurd (omega arith)
-rows-length (suc n) (s ∷ ss) [] h k = absurd (omega arith)
-rows-length (suc n) (s ∷ ss) (e ∷ es) h k = ap suc (rows-length n ss es (omega arith) (omega arith))
+-- 512 periods of the longest line
+pub report-short : (r : Report) → periodCount r ≤ 512 → length (reportBytes r) ≤ 35006
+unfolding periodCount reportLength
+report-short r h = rw (report-length r) (omega arith)
 
-listed-length : (t : Table) → Sound t → length (listed t) ≡ t .count
-unfolding listed
-listed-length t g = rows-length (t .count) (t .starts) (t .ends) (omega (arith, g .few, g .starts-long)) (omega (arith, g .few, g .ends-long))
+-- a report of 190 bytes lists no period
+pub empty-periods : (r : Report) → length (reportBytes r) ≡ 190 → (b : BusyType) → isBusy b ≡ true → length (r .periods b) ≡ 0
+unfolding reportLength isBusy reportPlace
+empty-periods r e BusyType.Busy u = omega (arith, report-length r)
+empty-periods r e BusyType.Tentative u = omega (arith, report-length r)
+empty-periods r e BusyType.Unavailable u = omega (arith, report-length r)
+empty-periods r e BusyType.Free u = clash u refl
 
-pub tables-length : (a b s : ℕ) (x y z : Table) → Sound x → Sound y → Sound z
-    → length (reportBytes (reportOf a b s x y z)) ≡ reportLength (x .count) (y .count) (z .count)
-unfolding reportOf byType
-tables-length a b s x y z f g h = report-length (reportOf a b s x y z) ∙ rw (listed-length x f, listed-length y g, listed-length z h)
+-- ---- equal periods, equal bytes
 
-pub tables-parts : (a b s : ℕ) (x y z : Table) → length (reportBytes (reportOf a b s x y z)) ≡ 160 + (length (joined (busyLines (byType x y z))) + 30)
-unfolding reportOf
-tables-parts a b s x y z = parts-length (reportOf a b s x y z)
+pub equal-bytes : (r s : Report) → r .start ≡ s .start → r .end ≡ s .end → r .stamp ≡ s .stamp
+    → ((b : BusyType) → isBusy b ≡ true → r .periods b ≡ s .periods b)
+    → reportBytes r ≡ reportBytes s
+unfolding reportBytes reportLines busyLines isBusy reportPlace
+equal-bytes r s x y z p = rw (x, y, z, p BusyType.Busy refl, p BusyType.Tentative refl, p BusyType.Unavailable refl)

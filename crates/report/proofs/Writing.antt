@@ -1,24 +1,60 @@
--- Bytes written one run behind another: two runs are one, and what is left to write.
+-- Bytes written one run behind another: two runs are one, and what is left to write;
+-- the lines of three tables, and how long they are.
 use Prim.Native.Nat.{ℕ, zero, suc, _+_, _≤_, _<_}
-use mathlib.Core.Path.{_≡_, refl, sym, ap, subst, _∙_}
+use mathlib.Core.Path.{_≡_, refl, ap, _∙_, sym, subst}
 use mathlib.Core.List.{List, [], _∷_, _++_, append-assoc}
 use native.Mathlib.Omega.{arith}
-use lib.ListN.{length, take, drop, getD, length-append, drop-of-length-le}
+use lib.ListN.{length, take, length-append, drop, getD, drop-of-length-le}
 use lib.Seq.{sets, sets-eq, length-sets, take-append-seam, drop-append-seam}
 use Rattle.text.specs.Lines.{joined}
-use Rattle.time.proofs.Stores.{sets-append}
-use Rattle.time.proofs.WritingLaws.{utcText-length}
 use Rattle.time.specs.Writing.{utcText}
 use Rattle.time.specs.Limits.{lastSecond}
-use Rattle.periods.specs.declared.Period.{Period}
+use Rattle.time.proofs.Stores.{sets-append}
+use Rattle.time.proofs.WritingLaws.{utcText-length}
 use Rattle.periods.specs.declared.BusyType.{BusyType}
+use Rattle.periods.specs.declared.Period.{Period}
 use Rattle.periods.specs.Periods.{period}
-use Rattle.table.specs.Tables.{rows, listed}
+use Rattle.table.specs.Tables.{rows, listed, Sound}
 use Rattle.table.specs.declared.Table.{Table}
-use Rattle.report.specs.Bytes.{periodText, periodLines, busyLines, reportBytes, GoodPeriods, then, Writable}
-use Rattle.report.specs.Heads.{timed, stampHead, startHead, endHead, opening, closing}
+use Rattle.report.specs.Bytes.{busyLines, reportBytes, reportLength, periodText, periodLines, GoodPeriods, then, Writable}
 use Rattle.report.specs.Writing.{byType, reportOf, Put}
-use Rattle.report.proofs.Bytes.{typeBytes, types-parts, types-length, report-parts, lines-length, opening-length, closing-length, tables-parts}
+use Rattle.report.specs.Heads.{timed, stampHead, startHead, endHead, opening, closing}
+use Rattle.report.proofs.Bytes.{typeBytes, busy-parts, parts-length, report-length, report-parts, lines-length, opening-length, closing-length}
+
+-- ---- the lines of three tables
+
+pub types-parts : (x y z : Table)
+    → joined (busyLines (byType x y z)) ≡ typeBytes BusyType.Busy (listed x) ++ (typeBytes BusyType.Tentative (listed y) ++ typeBytes BusyType.Unavailable (listed z))
+unfolding byType
+types-parts x y z = busy-parts (byType x y z)
+
+pub types-length : (x y z : Table)
+    → length (joined (busyLines (byType x y z)))
+    ≡ length (typeBytes BusyType.Busy (listed x)) + (length (typeBytes BusyType.Tentative (listed y)) + length (typeBytes BusyType.Unavailable (listed z)))
+types-length x y z = ap length (types-parts x y z) ∙ simp length-append
+
+-- as many periods as rows are counted
+pub rows-length : (n : ℕ) (ss es : List ℕ) → n ≤ length ss → n ≤ length es → length (take n (rows ss es)) ≡ n
+unfolding rows
+rows-length zero ss es h k = refl
+rows-length (suc n) [] es h k = absurd (omega arith)
+rows-length (suc n) (s ∷ ss) [] h k = absurd (omega arith)
+rows-length (suc n) (s ∷ ss) (e ∷ es) h k = ap suc (rows-length n ss es (omega arith) (omega arith))
+
+listed-length : (t : Table) → Sound t → length (listed t) ≡ t .count
+unfolding listed
+listed-length t g = rows-length (t .count) (t .starts) (t .ends) (omega (arith, g .few, g .starts-long)) (omega (arith, g .few, g .ends-long))
+
+pub tables-length : (a b s : ℕ) (x y z : Table) → Sound x → Sound y → Sound z
+    → length (reportBytes (reportOf a b s x y z)) ≡ reportLength (x .count) (y .count) (z .count)
+unfolding reportOf byType
+tables-length a b s x y z f g h = report-length (reportOf a b s x y z) ∙ rw (listed-length x f, listed-length y g, listed-length z h)
+
+pub tables-parts : (a b s : ℕ) (x y z : Table) → length (reportBytes (reportOf a b s x y z)) ≡ 160 + (length (joined (busyLines (byType x y z))) + 30)
+unfolding reportOf
+tables-parts a b s x y z = parts-length (reportOf a b s x y z)
+
+-- ---- runs of bytes
 
 -- what was stored at a place, and the place behind it
 pub put-stored : {o o′ x : List ℕ} {a r : ℕ} → o′ ≡ sets o a x → r ≡ a + length x → Put o a x o′ r

@@ -1,16 +1,18 @@
--- The limits of a second, both ways round: a clock's UTC second, and the clock that has it.
+-- The limits of a second, both ways round: a clock's UTC second, and the clock that has it;
+-- and what a good range is.
 use Prim.Native.Nat.{ℕ, _+_, _-_, _*_, _≤_, _<_}
 use mathlib.Core.Path.{_≡_, refl, sym, ap, _∙_}
 use mathlib.Core.Bool.{Bool, true, false, cond, _&&_}
 use mathlib.Core.Logic.{_↔_}
 use native.Mathlib.Omega.{arith}
-use lib.Dec.{leb}
-use borrow.Author.Tests.{leb-true, le-leb, lt-leb}
+use native.Mathlib.Nat.{add-sub-of-le}
+use lib.Dec.{leb, ltb}
+use borrow.Author.Tests.{leb-true, le-leb, lt-leb, ltb-true}
 use Rattle.ascii.proofs.Bools.{and-left, and-right}
 use Rattle.time.specs.declared.date_time.Kind.{Kind}
 use Rattle.time.specs.declared.limits.Second.{Second}
 use Rattle.time.specs.Days.{daysBeforeYear}
-use Rattle.time.specs.Limits.{epoch, lastSecond, since, utcSecond}
+use Rattle.time.specs.Limits.{epoch, lastSecond, since, utcSecond, rangeGood}
 use Rattle.time.proofs.DaysLaws.{daysBeforeYear-direct}
 
 -- 1970 begins at the epoch
@@ -73,6 +75,24 @@ pub utcSecond-iff : (kind : Kind) (clock shift t : ℕ)
     → (utcSecond kind clock shift ≡ Second.At t) ↔ ((t ≤ lastSecond) × (t + start kind shift ≡ clock + 50400))
 utcSecond-iff kind clock shift t = (λ e. utcSecond-in kind clock shift t e, λ p. utcSecond-of kind clock shift t (p .0) (p .1))
 
+-- the UTC clock of a second is that second again, whatever the offset
+pub second-written : (t shift : ℕ) → t ≤ lastSecond → utcSecond Kind.Utc (t + epoch) shift ≡ Second.At t
+second-written t shift h = utcSecond-of Kind.Utc (t + epoch) shift t h (omega arith)
+
 -- of equal kinds, the same second
 pub utcSecond-kind : (k l : Kind) (clock shift : ℕ) → k ≡ l → utcSecond l clock shift ≡ utcSecond k clock shift
 utcSecond-kind k l clock shift e = rw e
+
+-- ---- a good range
+
+pub range-rising : (a e : ℕ) → rangeGood a e ≡ true → a < e
+unfolding rangeGood
+range-rising a e g = ltb-true a e (and-left (ltb a e) _ g)
+
+pub range-limit : (a e : ℕ) → rangeGood a e ≡ true → e ≤ lastSecond
+unfolding rangeGood
+range-limit a e g = leb-true e lastSecond (and-right (ltb a e) _ g)
+
+-- its seconds, counted from its start, reach its end
+pub range-width : (a e : ℕ) → rangeGood a e ≡ true → a + (e - a) ≡ e
+range-width a e g = add-sub-of-le (let z : a ≤ e = omega (arith, range-rising a e g) in z)

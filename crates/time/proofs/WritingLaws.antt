@@ -17,17 +17,15 @@ use Rattle.ascii.proofs.Bytes.{inside}
 use Rattle.time.specs.declared.date_time.Number.{Number}
 use Rattle.time.specs.declared.date_time.DateTime.{DateTime}
 use Rattle.time.specs.declared.date_time.Kind.{Kind}
-use Rattle.time.specs.declared.limits.Second.{Second}
 use Rattle.time.specs.declared.writing.Day.{Day}
 use Rattle.time.specs.Days.{isLeap, yearIn, yearDays, daysBeforeYear, monthLengths, lengthIn, beforeIn, daysBeforeMonth, monthDays, isDay, dayNumber}
 use Rattle.time.specs.Writing.{yearOf, dayOfYear, begun, monthIn, dayOf, digit, dateText, timeText, utcText, isUtcByte}
 use Rattle.time.specs.DateTime.{digitPair, pairAt, joined, yearAt, checkedDay, three, dateAt, checkedTime, timeAt, readDateTime}
-use Rattle.time.specs.Limits.{epoch, lastSecond, utcSecond}
+use Rattle.time.specs.Limits.{epoch, lastSecond}
 use Rattle.time.proofs.Below.{below}
 use Rattle.time.proofs.DaysLaws.{sum-direct, epoch-day, monthDays-small}
 use Rattle.time.proofs.DateTime.{clockAt-of, readDateTime-utc}
 use Rattle.time.proofs.Stores.{sets-append}
-use Rattle.time.proofs.LimitsLaws.{utcSecond-of}
 
 -- the month by a division
 pub monthIn-early : (leap : Bool) (n : ℕ) → n < 59 → (12 * n + 373) / 367 ≡ monthIn leap n
@@ -252,10 +250,6 @@ read-written t h =
     date-read (dayOf (t / 86400)) (timeText (t % 86400)) (p .year-small) (p .month-small) (p .day-small) ∙ p .numbered in
     sym (clock-read (dayOf (t / 86400)) (t % 86400) (t / 86400 + 719528) e (time-read (dayOf (t / 86400)) (t % 86400) s))
     ∙ ap (λ (c : ℕ). DateTime.At Kind.Utc c) (clock-sum t)
-
--- and its clock is that second again, whatever the offset
-pub second-written : (t shift : ℕ) → t ≤ lastSecond → utcSecond Kind.Utc (t + epoch) shift ≡ Second.At t
-second-written t shift h = utcSecond-of Kind.Utc (t + epoch) shift t h (omega arith)
 
 -- a text that reads as one second is no other second's
 pub utcText-one : (t u : ℕ) → t ≤ lastSecond → u ≤ lastSecond → utcText t ≡ utcText u → t ≡ u

@@ -21,9 +21,9 @@ use Rattle.time.specs.declared.date_time.Number.{Number}
 use Rattle.time.specs.declared.limits.Second.{Second}
 use Rattle.time.specs.declared.duration.Duration.{Duration}
 use Rattle.time.specs.declared.duration.DurationRead.{DurationRead}
-use Rattle.time.proofs.LimitsLaws.{utcSecond-in}
+use Rattle.time.proofs.LimitsLaws.{utcSecond-in, second-written}
 use Rattle.time.proofs.DurationLaws.{durationText-small, readDuration-in}
-use Rattle.time.proofs.WritingLaws.{utcText-bytes, read-written, second-written}
+use Rattle.time.proofs.WritingLaws.{utcText-bytes, read-written}
 use Rattle.values.specs.Period.{utcBy, utcAt, endBy, periodTo, periodFrom, periodOf, periodItems, isPeriod, allPeriods, goodPeriods, DurationSmall, PeriodSmall}
 use Rattle.periods.specs.declared.Period.{Period}
 use Rattle.values.specs.declared.period.PeriodRead.{PeriodRead}

@@ -8,7 +8,8 @@ use Rattle.refusals.specs.Stages.{sizeFault}
 use Rattle.refusals.specs.declared.OffsetRead.{OffsetRead}
 use Rattle.refusals.proofs.Stages.{sizes-room}
 use Rattle.collecting.specs.CollectStages.{callRead}
-use Rattle.collecting.proofs.Collecting.{call-given, call-bounds, collect-refused-1, collect-refused-sizes, collect-sizes-passed}
+use Rattle.collecting.proofs.CollectStages.{call-given, call-bounds}
+use Rattle.collecting.proofs.Collecting.{collect-refused-1, collect-refused-sizes, collect-sizes-passed}
 use borrow.Author.Needs.{needs}
 use Rattle.collecting.proofs.collect.Statement.{statement}
 use Rattle.collecting.proofs.collect.Tie as tie

@@ -1,7 +1,7 @@
 -- Structure and contents are asked of the part of the buffer that unfolding wrote.
 use Rattle.text.proofs.Unfolding.{unfolded-room}
 use Rattle.refusals.proofs.Stages.{unfolded-long}
-use Rattle.collecting.proofs.Collecting.{calendar-refuses, calendar-passes}
+use Rattle.collecting.proofs.CollectStages.{calendar-refuses, calendar-passes}
 use borrow.Author.Needs.{needs}
 use Rattle.collecting.proofs.collect_calendar.Statement.{statement}
 use Rattle.collecting.proofs.collect_calendar.Tie as tie

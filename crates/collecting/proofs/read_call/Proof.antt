@@ -3,7 +3,7 @@ use mir.Syntax.{w64}
 use mir.ValLaws.{toZ-ofZ}
 use Rattle.time.specs.Limits.{rangeGood}
 use Rattle.collecting.specs.CalendarTerms.{stampGood}
-use Rattle.collecting.proofs.Collecting.{call-good, call-bad}
+use Rattle.collecting.proofs.CollectStages.{call-good, call-bad}
 use borrow.Author.Needs.{needs}
 use Rattle.collecting.proofs.read_call.Statement.{statement}
 use Rattle.collecting.proofs.read_call.Tie as tie

@@ -2,8 +2,7 @@
 use Prim.Native.Nat.{_≤_, _-_}
 use lib.ListN.{take}
 use Rattle.table.specs.Tables.{rows}
-use Rattle.report.proofs.Bytes.{rows-length}
-use Rattle.report.proofs.Writing.{LinesLeft, NextLine, row-next, lines-start, lines-ask, lines-next, lines-end}
+use Rattle.report.proofs.Writing.{rows-length, LinesLeft, NextLine, row-next, lines-start, lines-ask, lines-next, lines-end}
 use native.Mathlib.Omega.{arith}
 use borrow.Author.Needs.{needs}
 use Rattle.report.proofs.lines.put_periods.Statement.{statement}

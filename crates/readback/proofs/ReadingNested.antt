@@ -20,7 +20,7 @@ use Rattle.periods.specs.BusyTypes.{BusyPeriod}
 use Rattle.calendar.specs.Meaning.{fileLines, componentsOf}
 use Rattle.report.specs.Bytes.{Report, reportBytes}
 use Rattle.readback.specs.Reading.{reportPeriods}
-use Rattle.readback.proofs.Lines.{periodLine, blockContent, calendarBegin, versionLine, productLine, blockBegin, blockEnd, calendarEnd, reportContent, report-lines-read}
+use Rattle.readback.proofs.ReadingLines.{periodLine, blockContent, calendarBegin, versionLine, productLine, blockBegin, blockEnd, calendarEnd, reportContent, report-lines-read}
 
 -- ---- lines that are all properties, side by side
 

@@ -1,16 +1,14 @@
--- What a report call has to write: its report keeps the limits, has no more periods than the call has busy pieces, and depends on covered seconds alone.
-use Prim.Native.Nat.{ℕ, _+_, _-_, _≤_, _<_}
+-- What calendar terms report: their report keeps the limits, covers what the calendar covers inside the range,
+-- and has no more periods than there are busy pieces.
+use Prim.Native.Nat.{ℕ, _-_, _≤_, _<_}
 use mathlib.Core.Path.{_≡_, refl, sym, ap, _∙_, subst}
 use mathlib.Core.Bool.{Bool, true, false, _&&_}
 use mathlib.Core.List.{List, [], _∷_, List·Memᴰ, List·Memᴰ·head, List·Memᴰ·tail, List·Memᴰ·not-nil, List·Memᴰ·cases-cons}
 use mathlib.Core.Logic.{⊎-elim}
-use native.Mathlib.Nat.{add-sub-of-le}
 use native.Mathlib.Omega.{arith}
-use lib.Dec.{ltb}
 use lib.ListN.{length}
-use borrow.Author.Tests.{ltb-true, ltb-false, leb-true, not-false}
+use borrow.Author.Tests.{leb-true}
 use Rattle.time.specs.Limits.{lastSecond, rangeGood}
-use Rattle.ascii.proofs.Bools.{and-left, and-right}
 use Rattle.periods.specs.declared.Period.{Period}
 use Rattle.periods.specs.declared.BusyType.{BusyType}
 use Rattle.periods.specs.Periods.{covers}
@@ -19,56 +17,16 @@ use Rattle.table.specs.Runs.Rising.{none, then}
 use Rattle.table.proofs.Runs.{runs-rising, runs-same, runs-here}
 use Rattle.table.proofs.Inserting.{fewest}
 use Rattle.periods.proofs.Periods.{secondIn-true}
-use Rattle.report.specs.Bytes.{Report, busyLines, reportLines, reportBytes, GoodPeriods, Writable, periodCount}
+use Rattle.report.specs.Bytes.{Report, GoodPeriods, Writable, periodCount}
 use Rattle.periods.specs.BusyTypes.{reportPlace, isBusy, sameBusy, BusyPeriod}
 use Rattle.pieces.specs.BusyPeriods.{busyPeriods}
 use Rattle.pieces.specs.Covered.{ofType, coveredBy, covered}
 use Rattle.pieces.specs.Pieces.{busyPieces}
 use Rattle.pieces.proofs.Pieces.{clipped-covers, pieces-inside, pieces-count}
-use Rattle.refusals.specs.Refusals.{NoneApplies, sizeRows, calendarRows, contentsRows}
-use Rattle.refusals.specs.Offsets.{offsetGood}
-use Rattle.collecting.specs.CalendarTerms.{CalendarTerms, stampGood, entriesIn, coveredIn, piecesFor, reportFor, pieceRows, collectRows}
-use Rattle.engine.specs.Reporting.{ReportCall, reportRows}
-use Rattle.engine.proofs.ReportAnswers.{not-applied}
+use Rattle.collecting.specs.CalendarTerms.{CalendarTerms, stampGood, entriesIn, coveredIn, piecesFor, reportFor}
+use Rattle.time.proofs.LimitsLaws.{range-rising, range-limit, range-width}
 
--- ---- what is known where nothing refuses
-
-module _ (m : ReportCall) (h : NoneApplies (reportRows m)) where
-  first-row : (rangeGood (m .terms .start) (m .terms .end) && stampGood (m .terms .stamp) && offsetGood (m .terms .offset)) ≡ true
-  unfolding reportRows collectRows
-  first-row = not-false _ (not-applied m h (List·Memᴰ·head refl))
-
-  pub range-good : rangeGood (m .terms .start) (m .terms .end) ≡ true
-  range-good = and-left (rangeGood (m .terms .start) (m .terms .end)) _ (and-left (rangeGood (m .terms .start) (m .terms .end) && stampGood (m .terms .stamp)) _ first-row)
-
-  pub stamp-good : stampGood (m .terms .stamp) ≡ true
-  stamp-good = and-right (rangeGood (m .terms .start) (m .terms .end)) _ (and-left (rangeGood (m .terms .start) (m .terms .end) && stampGood (m .terms .stamp)) _ first-row)
-
-  pub few-pieces : length (piecesFor (m .terms)) ≤ 512
-  unfolding reportRows collectRows sizeRows calendarRows contentsRows pieceRows
-  few-pieces =
-      ltb-false _ _
-      (not-applied m h
-      (List·Memᴰ·tail
-      (List·Memᴰ·tail
-      (List·Memᴰ·tail
-      (List·Memᴰ·tail (List·Memᴰ·tail (List·Memᴰ·tail (List·Memᴰ·tail (List·Memᴰ·tail (List·Memᴰ·head refl))))))))))
-
--- ---- a good range
-
-pub range-rising : (a e : ℕ) → rangeGood a e ≡ true → a < e
-unfolding rangeGood
-range-rising a e g = ltb-true a e (and-left (ltb a e) _ g)
-
-pub range-limit : (a e : ℕ) → rangeGood a e ≡ true → e ≤ lastSecond
-unfolding rangeGood
-range-limit a e g = leb-true e lastSecond (and-right (ltb a e) _ g)
-
--- its seconds, counted from its start, reach its end
-pub range-width : (a e : ℕ) → rangeGood a e ≡ true → a + (e - a) ≡ e
-range-width a e g = add-sub-of-le (let z : a ≤ e = omega (arith, range-rising a e g) in z)
-
--- ---- it can be written
+-- ---- their report can be written
 
 good-rising : {lo hi : ℕ} {ps : List Period} → Rising lo ps hi → hi ≤ lastSecond → GoodPeriods ps
 good-rising none l = GoodPeriods.none
@@ -155,14 +113,3 @@ module _ (m : CalendarTerms) (g : rangeGood (m .start) (m .end) ≡ true) where
         type-few BusyType.Unavailable refl,
         pieces-count (m .start) (m .end) (busyPeriods (entriesIn (m .calendar) (m .offset))),
       )
-
-pub few-periods : (m : ReportCall) → NoneApplies (reportRows m) → periodCount (reportFor (m .terms)) ≤ 512
-few-periods m h = omega (arith, periods-few (m .terms) (range-good m h), few-pieces m h)
-
--- ---- equal periods, equal bytes
-
-pub equal-bytes : (r s : Report) → r .start ≡ s .start → r .end ≡ s .end → r .stamp ≡ s .stamp
-    → ((b : BusyType) → isBusy b ≡ true → r .periods b ≡ s .periods b)
-    → reportBytes r ≡ reportBytes s
-unfolding reportBytes reportLines busyLines isBusy reportPlace
-equal-bytes r s x y z p = rw (x, y, z, p BusyType.Busy refl, p BusyType.Tentative refl, p BusyType.Unavailable refl)

@@ -1,0 +1,71 @@
+-- Outcomes: refused or not, outcomes of different kinds, the answer to a report call by its refusal,
+-- and the work buffer that goes with an outcome.
+use Prim.Native.Nat.{ℕ}
+use mathlib.Core.Path.{_≡_, refl, sym, ap}
+use mathlib.Core.Bool.{Bool, true, false}
+use mathlib.Core.List.{List, _++_}
+use native.Mathlib.Omega.{arith}
+use lib.ListN.{length, drop}
+use Rattle.text.specs.Unfolding.{unfolded}
+use Rattle.calendar.specs.declared.Fault.{Fault}
+use Rattle.refusals.specs.Stages.{earlyFault}
+use Rattle.refusals.proofs.Stages.{work-by}
+use Rattle.engine.specs.Answers.{Outcome, verdict, report, refusal, refusalIn, workAfter, unlessRefused, outcomeOf, answerBy, lengthIn}
+
+pub refused : {f : Fault} {n i : ℕ} (o : Outcome) → f ≡ Fault.At n i → unlessRefused f o ≡ refusal n
+unfolding unlessRefused
+refused o e = rw e
+
+pub let-through : {f : Fault} (o : Outcome) → f ≡ Fault.None → unlessRefused f o ≡ o
+unfolding unlessRefused
+let-through o e = rw e
+
+-- a verdict and a report are no refusals
+pub verdict-apart : (b : Bool) (k : ℕ) → verdict b ≡ refusal k → ⊥
+verdict-apart b k e = let z : _≡_ {A = ℕ} 0 1 = cc in absurd (omega arith)
+
+pub report-apart : (n k : ℕ) → report n ≡ refusal k → ⊥
+report-apart n k e = let z : _≡_ {A = ℕ} 0 1 = cc in absurd (omega arith)
+
+-- an outcome that is a refusal names the lowest row; one that is none has no row
+pub refusal-found : {k : ℕ} (o : Outcome) → ((n : ℕ) → o ≡ refusal n → ⊥) → (f : Fault) → unlessRefused f o ≡ refusal k → (i : ℕ) × (f ≡ Fault.At k i)
+unfolding unlessRefused
+refusal-found {k} o h Fault.None e = absurd (h k e)
+refusal-found {k} o h (Fault.At n i) e = let z : n ≡ k = cc in (i, ap (λ (j : ℕ). Fault.At j i) z)
+
+pub answer-found : {p : Outcome} (o : Outcome) → ((n : ℕ) → p ≡ refusal n → ⊥) → (f : Fault) → unlessRefused f o ≡ p → (f ≡ Fault.None) × (o ≡ p)
+unfolding unlessRefused
+answer-found o h Fault.None e = (refl, e)
+answer-found o h (Fault.At n i) e = absurd (h n (sym e))
+
+pub verdict-found : {t : Bool} (b : Bool) (f : Fault) → unlessRefused f (verdict b) ≡ verdict t → (f ≡ Fault.None) × (b ≡ t)
+verdict-found {t} b f e = let w = answer-found (verdict b) (verdict-apart t) f e in let same = w .1 in (w .0, cc)
+
+pub report-found : {k : ℕ} (n : ℕ) (f : Fault) → unlessRefused f (report n) ≡ report k → (f ≡ Fault.None) × (k ≡ n)
+report-found {k} n f e = let w = answer-found (report n) (report-apart k) f e in let same = w .1 in (w .0, cc)
+
+-- outcomes of two kinds are apart
+pub no-report : (f : Fault) (b : Bool) (n : ℕ) → report n ≡ unlessRefused f (verdict b) → ⊥
+unfolding unlessRefused
+no-report Fault.None b n e = let z : _≡_ {A = ℕ} 0 1 = cc in absurd (omega arith)
+no-report (Fault.At k i) b n e = let z : _≡_ {A = ℕ} 0 1 = cc in absurd (omega arith)
+
+pub same-verdict : {a b : Bool} → verdict a ≡ verdict b → a ≡ b
+same-verdict e = cc
+
+pub no-verdict : (f : Fault) (t : Bool) (n : ℕ) → verdict t ≡ unlessRefused f (report n) → ⊥
+unfolding unlessRefused
+no-verdict Fault.None t n e = let z : _≡_ {A = ℕ} 0 1 = cc in absurd (omega arith)
+no-verdict (Fault.At k i) t n e = let z : _≡_ {A = ℕ} 0 1 = cc in absurd (omega arith)
+
+-- an answer by its refusal and length has the outcome that they make
+pub answer-by : (f : Fault) (n : ℕ) → outcomeOf (answerBy f (lengthIn (unlessRefused f (report n)))) ≡ unlessRefused f (report n)
+unfolding outcomeOf answerBy lengthIn unlessRefused
+answer-by Fault.None n = refl
+answer-by (Fault.At k i) n = refl
+
+-- the work buffer by whether the outcome is a refusal by 1 to 5
+pub left-by : (cal work : List ℕ) {t : Bool} (o : Outcome) → earlyFault (refusalIn o) ≡ t
+    → workAfter o cal work ≡ elim t as (λ y. List ℕ) [ true ↦ work | false ↦ unfolded cal ++ drop (length (unfolded cal)) work ]
+unfolding workAfter
+left-by cal work o e = work-by cal work (refusalIn o) e
