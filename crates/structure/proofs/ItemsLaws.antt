@@ -77,6 +77,10 @@ module _ {s rows : List ℕ} {i k j m : ℕ} (h : ItemsAt s rows i k j m) where
       go : ItemAt s rows i k j m Item.Done → itemsBy s i ≡ none
       go (is-done p) = p
 
+-- what a step may ask
+pub item-asked : {s rows : List ℕ} {i k j m : ℕ} → ItemsAt s rows i k j m → ((m ≤ 256) × (4 * m ≤ length rows)) × (i ≤ 65536)
+item-asked h = ((h .few, h .room), omega (arith, rows-lines (h .items), h .inside))
+
 -- ---- what the code's tests give
 
 module _ (rows : List ℕ) (i k j m : ℕ) where
