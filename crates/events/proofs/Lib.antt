@@ -1,3 +1,4 @@
 pub mod ComponentPropertiesLaws
+pub mod EntryRows
 pub mod Events
 pub mod Sizes

@@ -1,3 +1,4 @@
 pub mod ComponentProperties
+pub mod EntryRows
 pub mod Events
 pub mod Sizes

@@ -1,6 +1,7 @@
 // Events and free-busy blocks, by what the lines of a component say together: the component rules of refusal 10.
 // Each function equals one definition of specs/.
 pub mod properties;
+pub mod rows;
 pub mod rules;
 
 use periods::BusyType;

@@ -26,7 +26,7 @@ ghost use Rattle.periods.specs.BusyTypes.{reportPlace};
 ghost use Rattle.events.specs.Events.{kindNumber, sameKind, isDate, statedEnd, statedDuration, endingBy, limitBy, repeatBy, daysBy, intervalBy};
 ghost use Rattle.events.specs.Events.{busyByStatus, busyBy, eventMade, eventWith, eventFrom, eventBy, blockBetween, blockFrom, blockBy};
 
-fn kind_number(kind: Kind) -> u8
+pub fn kind_number(kind: Kind) -> u8
     ensures { λ r. ⌜ r ≡ kindNumber kind ⌝ }
 {
     match kind {

@@ -1,0 +1,20 @@
+-- Each way out is one case of the definition, by the numbers that were not met before it.
+use borrow.Author.Tests.{ne-eqb}
+use Rattle.events.specs.EntryRows.{endingOf}
+use Rattle.events.proofs.rows.ending_of.Statement.{statement}
+use Rattle.events.proofs.rows.ending_of.Tie as tie
+
+returns : tie.Need-returns
+unfolding endingOf
+returns c = rw (c .if1 .taken)
+
+returns-2 : tie.Need-returns-2
+unfolding endingOf
+returns-2 c = rw (ne-eqb _ _ (c .before .if1 .left), c .if2 .taken)
+
+returns-3 : tie.Need-returns-3
+unfolding endingOf
+returns-3 c = rw (ne-eqb _ _ (c .before .if1 .left), ne-eqb _ _ (c .if2 .left))
+
+pub ending-of-spec : {M : Type 1} → statement M
+ending-of-spec = tie.close (tie.spec returns returns-2 returns-3)
