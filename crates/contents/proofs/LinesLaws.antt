@@ -22,7 +22,8 @@ use Rattle.calendar.specs.declared.ValueCheck.{ValueCheck}
 use Rattle.pieces.specs.Pieces.{piecesOf}
 use Rattle.pieces.specs.Columns.{Stored, Room}
 use Rattle.pieces.proofs.Pieces.{piecesOf-none, piecesOf-append}
-use Rattle.contents.specs.Lines.{lineKind, together, linesFault, LinesGood, LinesAre, good, unsupported, bad, BlockLinesAre, block-good}
+use Rattle.contents.specs.Lines.{lineKind, together, linesFault, LinesGood, LinesAre, good, unsupported, bad}
+use Rattle.contents.specs.Lines.{BlockLinesGood, BlockLinesAre, block-good, block-unsupported, block-bad}
 use Rattle.contents.specs.declared.lines.LineKind.{LineKind}
 use Rattle.contents.specs.declared.lines.LinesRead.{LinesRead}
 use Rattle.contents.specs.declared.blocks.BlockLinesRead.{BlockLinesRead}
@@ -259,3 +260,22 @@ module _ {c : Context} {s rows : List ℕ} {xs : List Numbered} {a b : ℕ} {o�
     pub block-read : {g′ : ComponentProperties} {o′ : List ℕ} {n′ : ℕ} → t ≡ LineKind.Read → g′ ≡ withProperty g v
         → Stored o n (piecesOf a b (periodsBy v (lineOf l))) o′ n′ → ReadingBlock c s rows xs a b o₀ n₀ o′ n′ g′ (i + 1) row j m
     block-read e f y = record { lines = reading-read (z .lines) h p q w e f; still = left-then (z .still) pieces-here y }
+
+module _ {c : Context} {xs : List Numbered} {a b : ℕ} {o : List ℕ} {n : ℕ} {o′ : List ℕ} {r : BlockLinesRead} (h : BlockLinesAre c xs a b o n o′ r) where
+  pub block-of : (g : ComponentProperties) (m : ℕ) → r ≡ BlockLinesRead.Of g m → BlockLinesGood c xs a b o n o′ g m
+  block-of g m e = go (subst (BlockLinesAre c xs a b o n o′) e h)
+    where
+      go : BlockLinesAre c xs a b o n o′ (BlockLinesRead.Of g m) → BlockLinesGood c xs a b o n o′ g m
+      go (block-good y) = y
+
+  pub block-of-unsupported : (i : ℕ) → r ≡ BlockLinesRead.Unsupported i → linesFault c Scope.FreeBusy xs ≡ ValueCheck.Unsupported i
+  block-of-unsupported i e = go (subst (BlockLinesAre c xs a b o n o′) e h)
+    where
+      go : BlockLinesAre c xs a b o n o′ (BlockLinesRead.Unsupported i) → linesFault c Scope.FreeBusy xs ≡ ValueCheck.Unsupported i
+      go (block-unsupported y) = y
+
+  pub block-of-bad : (i : ℕ) → r ≡ BlockLinesRead.Bad i → linesFault c Scope.FreeBusy xs ≡ ValueCheck.Bad i
+  block-of-bad i e = go (subst (BlockLinesAre c xs a b o n o′) e h)
+    where
+      go : BlockLinesAre c xs a b o n o′ (BlockLinesRead.Bad i) → linesFault c Scope.FreeBusy xs ≡ ValueCheck.Bad i
+      go (block-bad y) = y

@@ -1,1 +1,3 @@
 pub mod Lines
+pub mod EntryRows
+pub mod Contents

@@ -1,0 +1,88 @@
+-- `contents::read_event` meets its contract: what the lines say together is the event of the component, or breaks a rule.
+use Rattle.contents.specs.Contents.{entry-unsupported, entry-bad}
+use Rattle.contents.proofs.LinesLaws.{lines-of, lines-unsupported, lines-bad}
+use Rattle.contents.proofs.Contents.{event-fault, event-small, event-good, event-broken}
+use native.Mathlib.Omega.{arith}
+use borrow.Author.Needs.{needs}
+use Rattle.contents.proofs.read_event.Statement.{statement}
+use Rattle.contents.proofs.read_event.Tie as tie
+
+read-event-lines-requires : tie.Need-read-event-lines-requires
+read-event-lines-requires c κs = search needs
+
+enum-known-g : tie.Need-enum-known-g
+enum-known-g c = search needs
+
+event-by-requires : tie.Need-event-by-requires
+event-by-requires c κs = search needs
+
+enum-known-e : tie.Need-enum-known-e
+enum-known-e c = search needs
+
+put-event-requires : tie.Need-put-event-requires
+put-event-requires c κs =
+    omega
+    (arith, c .before .before .before .before .before .before .before .before .before .before .before .before .before .before .pre .1 .1 .1 .1 .1 .0 .few, c .before .before .before .before .before .before .before .before .before .before .before .before .before .before .pre .1 .1 .0)
+
+store-event-requires : tie.Need-store-event-requires
+store-event-requires c κs = (c .before .before .before .before .before .before .before .before .before .before .before .before .before .before .before .before .before .before .pre .0, (c .before .before .before .before .before .before .before .before .before .before .before .before .before .before .before .before .before .before .pre .1 .0, (event-small _ _ (c .before .before .before .before .before .before .before .before .before .before .before .before .before .before .before .before .before .before .pre .1 .1 .1 .1 .1 .1 .0) (lines-of _ (c .before .before .before .before .before .before .before .before .before .before .before .before .read-event-lines .ensures) (c .before .before .before .before .before .before .before .before .before .before .g .given .1)) (c .before .before .before .before .before .before .before .before .event-by .ensures) _ (c .before .before .before .before .before .before .e .given .1), (c .before .before .before .before .before .before .before .before .before .before .before .before .before .before .before .before .before .before .pre .1 .1 .1 .1 .1 .1 .1 .0, c .before .before .before .before .before .before .before .before .before .before .before .before .before .before .before .before .before .before .pre .1 .1 .1 .1 .1 .1 .1 .1))))
+
+enum-told : tie.Need-enum-told
+enum-told c = search needs
+
+enum-known-i : tie.Need-enum-known-i
+enum-known-i c = search needs
+
+enum-known-i-2 : tie.Need-enum-known-i-2
+enum-known-i-2 c = search needs
+
+same-length : tie.Need-same-length
+same-length c = search needs
+
+same-length-2 : tie.Need-same-length-2
+same-length-2 c = search needs
+
+returns : tie.Need-returns
+returns c =
+    event-good _ _
+    (c .before .before .before .before .before .before .before .before .before .before .before .before .before .before .before .before .before .before .before .before .before .pre .1 .1 .1 .1 .1 .1 .0)
+    (lines-of _ (c .before .before .before .before .before .before .before .before .before .before .before .before .before .before .before .read-event-lines .ensures) (c .before .before .before .before .before .before .before .before .before .before .before .before .before .g .given .1))
+    (c .before .before .before .before .before .before .before .before .before .before .before .event-by .ensures) _
+    (c .before .before .before .before .before .before .before .before .before .e .given .1)
+    (c .before .before .before .before .before .before .put-event .ensures)
+    (c .before .before .store-event .ensures)
+
+returns-2 : tie.Need-returns-2
+returns-2 c =
+    event-broken _ _
+    (c .before .before .before .before .before .before .before .before .before .before .before .before .pre .1 .1 .1 .1 .1 .1 .0)
+    (lines-of _ (c .before .before .before .before .before .before .read-event-lines .ensures) (c .before .before .before .before .g .given .1))
+    (c .before .before .event-by .ensures) _ _ _ _ _ _ _ _ (c .enum-told .given .1)
+
+returns-3 : tie.Need-returns-3
+returns-3 c =
+    entry-unsupported
+    (event-fault _ _ (c .before .before .before .before .before .before .before .before .before .pre .1 .1 .1 .1 .1 .1 .0) (lines-unsupported _ (c .before .before .before .read-event-lines .ensures) (c .before .i .given .1)))
+
+returns-4 : tie.Need-returns-4
+returns-4 c = entry-bad (event-fault _ _ (c .before .before .before .before .before .before .before .before .before .pre .1 .1 .1 .1 .1 .1 .0) (lines-bad _ (c .before .before .before .read-event-lines .ensures) (c .before .i2 .given .1)))
+
+pub read-event-spec : {M : Type 1} → statement M
+read-event-spec =
+    tie.close
+    (tie.spec
+    read-event-lines-requires
+    enum-known-g
+    event-by-requires
+    enum-known-e
+    put-event-requires
+    store-event-requires
+    enum-told
+    enum-known-i
+    enum-known-i-2
+    same-length
+    same-length-2
+    returns
+    returns-2
+    returns-3
+    returns-4)
