@@ -1,16 +1,17 @@
 -- What the fault of a calendar tells of its meaning.
 use Prim.Native.Nat.{ℕ}
-use mathlib.Core.Path.{_≡_, refl, _∙_}
-use mathlib.Core.List.{List}
+use mathlib.Core.Path.{_≡_, refl, ap, _∙_}
+use mathlib.Core.List.{List, []}
 use native.Mathlib.Omega.{arith}
 use Rattle.line.specs.WellFormed.{lineCheck}
 use Rattle.line.specs.declared.check.LineCheck.{LineCheck}
 use Rattle.nesting.specs.Nesting.{nestingOf}
-use Rattle.nesting.specs.Passing.{nestingIn}
+use Rattle.nesting.specs.Passing.{nestingIn, structureBy}
 use Rattle.nesting.specs.declared.Nesting.{Nesting}
+use Rattle.nesting.specs.declared.Structure.{Structure}
 use Rattle.values.specs.declared.times.Context.{Context}
 use Rattle.events.specs.Events.{Entry}
-use Rattle.calendar.specs.Meaning.{Meaning, fault, calendar, byRules, byValues, byNesting, byLines, valueFault, ruleFault, entriesOf, fileLines, componentsOf, contentsOf, meaningOf, faultOf}
+use Rattle.calendar.specs.Meaning.{Meaning, fault, calendar, byRules, byValues, byNesting, byLines, valueFault, ruleFault, entriesOf, fileLines, componentsOf, contentsOf, meaningOf, faultOf, structureFault, structureRefusal}
 use Rattle.calendar.specs.declared.ValueCheck.{ValueCheck}
 use Rattle.calendar.specs.declared.RuleCheck.{RuleCheck}
 use Rattle.calendar.specs.declared.Fault.{Fault}
@@ -88,3 +89,23 @@ module _ (c : Context) (u : List ℕ) where
           → meaningOf c u ≡ calendar (entriesOf c (componentsOf u))
       unfolding meaningOf byLines byNesting contentsOf byValues byRules
       not-refused v h = rw (l, k, v, h)
+
+-- ---- refusals 6 and 7
+
+refusal-by : (c : LineCheck) (k : Nesting) → structureRefusal (structureBy c k) ≡ faultOf (byLines c (byNesting k (calendar [])))
+unfolding structureBy byLines byNesting faultOf
+refusal-by (LineCheck.BadLine n) k = refl
+refusal-by LineCheck.Good (Nesting.BadLine n) = refl
+refusal-by LineCheck.Good Nesting.Good = refl
+
+pub structure-refusal : (u : List ℕ) {r : Structure} → r ≡ structureBy (lineCheck u) (nestingIn u) → structureRefusal r ≡ structureFault u
+unfolding structureFault
+structure-refusal u e =
+    ap structureRefusal e
+    ∙ refusal-by (lineCheck u) (nestingIn u)
+    ∙ ap (λ (k : Nesting). faultOf (byLines (lineCheck u) (byNesting k (calendar [])))) (nesting-file u)
+
+pub no-refusal : (r : Structure) → structureRefusal r ≡ Fault.None → r ≡ Structure.Good
+no-refusal (Structure.BadLine n) e = let z : _≡_ {A = ℕ} 0 1 = cc in absurd (omega arith)
+no-refusal (Structure.BadNesting n) e = let z : _≡_ {A = ℕ} 0 1 = cc in absurd (omega arith)
+no-refusal Structure.Good e = refl

@@ -16,6 +16,7 @@ use Rattle.property.specs.declared.PropertyValue.{PropertyValue}
 use Rattle.nesting.specs.Nesting.{nestingOf}
 use Rattle.nesting.specs.Components.{Numbered, Component, treeOf, itemsBelow, componentsIn, propertiesIn}
 use Rattle.nesting.specs.declared.Nesting.{Nesting}
+use Rattle.nesting.specs.declared.Structure.{Structure}
 use Rattle.events.specs.ComponentProperties.{noProperties, withProperties}
 use Rattle.periods.specs.BusyTypes.{BusyPeriod, typed}
 use Rattle.events.specs.Events.{eventBy, blockBy, Entry, event, block}
@@ -176,3 +177,9 @@ faultOf (calendar es) = Fault.None
 -- the lowest of refusals 6 and 7 that applies
 unfoldable pub structureFault : List ℕ → Fault
 structureFault u = faultOf (byLines (lineCheck u) (byNesting (nestingOf (fileLines u)) (calendar [])))
+
+-- the same by what reading the structure answers
+abbrev pub structureRefusal : Structure → Fault
+structureRefusal (Structure.BadLine n) = Fault.At 6 n
+structureRefusal (Structure.BadNesting n) = Fault.At 7 n
+structureRefusal Structure.Good = Fault.None

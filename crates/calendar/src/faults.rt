@@ -8,17 +8,24 @@ use nesting::Structure;
 use values::times::Context;
 ghost use mathlib.Core.Path.{_≡_};
 ghost use Rattle.values.specs.Times.{ContextGood};
-ghost use Rattle.calendar.specs.Meaning.{contentsOf, meaningOf, faultOf, structureFault};
+ghost use Rattle.calendar.specs.Meaning.{contentsOf, meaningOf, faultOf, structureFault, structureRefusal};
+
+// Refusals 6 and 7, by what reading the structure answered.
+pub fn structure_fault(structure: Structure) -> Fault
+    ensures { λ r. ⌜ r ≡ structureRefusal structure ⌝ }
+{
+    match structure {
+        Structure::BadLine(n) => Fault::At(6, n),
+        Structure::BadNesting(n) => Fault::At(7, n),
+        Structure::Good => Fault::None,
+    }
+}
 
 // Refusals 6 and 7.
 pub fn check_structure(s: &[u8]) -> Fault
     ensures { λ r. ⌜ r ≡ structureFault (now (s .entry)) ⌝ }
 {
-    match nesting::check_structure(s) {
-        Structure::BadLine(n) => Fault::At(6, n),
-        Structure::BadNesting(n) => Fault::At(7, n),
-        Structure::Good => Fault::None,
-    }
+    structure_fault(nesting::check_structure(s))
 }
 
 // Refusals 8, 9 and 10.

@@ -12,7 +12,7 @@ use lib.Seq.{sets}
 use borrow.Author.Tests.{ltb-true, leb-true, lt-leb, lt-ltb, le-ltb}
 use Rattle.ascii.proofs.Bools.{and-left, and-right, clash}
 use Rattle.text.specs.Unfolding.{unfolded, Unfolded}
-use Rattle.text.proofs.Unfolding.{unfolded-front}
+use Rattle.text.proofs.Unfolding.{unfolded-front, length-unfolded}
 use Rattle.time.specs.Limits.{lastSecond, rangeGood}
 use Rattle.periods.specs.declared.Period.{Period}
 use Rattle.periods.specs.declared.BusyType.{BusyType}
@@ -25,7 +25,8 @@ use Rattle.table.specs.declared.Table.{Table}
 use Rattle.table.proofs.Runs.{runs-same}
 use Rattle.report.specs.Writing.{byType}
 use Rattle.events.specs.Events.{Entry}
-use Rattle.calendar.specs.Meaning.{structureFault, entriesOf, componentsOf}
+use Rattle.calendar.specs.Meaning.{structureFault, structureRefusal, entriesOf, componentsOf}
+use Rattle.calendar.proofs.Meanings.{structure-refusal, no-refusal}
 use Rattle.calendar.specs.declared.Fault.{Fault}
 use Rattle.pieces.specs.BusyPeriods.{busyPeriods}
 use Rattle.pieces.specs.Columns.{flat, stored, Stored, Room}
@@ -40,13 +41,16 @@ use Rattle.refusals.specs.declared.OffsetRead.{OffsetRead}
 use Rattle.refusals.proofs.Offsets.{read-out, shift-bound, offset-given}
 use Rattle.refusals.proofs.Refusals.{lowest-above, row-applies, row-passed}
 use Rattle.refusals.proofs.Stages.{rises, structure-passed, structure-refused, calendar-rising, work-by, contents-passed, contents-refused}
-use Rattle.walk.specs.Walks.{StoresContents}
-use Rattle.walk.specs.declared.ContentsStored.{ContentsStored}
+use Rattle.structure.specs.Rows.{FileRows}
+use Rattle.structure.specs.Reading.{StructureRead}
+use Rattle.nesting.specs.declared.Structure.{Structure}
+use Rattle.contents.specs.Contents.{ContentsAre}
+use Rattle.contents.specs.declared.ContentsRead.{ContentsRead}
 use Rattle.tables.specs.Building.{Built}
 use Rattle.tables.proofs.Built.{built-stored}
 use Rattle.collecting.specs.declared.Collected.{Collected}
 use Rattle.collecting.specs.CalendarTerms.{stampGood, pieceRows}
-use Rattle.collecting.specs.CollectStages.{callRead, Refuses, Tabled, ContentsTabled, CollectedAs, laterRows, laterPeriods, AllSound, Typed, unlessFault, fewestPeriods}
+use Rattle.collecting.specs.CollectStages.{callRead, Refuses, Tabled, ContentsTabled, CalendarTabled, CollectedAs, laterRows, laterPeriods, AllSound, Typed, unlessFault, fewestPeriods}
 
 -- ---- range, stamp and offset
 
@@ -208,7 +212,7 @@ module _ (a e : ℕ) (es : List Entry) where
 
 -- ---- refusals 8 to 11, then the tables
 
-module _ {c : Context} {u : List ℕ} {a e : ℕ} {o o′ : List ℕ} {x : ContentsStored} (k : StoresContents c u a e o o′ x) {r : Collected} where
+module _ {c : Context} {u rows : List ℕ} {a e : ℕ} {o o′ entries : List ℕ} {x : ContentsRead} (k : ContentsAre c u rows a e o o′ entries x) {r : Collected} where
   pub contents-refuse : {n i : ℕ} → x .fault ≡ Fault.At n i → Refuses (Fault.At n i) r → ContentsTabled c u a e r
   contents-refuse q w = tabled-refused (contents-refused c u _ (sym (k .fault-is) ∙ q)) w
 
@@ -250,23 +254,26 @@ later-late : (c : Context) (cal : List ℕ) (a e : ℕ) → earlyFault (lowest (
 unfolding laterRows pieceRows
 later-late c cal a e = late-above (laterRows c cal a e) (calendar-rising c (unfolded cal) _ (rises 10 11 refl (omega arith) ends))
 
-module _ {cal work left : List ℕ} {m : ℕ} (k : Unfolded cal work left m) {f : Fault} (q : f ≡ structureFault (take m left)) where
-  structure-found : structureFault (unfolded cal) ≡ f
-  structure-found = sym (q ∙ ap structureFault (unfolded-front k))
+-- by what reading the structure answered
+module _ {u index rows : List ℕ} {x : Structure} (k : StructureRead u index rows x) {f : Fault} (q : f ≡ structureRefusal x) where
+  structure-found : structureFault u ≡ f
+  structure-found = sym (structure-refusal u (k .structure-is)) ∙ sym q
 
-  module _ (c : Context) (a e : ℕ) {r : Collected} where
-    calendar-collected : Tabled (laterRows c cal a e) (laterPeriods c cal a e) r → CollectedAs (laterRows c cal a e) (laterPeriods c cal a e) cal work r left
-    calendar-collected t = collected-late cal work (k .bytes) (later-late c cal a e) t
+  pub structure-known : f ≡ Fault.None → FileRows u index rows
+  structure-known h = k .known (no-refusal x (sym q ∙ h))
 
-    pub calendar-refuses : {n i : ℕ} → f ≡ Fault.At n i → Refuses (Fault.At n i) r
-        → CollectedAs (laterRows c cal a e) (laterPeriods c cal a e) cal work r left
-    unfolding laterRows
-    calendar-refuses h w = calendar-collected (tabled-refused (structure-refused c (unfolded cal) _ (structure-found ∙ h)) w)
+  pub structure-refuses : (c : Context) (a e : ℕ) {r : Collected} {n i : ℕ} → f ≡ Fault.At n i → Refuses (Fault.At n i) r → CalendarTabled c u a e r
+  structure-refuses c a e h w = tabled-refused (structure-refused c u _ (structure-found ∙ h)) w
 
-    pub calendar-passes : f ≡ Fault.None → ContentsTabled c (take m left) a e r
-        → CollectedAs (laterRows c cal a e) (laterPeriods c cal a e) cal work r left
-    unfolding laterRows laterPeriods
-    calendar-passes h t =
-        calendar-collected
-        (tabled-passed (structure-passed c (unfolded cal) _ (structure-found ∙ h))
-        (subst (λ (u : List ℕ). ContentsTabled c u a e r) (unfolded-front k) t))
+  pub structure-passes : (c : Context) (a e : ℕ) {r : Collected} → f ≡ Fault.None → ContentsTabled c u a e r → CalendarTabled c u a e r
+  structure-passes c a e h t = tabled-passed (structure-passed c u _ (structure-found ∙ h)) t
+
+-- the unfolded calendar was left in the buffer
+pub calendar-collected : (c : Context) (cal work : List ℕ) (a e : ℕ) {left : List ℕ} {m : ℕ} {r : Collected} → Unfolded cal work left m
+    → CalendarTabled c (take m left) a e r → CollectedAs (laterRows c cal a e) (laterPeriods c cal a e) cal work r left
+unfolding laterRows laterPeriods
+calendar-collected c cal work a e {r = r} k t =
+    collected-late cal work (k .bytes) (later-late c cal a e) (subst (λ (u : List ℕ). CalendarTabled c u a e r) (unfolded-front k) t)
+
+pub unfolded-small : {cal work left : List ℕ} {m : ℕ} → Unfolded cal work left m → length cal ≤ 65536 → m ≤ 65536
+unfolded-small {cal} k h = omega (arith, k .count, length-unfolded cal)

@@ -2,9 +2,7 @@
 use Prim.Native.Nat.{ℕ, _-_}
 use mathlib.Core.Path.{_≡_}
 use mathlib.Core.Bool.{true, cond, _&&_}
-use mathlib.Core.List.{List, [], _∷_}
-use lib.Dec.{ltb}
-use lib.ListN.{length}
+use mathlib.Core.List.{List, []}
 use lib.IntN.{ℤ}
 use Rattle.time.specs.Limits.{rangeGood}
 use Rattle.text.specs.Unfolding.{unfolded}
@@ -20,7 +18,7 @@ use Rattle.calendar.specs.Meaning.{entriesOf, componentsOf}
 use Rattle.calendar.specs.declared.Fault.{Fault}
 use Rattle.pieces.specs.Covered.{covered}
 use Rattle.pieces.specs.Pieces.{busyPieces}
-use Rattle.refusals.specs.Refusals.{Row, row, lowest, contentsRows, calendarRows}
+use Rattle.refusals.specs.Refusals.{Row, lowest, contentsRows, calendarRows}
 use Rattle.refusals.specs.Offsets.{offsetRead}
 use Rattle.refusals.specs.declared.OffsetRead.{OffsetRead}
 use Rattle.refusals.specs.Stages.{workBy}
@@ -80,6 +78,11 @@ fewestPeriods a e es b = runs (covered b es) a (e - a)
 abbrev pub ContentsTabled : Context → List ℕ → ℕ → ℕ → Collected → Type 0
 ContentsTabled c u a e r =
     Tabled (contentsRows c u (pieceRows (busyPieces a e (entriesOf c (componentsOf u))) [])) (fewestPeriods a e (entriesOf c (componentsOf u))) r
+
+-- the lowest of 6 to 11, and the tables where there is none
+abbrev pub CalendarTabled : Context → List ℕ → ℕ → ℕ → Collected → Type 0
+CalendarTabled c u a e r =
+    Tabled (calendarRows c u (pieceRows (busyPieces a e (entriesOf c (componentsOf u))) [])) (fewestPeriods a e (entriesOf c (componentsOf u))) r
 
 -- 6 to 11
 unfoldable pub laterRows : Context → List ℕ → ℕ → ℕ → List Row

@@ -13,7 +13,8 @@ ghost use Rattle.pieces.specs.Columns.{Room};
 ghost use Rattle.values.specs.Times.{ContextGood};
 ghost use Rattle.time.specs.Limits.{lastSecond};
 ghost use Rattle.collecting.specs.Collecting.{Collects};
-ghost use Rattle.collecting.specs.CollectStages.{callRead, Refuses, Typed, ContentsTabled, CollectedAs, laterRows, laterPeriods};
+ghost use Rattle.collecting.specs.CollectStages.{callRead, Refuses, Typed, ContentsTabled, CalendarTabled, CollectedAs, laterRows, laterPeriods};
+ghost use Rattle.structure.specs.Rows.{FileRows};
 
 // The lowest refusal or none, and the periods of each busy type.
 pub struct Collected {
@@ -60,17 +61,27 @@ fn tables_of(column: &[u32], n: usize) -> Collected
     }
 }
 
-// Refusals 8 to 11, then the tables: the pieces are stored in the column.
-fn collect_stored(column: &mut [u32], s: &[u8], c: Context, start: u64, end: u64) -> Collected
+// Refusals 8 to 11, then the tables: the pieces are stored in the column, events and blocks in rows of numbers.
+fn collect_stored(
+    column: &mut [u32],
+    entries: &mut [u64],
+    s: &[u8],
+    index: &[u32],
+    rows: &[u32],
+    c: Context,
+    start: u64,
+    end: u64,
+) -> Collected
     requires { ⌜ Room (now column) ⌝ }
+    requires { ⌜ length (now entries) ≡ 3072 ⌝ }
     requires { ⌜ ContextGood c ⌝ }
-    requires { ⌜ start < end ⌝ }
-    requires { ⌜ end ≤ lastSecond ⌝ }
+    requires { ⌜ FileRows (now s) (now index) (now rows) ⌝ }
+    requires { ⌜ (start < end) × (end ≤ lastSecond) ⌝ }
     ensures { λ r. ⌜ ContentsTabled c (now (s .entry)) start end r ⌝ }
 {
-    let stored = walk::store_contents(column, s, c, start, end);
-    let f = stored.fault;
-    let n = stored.count;
+    let read = contents::read_contents(column, entries, s, index, rows, c, start, end);
+    let f = read.fault;
+    let n = read.count;
     match f {
         Fault::At(k, line) => refused(Fault::At(k, line)),
         Fault::None => {
@@ -82,31 +93,85 @@ fn collect_stored(column: &mut [u32], s: &[u8], c: Context, start: u64, end: u64
     }
 }
 
-// The same with a column of its own: room for 513 pieces, three numbers each.
-fn collect_contents(s: &[u8], c: Context, start: u64, end: u64) -> Collected
+// The same with memory of its own: room for 513 pieces of three numbers, and for 256 rows of twelve.
+fn collect_contents(
+    s: &[u8],
+    index: &[u32],
+    rows: &[u32],
+    c: Context,
+    start: u64,
+    end: u64,
+) -> Collected
     requires { ⌜ ContextGood c ⌝ }
-    requires { ⌜ start < end ⌝ }
-    requires { ⌜ end ≤ lastSecond ⌝ }
+    requires { ⌜ FileRows (now s) (now index) (now rows) ⌝ }
+    requires { ⌜ (start < end) × (end ≤ lastSecond) ⌝ }
     ensures { λ r. ⌜ ContentsTabled c (now (s .entry)) start end r ⌝ }
 {
     let mut column = [0u32; 1539];
-    collect_stored(&mut column, s, c, start, end)
+    let mut entries = [0u64; 3072];
+    collect_stored(&mut column, &mut entries, s, index, rows, c, start, end)
+}
+
+// Refusals 6 to 11, then the tables: the lines stand in this index.
+fn collect_indexed(index: &mut [u32], s: &[u8], c: Context, start: u64, end: u64) -> Collected
+    requires { ⌜ length (now s) < 4 * length (now index) ⌝ }
+    requires { ⌜ length (now s) ≤ 65536 ⌝ }
+    requires { ⌜ ContextGood c ⌝ }
+    requires { ⌜ (start < end) × (end ≤ lastSecond) ⌝ }
+    ensures { λ r. ⌜ CalendarTabled c (now (s .entry)) start end r ⌝ }
+{
+    let mut rows = [0u32; 1024];
+    let structure = structure::read_structure(index, &mut rows, s);
+    match calendar::faults::structure_fault(structure) {
+        Fault::At(k, line) => refused(Fault::At(k, line)),
+        Fault::None => collect_contents(s, index, &rows, c, start, end),
+    }
+}
+
+// An index is cleared before it is filled, so a short calendar gets a short one.
+fn collect_short(s: &[u8], c: Context, start: u64, end: u64) -> Collected
+    requires { ⌜ length (now s) ≤ 8192 ⌝ }
+    requires { ⌜ ContextGood c ⌝ }
+    requires { ⌜ (start < end) × (end ≤ lastSecond) ⌝ }
+    ensures { λ r. ⌜ CalendarTabled c (now (s .entry)) start end r ⌝ }
+{
+    let mut index = [0u32; 2049];
+    collect_indexed(&mut index, s, c, start, end)
+}
+
+fn collect_long(s: &[u8], c: Context, start: u64, end: u64) -> Collected
+    requires { ⌜ length (now s) ≤ 65536 ⌝ }
+    requires { ⌜ ContextGood c ⌝ }
+    requires { ⌜ (start < end) × (end ≤ lastSecond) ⌝ }
+    ensures { λ r. ⌜ CalendarTabled c (now (s .entry)) start end r ⌝ }
+{
+    let mut index = [0u32; 16385];
+    collect_indexed(&mut index, s, c, start, end)
+}
+
+// Refusals 6 to 11 of the unfolded calendar, then the tables.
+fn collect_unfolded(s: &[u8], c: Context, start: u64, end: u64) -> Collected
+    requires { ⌜ length (now s) ≤ 65536 ⌝ }
+    requires { ⌜ ContextGood c ⌝ }
+    requires { ⌜ (start < end) × (end ≤ lastSecond) ⌝ }
+    ensures { λ r. ⌜ CalendarTabled c (now (s .entry)) start end r ⌝ }
+{
+    if s.len() <= 8192 {
+        return collect_short(s, c, start, end);
+    }
+    collect_long(s, c, start, end)
 }
 
 // Unfolds the calendar to the front of the work buffer; then refusals 6 to 11, then the tables.
 fn collect_calendar(work: &mut [u8], cal: &[u8], c: Context, start: u64, end: u64) -> Collected
     requires { ⌜ length (now cal) ≤ length (now work) ⌝ }
+    requires { ⌜ length (now cal) ≤ 65536 ⌝ }
     requires { ⌜ ContextGood c ⌝ }
-    requires { ⌜ start < end ⌝ }
-    requires { ⌜ end ≤ lastSecond ⌝ }
+    requires { ⌜ (start < end) × (end ≤ lastSecond) ⌝ }
     ensures { λ r. ⌜ CollectedAs (laterRows c (now (cal .entry)) start end) (laterPeriods c (now (cal .entry)) start end) (now (cal .entry)) (now (work .entry)) r (now (work .exit)) ⌝ }
 {
     let n = text::unfold_into(work, cal);
-    let f = calendar::faults::check_structure(&work[..n]);
-    match f {
-        Fault::At(k, line) => refused(Fault::At(k, line)),
-        Fault::None => collect_contents(&work[..n], c, start, end),
-    }
+    collect_unfolded(&work[..n], c, start, end)
 }
 
 // The lowest of refusals 1 to 3 and 6 to 11, or the period tables; the work buffer holds the unfolded calendar afterwards, except on refusals 1 to 3.

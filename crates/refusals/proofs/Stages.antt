@@ -60,6 +60,13 @@ module _ (cal work : List ℕ) where
       go false e true k = three (sym (work-short (ltb-false _ _ e) (ltb-true _ _ k)))
       go false e false k = none (ltb-false _ _ k) (sym (sizes-good (ltb-false _ _ e) (ltb-false _ _ k)))
 
+  pub sizes-small : sizeFault cal work ≡ Fault.None → length cal ≤ 65536
+  sizes-small e = go (ltb 65536 (length cal)) refl
+    where
+      go : (s : Bool) → ltb 65536 (length cal) ≡ s → length cal ≤ 65536
+      go true k = no-fault-here (sym (calendar-long (ltb-true _ _ k))) e
+      go false k = ltb-false _ _ k
+
   pub sizes-room : sizeFault cal work ≡ Fault.None → length cal ≤ length work
   sizes-room e = by-sizes (λ k. no-fault-here k e) (λ k. no-fault-here k e) (λ r k. r)
 

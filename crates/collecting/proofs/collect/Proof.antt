@@ -6,7 +6,7 @@ use mir.ValLaws.{toZ-ofZ}
 use Rattle.calendar.specs.declared.Fault.{Fault}
 use Rattle.refusals.specs.Stages.{sizeFault}
 use Rattle.refusals.specs.declared.OffsetRead.{OffsetRead}
-use Rattle.refusals.proofs.Stages.{sizes-room}
+use Rattle.refusals.proofs.Stages.{sizes-room, sizes-small}
 use Rattle.collecting.specs.CollectStages.{callRead}
 use Rattle.collecting.proofs.CollectStages.{call-given, call-bounds}
 use Rattle.collecting.proofs.Collecting.{collect-refused-1, collect-refused-sizes, collect-sizes-passed}
@@ -40,17 +40,23 @@ enum-told-2 c = search needs
 
 -- range, stamp and offset were good
 call-passes : (c : tie.After-known-told) → callRead (c .before .before .before .before .before .before .args .start) (c .before .before .before .before .before .before .args .end) (c .before .before .before .before .before .before .args .offset) (c .before .before .before .before .before .before .args .stamp) ≡ OffsetRead.Of (c .before .shift .given .0 .0)
-call-passes c = call-given _ _ _ (toZ-ofZ w64 (c .before .before .before .before .before .before .args .offset) (c .before .before .before .before .before .before .fits .offset)) (c .before .before .before .read-call .ensures) (c .before .shift .given .1)
+call-passes c =
+    call-given _ _ _
+    (toZ-ofZ w64 (c .before .before .before .before .before .before .args .offset) (c .before .before .before .before .before .before .fits .offset))
+    (c .before .before .before .read-call .ensures)
+    (c .before .shift .given .1)
 
 -- and so were the sizes
 sizes-pass : (c : tie.After-enum-told2) → sizeFault (now (c .before .before .before .before .before .before .before .before .before .before .args .cal)) (now (c .before .before .before .before .before .before .before .before .before .before .args .work)) ≡ Fault.None
 sizes-pass c = sym (c .before .before .check-sizes .ensures) ∙ c .enum-told2 .given .1
 
 collect-calendar-requires : tie.Need-collect-calendar-requires
-collect-calendar-requires c κs = let h = call-bounds _ _ _ _ (call-passes (c .before .before .before .before .before)) in (sizes-room _ _ (sizes-pass (c .before)), (h .0, (h .1, h .2)))
+collect-calendar-requires c κs = let h = call-bounds _ _ _ _ (call-passes (c .before .before .before .before .before)) in (sizes-room _ _ (sizes-pass (c .before)), (sizes-small _ _ (sizes-pass (c .before)), (h .0, (h .1, h .2))))
 
 returns : tie.Need-returns
-returns c = collect-refused-1 _ _ _ _ _ _ (call-given _ _ _ (toZ-ofZ w64 (c .before .before .before .before .before .before .args .offset) (c .before .before .before .before .before .before .fits .offset)) (c .before .before .before .read-call .ensures) (c .before .enum-told .given .1)) (c .refused .ensures)
+returns c =
+    collect-refused-1 _ _ _ _ _ _
+    (call-given _ _ _ (toZ-ofZ w64 (c .before .before .before .before .before .before .args .offset) (c .before .before .before .before .before .before .fits .offset)) (c .before .before .before .read-call .ensures) (c .before .enum-told .given .1)) (c .refused .ensures)
 
 same-length : tie.Need-same-length
 same-length c = search needs

@@ -4,8 +4,8 @@ use borrow.Author.Needs.{needs}
 use Rattle.collecting.proofs.collect_stored.Statement.{statement}
 use Rattle.collecting.proofs.collect_stored.Tie as tie
 
-store-contents-requires : tie.Need-store-contents-requires
-store-contents-requires c κs = search needs
+read-contents-requires : tie.Need-read-contents-requires
+read-contents-requires c κs = search needs
 
 enum-known-f : tie.Need-enum-known-f
 enum-known-f c = search needs
@@ -22,37 +22,55 @@ refused-requires-2 c κs = search needs
 same-length : tie.Need-same-length
 same-length c = search needs
 
+same-length-2 : tie.Need-same-length-2
+same-length-2 c = search needs
+
 returns : tie.Need-returns
-returns c = contents-many (c .before .before .before .before .before .before .store-contents .ensures) (c .before .before .enum-told .given .1) (c .before .if1 .taken) (c .refused2 .ensures)
+returns c = contents-many (c .before .before .before .before .before .before .before .before .read-contents .ensures) (c .before .before .enum-told .given .1) (c .before .if1 .taken) (c .refused2 .ensures)
 
 tables-of-requires : tie.Need-tables-of-requires
 tables-of-requires c κs = search needs
 
-same-length-2 : tie.Need-same-length-2
-same-length-2 c = search needs
-
-returns-2 : tie.Need-returns-2
-returns-2 c = contents-refuse (c .before .before .before .before .before .before .store-contents .ensures) (c .before .before .f .given .1) (c .refused .ensures)
-
 same-length-3 : tie.Need-same-length-3
 same-length-3 c = search needs
 
+same-length-4 : tie.Need-same-length-4
+same-length-4 c = search needs
+
+returns-2 : tie.Need-returns-2
+returns-2 c = contents-refuse (c .before .before .before .before .before .before .before .before .read-contents .ensures) (c .before .before .f .given .1) (c .refused .ensures)
+
+same-length-5 : tie.Need-same-length-5
+same-length-5 c = search needs
+
+same-length-6 : tie.Need-same-length-6
+same-length-6 c = search needs
+
 returns-3 : tie.Need-returns-3
-returns-3 c = contents-few (c .before .before .before .before .before .before .before .store-contents .ensures) (c .before .before .before .enum-told .given .1) (c .before .before .if1 .left) (c .before .before .before .before .before .before .before .before .before .before .before .pre .0) (c .before .before .before .before .before .before .before .before .before .before .before .pre .1 .1 .0) (c .tables-of .ensures)
+returns-3 c =
+    contents-few
+    (c .before .before .before .before .before .before .before .before .before .read-contents .ensures)
+    (c .before .before .before .enum-told .given .1)
+    (c .before .before .if1 .left)
+    (c .before .before .before .before .before .before .before .before .before .before .before .before .before .before .before .before .before .pre .0)
+    (c .before .before .before .before .before .before .before .before .before .before .before .before .before .before .before .before .before .pre .1 .1 .1 .1 .0) (c .tables-of .ensures)
 
 pub collect-stored-spec : {M : Type 1} → statement M
 collect-stored-spec =
     tie.close
     (tie.spec
-    store-contents-requires
+    read-contents-requires
     enum-known-f
     refused-requires
     enum-told
     refused-requires-2
     same-length
+    same-length-2
     returns
     tables-of-requires
-    same-length-2
-    returns-2
     same-length-3
+    same-length-4
+    returns-2
+    same-length-5
+    same-length-6
     returns-3)

@@ -1,0 +1,26 @@
+-- The memory is as long as the stage asks.
+use native.Mathlib.Omega.{arith}
+use borrow.Author.Needs.{needs}
+use Rattle.collecting.proofs.collect_contents.Statement.{statement}
+use Rattle.collecting.proofs.collect_contents.Tie as tie
+
+slice-aggregate-collect-stored : tie.Need-slice-aggregate-collect-stored
+slice-aggregate-collect-stored c = search needs
+
+slice-aggregate-collect-stored-2 : tie.Need-slice-aggregate-collect-stored-2
+slice-aggregate-collect-stored-2 c = search needs
+
+collect-stored-requires : tie.Need-collect-stored-requires
+collect-stored-requires c κs = (omega arith, (omega arith, (c .before .before .before .before .before .pre .0, (c .before .before .before .before .before .pre .1 .0, c .before .before .before .before .before .pre .1 .1))))
+
+returns : tie.Need-returns
+returns c = search needs
+
+pub collect-contents-spec : {M : Type 1} → statement M
+collect-contents-spec =
+    tie.close
+    (tie.spec
+    slice-aggregate-collect-stored
+    slice-aggregate-collect-stored-2
+    collect-stored-requires
+    returns)
