@@ -12,7 +12,7 @@ use lib.Seq.{sets}
 use borrow.Author.Tests.{ltb-true, leb-true, lt-leb, lt-ltb, le-ltb}
 use Rattle.ascii.proofs.Bools.{and-left, and-right, clash}
 use Rattle.text.specs.Unfolding.{unfolded, Unfolded}
-use Rattle.text.proofs.Unfolding.{unfolded-front, length-unfolded}
+use Rattle.text.proofs.Unfolding.{unfolded-front}
 use Rattle.time.specs.Limits.{lastSecond, rangeGood}
 use Rattle.periods.specs.declared.Period.{Period}
 use Rattle.periods.specs.declared.BusyType.{BusyType}
@@ -25,8 +25,7 @@ use Rattle.table.specs.declared.Table.{Table}
 use Rattle.table.proofs.Runs.{runs-same}
 use Rattle.report.specs.Writing.{byType}
 use Rattle.events.specs.Events.{Entry}
-use Rattle.calendar.specs.Meaning.{structureFault, structureRefusal, entriesOf, componentsOf}
-use Rattle.calendar.proofs.Meanings.{structure-refusal, no-refusal}
+use Rattle.calendar.specs.Meaning.{structureRefusal, entriesOf, componentsOf}
 use Rattle.calendar.specs.declared.Fault.{Fault}
 use Rattle.pieces.specs.BusyPeriods.{busyPeriods}
 use Rattle.pieces.specs.Columns.{flat, stored, Stored, Room}
@@ -41,11 +40,11 @@ use Rattle.refusals.specs.declared.OffsetRead.{OffsetRead}
 use Rattle.refusals.proofs.Offsets.{read-out, shift-bound, offset-given}
 use Rattle.refusals.proofs.Refusals.{lowest-above, row-applies, row-passed}
 use Rattle.refusals.proofs.Stages.{rises, structure-passed, structure-refused, calendar-rising, work-by, contents-passed, contents-refused}
-use Rattle.structure.specs.Rows.{FileRows}
 use Rattle.structure.specs.Reading.{StructureRead}
 use Rattle.nesting.specs.declared.Structure.{Structure}
 use Rattle.contents.specs.Contents.{ContentsAre}
 use Rattle.contents.specs.declared.ContentsRead.{ContentsRead}
+use Rattle.contents.proofs.Contents.{structure-found}
 use Rattle.tables.specs.Building.{Built}
 use Rattle.tables.proofs.Built.{built-stored}
 use Rattle.collecting.specs.declared.Collected.{Collected}
@@ -256,17 +255,11 @@ later-late c cal a e = late-above (laterRows c cal a e) (calendar-rising c (unfo
 
 -- by what reading the structure answered
 module _ {u index rows : List ℕ} {x : Structure} (k : StructureRead u index rows x) {f : Fault} (q : f ≡ structureRefusal x) where
-  structure-found : structureFault u ≡ f
-  structure-found = sym (structure-refusal u (k .structure-is)) ∙ sym q
-
-  pub structure-known : f ≡ Fault.None → FileRows u index rows
-  structure-known h = k .known (no-refusal x (sym q ∙ h))
-
   pub structure-refuses : (c : Context) (a e : ℕ) {r : Collected} {n i : ℕ} → f ≡ Fault.At n i → Refuses (Fault.At n i) r → CalendarTabled c u a e r
-  structure-refuses c a e h w = tabled-refused (structure-refused c u _ (structure-found ∙ h)) w
+  structure-refuses c a e h w = tabled-refused (structure-refused c u _ (structure-found k q ∙ h)) w
 
   pub structure-passes : (c : Context) (a e : ℕ) {r : Collected} → f ≡ Fault.None → ContentsTabled c u a e r → CalendarTabled c u a e r
-  structure-passes c a e h t = tabled-passed (structure-passed c u _ (structure-found ∙ h)) t
+  structure-passes c a e h t = tabled-passed (structure-passed c u _ (structure-found k q ∙ h)) t
 
 -- the unfolded calendar was left in the buffer
 pub calendar-collected : (c : Context) (cal work : List ℕ) (a e : ℕ) {left : List ℕ} {m : ℕ} {r : Collected} → Unfolded cal work left m
@@ -274,6 +267,3 @@ pub calendar-collected : (c : Context) (cal work : List ℕ) (a e : ℕ) {left :
 unfolding laterRows laterPeriods
 calendar-collected c cal work a e {r = r} k t =
     collected-late cal work (k .bytes) (later-late c cal a e) (subst (λ (u : List ℕ). CalendarTabled c u a e r) (unfolded-front k) t)
-
-pub unfolded-small : {cal work left : List ℕ} {m : ℕ} → Unfolded cal work left m → length cal ≤ 65536 → m ≤ 65536
-unfolded-small {cal} k h = omega (arith, k .count, length-unfolded cal)

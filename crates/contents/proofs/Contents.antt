@@ -17,8 +17,10 @@ use Rattle.property.specs.declared.Scope.{Scope}
 use Rattle.periods.specs.BusyTypes.{BusyPeriod}
 use Rattle.nesting.specs.Components.{Numbered, Component, propertiesIn}
 use Rattle.nesting.specs.Passing.{treeIn}
+use Rattle.nesting.specs.declared.Structure.{Structure}
 use Rattle.index.specs.Index.{lineBytes}
 use Rattle.structure.specs.Rows.{kindOf, numberedLine, RowOf, componentBy, componentsBy, BelowAt, FileRows}
+use Rattle.structure.specs.Reading.{StructureRead}
 use Rattle.structure.proofs.RowsLaws.{components-none, NextBelow, below-next, file-kind, file-below, file-below-at}
 use Rattle.events.specs.Events.{eventBy, blockBy, Entry, event, block}
 use Rattle.events.specs.EntryRows.{eventRow, blockRow, eventAt, blockAt, EntryPut}
@@ -31,7 +33,8 @@ use Rattle.events.specs.Sizes.{EventSmall}
 use Rattle.events.proofs.EntryRows.{event-put, block-put, event-kept, block-kept}
 use Rattle.calendar.specs.Checks.{ruleElse}
 use Rattle.calendar.specs.Places.{faultElse}
-use Rattle.calendar.specs.Meaning.{Meaning, scopeOf, componentScope, faultOr, faultIn, valueFault, eventOf, blockOf, eventBroken, blockBroken, isBroken, brokenOr, ruleFault, blockPeriods, eventEntry, blockEntry, entryOf, entriesOf, componentsOf, fileLines, byRules, byValues, contentsOf, faultOf}
+use Rattle.calendar.specs.Meaning.{Meaning, scopeOf, componentScope, faultOr, faultIn, valueFault, eventOf, blockOf, eventBroken, blockBroken, isBroken, brokenOr, ruleFault, blockPeriods, eventEntry, blockEntry, entryOf, entriesOf, componentsOf, fileLines, byRules, byValues, contentsOf, faultOf, structureFault, structureRefusal}
+use Rattle.calendar.proofs.Meanings.{structure-refusal, no-refusal}
 use Rattle.calendar.specs.declared.ValueCheck.{ValueCheck}
 use Rattle.calendar.specs.declared.RuleCheck.{RuleCheck}
 use Rattle.calendar.specs.declared.Fault.{Fault}
@@ -503,3 +506,12 @@ module _ {s index rows : List ℕ} (h : FileRows s index rows) {m : ℕ} (w : m 
             let z = g .known (rules-good rules (sym t ∙ e)) in
             record { room = g .size; events = λ p f u. z .events p (omega (arith, w)) u; blocks = λ p f u. z .blocks p (omega (arith, w)) u };
       }
+
+-- ---- refusals 6 and 7, by what reading the structure answered
+
+module _ {u index rows : List ℕ} {x : Structure} (k : StructureRead u index rows x) {f : Fault} (q : f ≡ structureRefusal x) where
+  pub structure-found : structureFault u ≡ f
+  structure-found = sym (structure-refusal u (k .structure-is)) ∙ sym q
+
+  pub structure-known : f ≡ Fault.None → FileRows u index rows
+  structure-known e = k .known (no-refusal x (sym q ∙ e))

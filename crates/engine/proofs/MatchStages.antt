@@ -2,33 +2,63 @@
 use Prim.Native.Nat.{ℕ}
 use mathlib.Core.Path.{_≡_, refl, sym, ap, _∙_}
 use mathlib.Core.Bool.{Bool, true, false, not}
-use mathlib.Core.List.{List, []}
+use mathlib.Core.List.{List, [], _++_}
 use lib.Dec.{leb}
 use lib.IntN.{ℤ}
-use lib.ListN.{take}
-use Rattle.text.specs.Unfolding.{unfolded}
+use lib.ListN.{length, take, drop}
+use Rattle.text.specs.Unfolding.{unfolded, Unfolded}
 use Rattle.text.proofs.Unfolding.{unfolded-front}
 use Rattle.nesting.specs.Passing.{treeIn}
 use Rattle.values.specs.declared.times.Context.{Context}
+use Rattle.nesting.specs.declared.Structure.{Structure}
+use Rattle.structure.specs.Reading.{StructureRead}
+use Rattle.calendar.specs.Meaning.{structureRefusal}
 use Rattle.calendar.specs.declared.Fault.{Fault}
+use Rattle.contents.specs.Contents.{ContentsAre}
+use Rattle.contents.specs.declared.ContentsRead.{ContentsRead}
+use Rattle.contents.proofs.Contents.{structure-found}
 use Rattle.query.specs.declared.Sections.{Sections}
 use Rattle.query_check.specs.WellFormed.{queryRead}
 use Rattle.query_check.specs.declared.QueryRead.{QueryRead}
 use Rattle.filter.specs.Tests.{queryHolds}
 use Rattle.refusals.specs.Refusals.{lowest, sizeRows, calendarRows}
 use Rattle.refusals.specs.Offsets.{contextOf, offsetRead}
-use Rattle.refusals.specs.Stages.{sizeFault, CalendarRead, earlyFault}
+use Rattle.refusals.specs.Stages.{sizeFault, earlyFault}
 use Rattle.refusals.specs.declared.OffsetRead.{OffsetRead}
-use Rattle.refusals.specs.declared.Reading.{Reading}
 use Rattle.refusals.proofs.Offsets.{read-good, read-out}
 use Rattle.refusals.proofs.Refusals.{row-applies, row-passed}
-use Rattle.refusals.proofs.Stages.{sizes-early, sizes-passed, sizes-refused, calendar-lowest, calendar-late}
-use Rattle.engine.specs.Answers.{Outcome, verdict, refusal, outcomeOf, refusalIn, workAfter}
+use Rattle.refusals.proofs.Stages.{sizes-early, sizes-passed, sizes-refused, calendar-late, structure-passed, structure-refused, contents-passed, contents-refused}
+use Rattle.engine.specs.Answers.{Outcome, verdict, refusal, outcomeOf, refusalIn, workAfter, unlessRefused}
 use Rattle.engine.specs.Matching.{MatchCall, queryRows, matchRows, verdictBy, verdictOf, matchOutcome, Matched}
-use Rattle.engine.specs.MatchStages.{Answered, calendarOutcome, queryOutcome}
+use Rattle.engine.specs.MatchStages.{Answered, contentsOutcome, unfoldedOutcome, calendarOutcome, queryOutcome}
 use Rattle.engine.specs.declared.Answer.{Answer}
 use Rattle.engine.proofs.MatchingLaws.{query-refused-4, query-refused-5, query-passed, query-sections}
 use Rattle.engine.proofs.Answers.{refused, let-through, left-by}
+
+-- ---- an unfolded calendar
+
+-- by what reading the contents answered
+module _ {c : Context} {u rows : List ℕ} {a b : ℕ} {o o′ entries : List ℕ} {x : ContentsRead} (k : ContentsAre c u rows a b o o′ entries x) (s : List ℕ) (q : Sections) where
+  pub contents-refusal : {n i : ℕ} → x .fault ≡ Fault.At n i → outcomeOf (Answer.Refused n) ≡ contentsOutcome c u s q
+  unfolding contentsOutcome outcomeOf
+  contents-refusal e = sym (refused (verdict (queryHolds c s q (treeIn u))) (contents-refused c u [] (sym (k .fault-is) ∙ e)))
+
+  pub contents-verdict : {t : Bool} → x .fault ≡ Fault.None → t ≡ queryHolds c s q (treeIn u) → outcomeOf (Answer.Verdict t) ≡ contentsOutcome c u s q
+  unfolding contentsOutcome outcomeOf lowest
+  contents-verdict e h =
+      ap verdict h ∙ sym (let-through (verdict (queryHolds c s q (treeIn u))) (contents-passed c u [] (sym (k .fault-is) ∙ e)))
+
+-- by what reading the structure answered
+module _ {u index rows : List ℕ} {x : Structure} (k : StructureRead u index rows x) {f : Fault} (w : f ≡ structureRefusal x) where
+  module _ (c : Context) (s : List ℕ) (q : Sections) where
+    pub structure-refusal-told : {n i : ℕ} → f ≡ Fault.At n i → outcomeOf (Answer.Refused n) ≡ unfoldedOutcome c u s q
+    unfolding unfoldedOutcome outcomeOf
+    structure-refusal-told e = sym (refused (verdict (queryHolds c s q (treeIn u))) (structure-refused c u [] (structure-found k w ∙ e)))
+
+    pub structure-passes : (a : Answer) → f ≡ Fault.None → outcomeOf a ≡ contentsOutcome c u s q → outcomeOf a ≡ unfoldedOutcome c u s q
+    unfolding contentsOutcome unfoldedOutcome
+    structure-passes a e h =
+        h ∙ ap (λ (g : Fault). unlessRefused g (verdict (queryHolds c s q (treeIn u)))) (sym (structure-passed c u [] (structure-found k w ∙ e)))
 
 module _ (cal work : List ℕ) where
   -- a refusal by 1 to 5 leaves the buffer as it was; any other answer leaves the unfolded calendar in it
@@ -36,27 +66,25 @@ module _ (cal work : List ℕ) where
   unfolding refusalIn earlyFault outcomeOf
   early n h e = rw e (record { answered = refl; work-left = sym (left-by cal work (refusal n) h) })
 
-  module _ {left : List ℕ} {c : Context} {r : Reading} (k : CalendarRead c cal work left r) where
-    pub late : {o : Outcome} (a : Answer) → outcomeOf a ≡ o → earlyFault (refusalIn o) ≡ false → Answered o cal work a left
-    late {o} a e h = record { answered = e; work-left = k .unfolds .bytes ∙ sym (left-by cal work o h) }
+  late : {o : Outcome} {left : List ℕ} (a : Answer) → left ≡ unfolded cal ++ drop (length (unfolded cal)) work → outcomeOf a ≡ o
+      → earlyFault (refusalIn o) ≡ false → Answered o cal work a left
+  late {o} a u e h = record { answered = e; work-left = u ∙ sym (left-by cal work o h) }
 
-    pub lowest-fault : lowest (calendarRows c (unfolded cal) []) ≡ r .fault
-    lowest-fault = calendar-lowest c (unfolded cal) ∙ sym (k .fault-is)
+  -- no refusal of the calendar is an early one
+  calendar-outcome-late : (c : Context) (s : List ℕ) (q : Sections) → earlyFault (refusalIn (calendarOutcome c cal s q)) ≡ false
+  unfolding calendarOutcome unfoldedOutcome refusalIn earlyFault unlessRefused
+  calendar-outcome-late c s q = go (lowest (calendarRows c (unfolded cal) [])) refl
+    where
+      go : (f : Fault) → lowest (calendarRows c (unfolded cal) []) ≡ f
+          → earlyFault (refusalIn (unlessRefused f (verdict (queryHolds c s q (treeIn (unfolded cal)))))) ≡ false
+      go Fault.None e = refl
+      go (Fault.At n i) e = calendar-late c (unfolded cal) e
 
-    module _ (s : List ℕ) (q : Sections) where
-      pub match-refused : {n i : ℕ} → r .fault ≡ Fault.At n i → Answered (calendarOutcome c cal s q) cal work (Answer.Refused n) left
-      unfolding calendarOutcome refusalIn earlyFault outcomeOf
-      match-refused {n} {i} e =
-          let f = lowest-fault ∙ e in
-          rw (refused (verdict (queryHolds c s q (treeIn (unfolded cal)))) f)
-          (late (Answer.Refused n) refl (calendar-late c (unfolded cal) f))
-
-      pub match-verdict : {t : Bool} → r .fault ≡ Fault.None → t ≡ queryHolds c s q (treeIn (take (r .length) left))
-          → Answered (calendarOutcome c cal s q) cal work (Answer.Verdict t) left
-      unfolding calendarOutcome refusalIn earlyFault outcomeOf
-      match-verdict {t} e h =
-          let v = h ∙ ap (λ (u : List ℕ). queryHolds c s q (treeIn u)) (unfolded-front (k .unfolds)) in
-          rw (let-through (verdict (queryHolds c s q (treeIn (unfolded cal)))) (lowest-fault ∙ e)) (late (Answer.Verdict t) (ap verdict v) refl)
+  pub match-calendar-read : {left : List ℕ} {m : ℕ} {a : Answer} (c : Context) (s : List ℕ) (q : Sections) → Unfolded cal work left m
+      → outcomeOf a ≡ unfoldedOutcome c (take m left) s q → Answered (calendarOutcome c cal s q) cal work a left
+  unfolding calendarOutcome
+  match-calendar-read {a = a} c s q k e =
+      late a (k .bytes) (e ∙ ap (λ (u : List ℕ). unfoldedOutcome c u s q) (unfolded-front k)) (calendar-outcome-late c s q)
 
   -- ---- from the query on
 
@@ -72,7 +100,7 @@ module _ (cal work : List ℕ) where
     pub match-query-passed : {left : List ℕ} {a : Answer} (q : Sections) → queryRead s ≡ QueryRead.Of q
         → Answered (calendarOutcome c cal s q) cal work a left
         → Answered (queryOutcome c cal s) cal work a left
-    unfolding queryOutcome calendarOutcome verdictBy
+    unfolding queryOutcome calendarOutcome unfoldedOutcome verdictBy
     match-query-passed q e a = rw (query-passed s (calendarRows c (unfolded cal) []) q e, query-sections s [] q e) a
 
 -- ---- the whole call

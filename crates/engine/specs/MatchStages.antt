@@ -8,7 +8,7 @@ use Rattle.values.specs.declared.times.Context.{Context}
 use Rattle.query.specs.Sections.{sectionsOf}
 use Rattle.query.specs.declared.Sections.{Sections}
 use Rattle.filter.specs.Tests.{queryHolds}
-use Rattle.refusals.specs.Refusals.{lowest, calendarRows}
+use Rattle.refusals.specs.Refusals.{lowest, contentsRows, calendarRows}
 use Rattle.engine.specs.Answers.{Outcome, verdict, outcomeOf, workAfter, unlessRefused}
 use Rattle.engine.specs.Matching.{queryRows, verdictBy}
 use Rattle.engine.specs.declared.Answer.{Answer}
@@ -18,9 +18,16 @@ pub record Answered (o : Outcome) (cal work : List ℕ) (a : Answer) (left : Lis
   pub answered : outcomeOf a ≡ o
   pub work-left : left ≡ workAfter o cal work
 
+-- a match of an unfolded calendar, from refusal 8 on, and from refusal 6 on
+unfoldable pub contentsOutcome : Context → List ℕ → List ℕ → Sections → Outcome
+contentsOutcome c u s q = unlessRefused (lowest (contentsRows c u [])) (verdict (queryHolds c s q (treeIn u)))
+
+unfoldable pub unfoldedOutcome : Context → List ℕ → List ℕ → Sections → Outcome
+unfoldedOutcome c u s q = unlessRefused (lowest (calendarRows c u [])) (verdict (queryHolds c s q (treeIn u)))
+
 -- a match from the calendar's refusals on
 unfoldable pub calendarOutcome : Context → List ℕ → List ℕ → Sections → Outcome
-calendarOutcome c cal s q = unlessRefused (lowest (calendarRows c (unfolded cal) [])) (verdict (queryHolds c s q (treeIn (unfolded cal))))
+calendarOutcome c cal s q = unfoldedOutcome c (unfolded cal) s q
 
 -- a match from the query's refusals on
 unfoldable pub queryOutcome : Context → List ℕ → List ℕ → Outcome

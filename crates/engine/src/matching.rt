@@ -7,36 +7,114 @@ use query_check::QueryRead;
 use values::times::Context;
 ghost use mathlib.Core.Path.{_≡_};
 ghost use mathlib.Core.Bool.{true};
-ghost use Prim.Native.Nat.{_≤_};
+ghost use Prim.Native.Nat.{_*_, _≤_, _<_};
 ghost use lib.ListN.{length};
 ghost use Rattle.values.specs.Times.{ContextGood};
+ghost use Rattle.structure.specs.Rows.{FileRows};
 ghost use Rattle.query.specs.Fits.{Fits};
 ghost use Rattle.query_check.specs.WellFormed.{recordsGood};
-ghost use Rattle.engine.specs.MatchStages.{Answered, queryOutcome, calendarOutcome};
+ghost use Rattle.engine.specs.Answers.{outcomeOf};
+ghost use Rattle.engine.specs.MatchStages.{Answered, contentsOutcome, unfoldedOutcome, queryOutcome, calendarOutcome};
 
-// Refusals 6 to 10, then the filter.
-fn match_calendar(work: &mut [u8], cal: &[u8], query: &[u8], q: Sections, c: Context) -> Answer
-    requires { ⌜ length (now cal) ≤ length (now work) ⌝ }
+// Refusals 8 to 10, then the filter. A match has no range: the pieces of the first second are stored, and nobody asks for them.
+fn match_contents(
+    s: &[u8],
+    index: &[u32],
+    rows: &[u32],
+    query: &[u8],
+    q: Sections,
+    c: Context,
+) -> Answer
+    requires { ⌜ FileRows (now s) (now index) (now rows) ⌝ }
     requires { ⌜ Fits (now query) q ⌝ }
     requires { ⌜ recordsGood (now query) q ≡ true ⌝ }
     requires { ⌜ ContextGood c ⌝ }
-    ensures { λ r. ⌜ Answered (calendarOutcome c (now (cal .entry)) (now (query .entry)) q) (now (cal .entry)) (now (work .entry)) r (now (work .exit)) ⌝ }
+    ensures { λ r. ⌜ outcomeOf r ≡ contentsOutcome c (now (s .entry)) (now (query .entry)) q ⌝ }
 {
-    let read = refusals::read_calendar(work, cal, c);
-    let n = read.length;
+    let mut column = [0u32; 1539];
+    let mut entries = [0u64; 3072];
+    let read = contents::read_contents(&mut column, &mut entries, s, index, rows, c, 0, 1);
     let f = read.fault;
     match f {
         Fault::At(k, line) => Answer::Refused(k),
         Fault::None => {
-            let holds = filter::components::query_holds(query, q, &work[..n], c);
+            let holds = filter::components::query_holds(query, q, s, index, rows, &entries, c);
             Answer::Verdict(holds)
         }
     }
 }
 
+// Refusals 6 to 10, then the filter: the lines stand in this index.
+fn match_indexed(index: &mut [u32], s: &[u8], query: &[u8], q: Sections, c: Context) -> Answer
+    requires { ⌜ length (now s) < 4 * length (now index) ⌝ }
+    requires { ⌜ length (now s) ≤ 65536 ⌝ }
+    requires { ⌜ Fits (now query) q ⌝ }
+    requires { ⌜ recordsGood (now query) q ≡ true ⌝ }
+    requires { ⌜ ContextGood c ⌝ }
+    ensures { λ r. ⌜ outcomeOf r ≡ unfoldedOutcome c (now (s .entry)) (now (query .entry)) q ⌝ }
+{
+    let mut rows = [0u32; 1024];
+    let structure = structure::read_structure(index, &mut rows, s);
+    match calendar::faults::structure_fault(structure) {
+        Fault::At(k, line) => Answer::Refused(k),
+        Fault::None => match_contents(s, index, &rows, query, q, c),
+    }
+}
+
+// An index is cleared before it is filled, so a short calendar gets a short one.
+fn match_short(s: &[u8], query: &[u8], q: Sections, c: Context) -> Answer
+    requires { ⌜ length (now s) ≤ 8192 ⌝ }
+    requires { ⌜ Fits (now query) q ⌝ }
+    requires { ⌜ recordsGood (now query) q ≡ true ⌝ }
+    requires { ⌜ ContextGood c ⌝ }
+    ensures { λ r. ⌜ outcomeOf r ≡ unfoldedOutcome c (now (s .entry)) (now (query .entry)) q ⌝ }
+{
+    let mut index = [0u32; 2049];
+    match_indexed(&mut index, s, query, q, c)
+}
+
+fn match_long(s: &[u8], query: &[u8], q: Sections, c: Context) -> Answer
+    requires { ⌜ length (now s) ≤ 65536 ⌝ }
+    requires { ⌜ Fits (now query) q ⌝ }
+    requires { ⌜ recordsGood (now query) q ≡ true ⌝ }
+    requires { ⌜ ContextGood c ⌝ }
+    ensures { λ r. ⌜ outcomeOf r ≡ unfoldedOutcome c (now (s .entry)) (now (query .entry)) q ⌝ }
+{
+    let mut index = [0u32; 16385];
+    match_indexed(&mut index, s, query, q, c)
+}
+
+// Refusals 6 to 10 of the unfolded calendar, then the filter.
+fn match_unfolded(s: &[u8], query: &[u8], q: Sections, c: Context) -> Answer
+    requires { ⌜ length (now s) ≤ 65536 ⌝ }
+    requires { ⌜ Fits (now query) q ⌝ }
+    requires { ⌜ recordsGood (now query) q ≡ true ⌝ }
+    requires { ⌜ ContextGood c ⌝ }
+    ensures { λ r. ⌜ outcomeOf r ≡ unfoldedOutcome c (now (s .entry)) (now (query .entry)) q ⌝ }
+{
+    if s.len() <= 8192 {
+        return match_short(s, query, q, c);
+    }
+    match_long(s, query, q, c)
+}
+
+// Unfolds the calendar to the front of the work buffer; then refusals 6 to 10, then the filter.
+fn match_calendar(work: &mut [u8], cal: &[u8], query: &[u8], q: Sections, c: Context) -> Answer
+    requires { ⌜ length (now cal) ≤ length (now work) ⌝ }
+    requires { ⌜ length (now cal) ≤ 65536 ⌝ }
+    requires { ⌜ Fits (now query) q ⌝ }
+    requires { ⌜ recordsGood (now query) q ≡ true ⌝ }
+    requires { ⌜ ContextGood c ⌝ }
+    ensures { λ r. ⌜ Answered (calendarOutcome c (now (cal .entry)) (now (query .entry)) q) (now (cal .entry)) (now (work .entry)) r (now (work .exit)) ⌝ }
+{
+    let n = text::unfold_into(work, cal);
+    match_unfolded(&work[..n], query, q, c)
+}
+
 // Refusals 4 and 5, then the calendar.
 pub fn match_query(work: &mut [u8], cal: &[u8], query: &[u8], c: Context) -> Answer
     requires { ⌜ length (now cal) ≤ length (now work) ⌝ }
+    requires { ⌜ length (now cal) ≤ 65536 ⌝ }
     requires { ⌜ ContextGood c ⌝ }
     ensures { λ r. ⌜ Answered (queryOutcome c (now (cal .entry)) (now (query .entry))) (now (cal .entry)) (now (work .entry)) r (now (work .exit)) ⌝ }
 {

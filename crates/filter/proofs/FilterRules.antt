@@ -41,7 +41,7 @@ use Rattle.recurrence.proofs.TimeRange.{decided-once}
 use Rattle.recurrence.specs.Instances.{instancesAtMost}
 use Rattle.filter.specs.Tests.{eventIn, blockRangeIn, componentIn, rangeHolds, someComponentNamed, someComponent, componentHolds, childrenHold, componentTest, queryHolds}
 use Rattle.filter.specs.FilterRules.{ValuePasses, ParameterPasses, LinePasses, PropertyPasses, ComponentIn, RangePasses, ComponentPasses, QueryPasses}
-use Rattle.filter.proofs.Places.{both-ends, some-at, some-decides}
+use Rattle.filter.proofs.RangesLaws.{both-ends, some-at, some-decides}
 
 -- ---- Bools and searches
 
@@ -327,17 +327,17 @@ module _ (c : Context) (p : List ℕ) (q : Sections) (g : recordsGood p q ≡ tr
   named-components n = record { nothing = refl; more = λ x xs. refl }
 
   -- the child tests of component record j
-  abbrev Children : ℕ → Items → Type 0
-  Children j i = (n : ℕ) → j < n → n < q .components .count → componentAt p q n .parent ≡ j → ComponentPasses c p q n i
+  abbrev Children : ℕ → List Component → Type 0
+  Children j ks = (n : ℕ) → j < n → n < q .components .count → componentAt p q n .parent ≡ j → ComponentPasses c p q n ks
 
-  module _ (j : ℕ) (l : j < q .components .count) (children : Items → Bool) (w : (i : Items) → (children i ≡ true) ↔ Children j i) where
+  module _ (j : ℕ) (l : j < q .components .count) (children : List Component → Bool) (w : (ks : List Component) → (children ks ≡ true) ↔ Children j ks) where
     abbrev wanted : List ℕ
     wanted = textOf p q (componentAt p q j .name)
 
     abbrev fits : Component → Bool
     fits k =
         sameName (k .begin .line .value) wanted && rangeHolds c p q (componentAt p q j .range) k && propertiesHold p q j (propertiesIn (k .items))
-        && children (k .items)
+        && children (componentsIn (k .items))
 
     fitting-components : SomeIn (someComponent c p q j (componentAt p q j) children) fits
     unfolding someComponent
@@ -346,8 +346,8 @@ module _ (c : Context) (p : List ℕ) (q : Sections) (g : recordsGood p q ≡ tr
     range-there : componentAt p q j .range ≤ q .ranges .count
     range-there = records-say p q g .components-good j l .range-there
 
-    fit-says : (i : Items) (k : Component) → (componentAt p q j .flag ≡ 1 → ⊥) → List·Memᴰ k (componentsIn i) → fits k ≡ true → ComponentPasses c p q j i
-    fit-says i k f m h =
+    fit-says : (ks : List Component) (k : Component) → (componentAt p q j .flag ≡ 1 → ⊥) → List·Memᴰ k ks → fits k ≡ true → ComponentPasses c p q j ks
+    fit-says ks k f m h =
         let named = sameName (k .begin .line .value) wanted in
         let ranged = rangeHolds c p q (componentAt p q j .range) k in
         let lined = propertiesHold p q j (propertiesIn (k .items)) in
@@ -355,85 +355,85 @@ module _ (c : Context) (p : List ℕ) (q : Sections) (g : recordsGood p q ≡ tr
         let head = and-left (named && ranged) lined front in
         ComponentPasses.some-component f k m (and-left named ranged head) (range-says _ k (and-right named ranged head))
         (properties-iff p q j (propertiesIn (k .items)) .0 (and-right (named && ranged) lined front))
-        (w (k .items) .0 (and-right (named && ranged && lined) (children (k .items)) h))
+        (w (componentsIn (k .items)) .0 (and-right (named && ranged && lined) (children (componentsIn (k .items))) h))
 
-    component-says : (i : Items) → componentHolds c p q j (componentAt p q j) children i ≡ true → ComponentPasses c p q j i
+    component-says : (ks : List Component) → componentHolds c p q j (componentAt p q j) children ks ≡ true → ComponentPasses c p q j ks
     unfolding componentHolds
-    component-says i h =
-        by-flag (componentAt p q j .flag) 1 (not (someComponentNamed wanted (componentsIn i)))
-        (someComponent c p q j (componentAt p q j) children (componentsIn i))
+    component-says ks h =
+        by-flag (componentAt p q j .flag) 1 (not (someComponentNamed wanted ks))
+        (someComponent c p q j (componentAt p q j) children ks)
         (λ e n. ComponentPasses.not-defined e (λ k m. none-listed (named-components wanted) m (not-true _ n)))
-        (λ e n. let x = some-found fitting-components _ n in fit-says i (x .which) e (x .listed) (x .passes))
+        (λ e n. let x = some-found fitting-components _ n in fit-says ks (x .which) e (x .listed) (x .passes))
         h
 
-    component-holds : (i : Items) → ComponentPasses c p q j i → componentHolds c p q j (componentAt p q j) children i ≡ true
+    component-holds : (ks : List Component) → ComponentPasses c p q j ks → componentHolds c p q j (componentAt p q j) children ks ≡ true
     unfolding componentHolds
-    component-holds i (ComponentPasses.not-defined e h) =
-        flag-on (componentAt p q j .flag) 1 _ _ e (ap not (all-fail (named-components wanted) (componentsIn i) h))
-    component-holds i (ComponentPasses.some-component e k m n r ps cs) =
+    component-holds ks (ComponentPasses.not-defined e h) =
+        flag-on (componentAt p q j .flag) 1 _ _ e (ap not (all-fail (named-components wanted) ks h))
+    component-holds ks (ComponentPasses.some-component e k m n r ps cs) =
         flag-off (componentAt p q j .flag) 1 _ _ e
         (some-listed fitting-components m
-        (and-both (and-both (and-both n (range-holds _ k range-there r)) (properties-iff p q j (propertiesIn (k .items)) .1 ps)) (w (k .items) .1 cs)))
+        (and-both (and-both (and-both n (range-holds _ k range-there r)) (properties-iff p q j (propertiesIn (k .items)) .1 ps)) (w (componentsIn (k .items)) .1 cs)))
 
-    holds-iff : (i : Items) → (componentHolds c p q j (componentAt p q j) children i ≡ true) ↔ ComponentPasses c p q j i
-    holds-iff i = (component-says i, component-holds i)
+    holds-iff : (ks : List Component) → (componentHolds c p q j (componentAt p q j) children ks ≡ true) ↔ ComponentPasses c p q j ks
+    holds-iff ks = (component-says ks, component-holds ks)
 
   -- of the last n component records, all those of a parent pass
-  abbrev LastPass : ℕ → ℕ → Items → Type 0
-  LastPass n par i =
-      (k : ℕ) → q .components .count - n ≤ k → k < q .components .count → componentAt p q k .parent ≡ par → ComponentPasses c p q k i
+  abbrev LastPass : ℕ → ℕ → List Component → Type 0
+  LastPass n par ks =
+      (k : ℕ) → q .components .count - n ≤ k → k < q .components .count → componentAt p q k .parent ≡ par → ComponentPasses c p q k ks
 
   -- component record j, where the n records after it are the last
   record-iff : (j n : ℕ) → j < q .components .count → n ≡ q .components .count - suc j
-      → ((x : Items) → (childrenHold c p q n j x ≡ true) ↔ LastPass n j x)
-      → (i : Items) → (componentHolds c p q j (componentAt p q j) (λ x. childrenHold c p q n j x) i ≡ true) ↔ ComponentPasses c p q j i
+      → ((x : List Component) → (childrenHold c p q n j x ≡ true) ↔ LastPass n j x)
+      → (ks : List Component) → (componentHolds c p q j (componentAt p q j) (λ x. childrenHold c p q n j x) ks ≡ true) ↔ ComponentPasses c p q j ks
   record-iff j n l e w =
       holds-iff j l (λ x. childrenHold c p q n j x)
       (λ x. (λ h k lo hi o. w x .0 h k (omega arith) hi o, λ h. w x .1 (λ k lo hi o. h k (omega arith) hi o)))
 
-  module _ (n par : ℕ) (i : Items) (s : suc n ≤ q .components .count) (w : (m : ℕ) (x : Items) → (childrenHold c p q n m x ≡ true) ↔ LastPass n m x) where
+  module _ (n par : ℕ) (ks : List Component) (s : suc n ≤ q .components .count) (w : (m : ℕ) (x : List Component) → (childrenHold c p q n m x ≡ true) ↔ LastPass n m x) where
     abbrev first : ℕ
     first = q .components .count - suc n
 
-    first-iff : (componentHolds c p q first (componentAt p q first) (λ x. childrenHold c p q n first x) i ≡ true) ↔ ComponentPasses c p q first i
-    first-iff = record-iff first n (omega arith) (omega arith) (w first) i
+    first-iff : (componentHolds c p q first (componentAt p q first) (λ x. childrenHold c p q n first x) ks ≡ true) ↔ ComponentPasses c p q first ks
+    first-iff = record-iff first n (omega arith) (omega arith) (w first) ks
 
-    first-or-later : (componentAt p q first .parent ≡ par → ComponentPasses c p q first i) → LastPass n par i → LastPass (suc n) par i
+    first-or-later : (componentAt p q first .parent ≡ par → ComponentPasses c p q first ks) → LastPass n par ks → LastPass (suc n) par ks
     first-or-later here below k lo hi o = go (eqb k first) refl
       where
-        go : (t : Bool) → eqb k first ≡ t → ComponentPasses c p q k i
+        go : (t : Bool) → eqb k first ≡ t → ComponentPasses c p q k ks
         go true e =
             let z = eqb-true k first e in
-            subst (λ (m : ℕ). ComponentPasses c p q m i) (sym z) (here (ap (λ (m : ℕ). componentAt p q m .parent) (sym z) ∙ o))
+            subst (λ (m : ℕ). ComponentPasses c p q m ks) (sym z) (here (ap (λ (m : ℕ). componentAt p q m .parent) (sym z) ∙ o))
         go false e = let z = eqb-false k first e in below k (omega arith) hi o
 
-    children-step : (childrenHold c p q (suc n) par i ≡ true) ↔ LastPass (suc n) par i
+    children-step : (childrenHold c p q (suc n) par ks ≡ true) ↔ LastPass (suc n) par ks
     unfolding childrenHold
     children-step = (
       λ h.
-          first-or-later (λ o. first-iff .0 (asked (componentAt p q first .parent) par _ (and-left _ (childrenHold c p q n par i) h) o))
-          (w par i .0 (and-right (implies (eqb (componentAt p q first .parent) par) _) (childrenHold c p q n par i) h)),
+          first-or-later (λ o. first-iff .0 (asked (componentAt p q first .parent) par _ (and-left _ (childrenHold c p q n par ks) h) o))
+          (w par ks .0 (and-right (implies (eqb (componentAt p q first .parent) par) _) (childrenHold c p q n par ks) h)),
       λ h.
           and-both (asked-so (componentAt p q first .parent) par _ (λ o. first-iff .1 (h first (omega arith) (omega arith) o)))
-          (w par i .1 (λ k lo hi o. h k (omega arith) hi o)),
+          (w par ks .1 (λ k lo hi o. h k (omega arith) hi o)),
     )
 
-  children-iff : (n par : ℕ) (i : Items) → n ≤ q .components .count → (childrenHold c p q n par i ≡ true) ↔ LastPass n par i
+  children-iff : (n par : ℕ) (ks : List Component) → n ≤ q .components .count → (childrenHold c p q n par ks ≡ true) ↔ LastPass n par ks
   unfolding childrenHold
-  children-iff zero par i s = (λ h k lo hi o. absurd (omega arith), λ h. refl)
-  children-iff (suc n) par i s = children-step n par i s (λ m x. children-iff n m x (omega arith))
+  children-iff zero par ks s = (λ h k lo hi o. absurd (omega arith), λ h. refl)
+  children-iff (suc n) par ks s = children-step n par ks s (λ m x. children-iff n m x (omega arith))
 
-  pub component-iff : (j : ℕ) (i : Items) → j < q .components .count → (componentTest c p q j i ≡ true) ↔ ComponentPasses c p q j i
+  pub component-iff : (j : ℕ) (ks : List Component) → j < q .components .count → (componentTest c p q j ks ≡ true) ↔ ComponentPasses c p q j ks
   unfolding componentTest
-  component-iff j i l =
-      record-iff j (q .components .count - suc j) l refl (λ x. children-iff (q .components .count - suc j) j x (omega arith)) i
+  component-iff j ks l =
+      record-iff j (q .components .count - suc j) l refl (λ x. children-iff (q .components .count - suc j) j x (omega arith)) ks
 
   -- ---- the query
 
   module _ (tree : Items) (l : 0 < q .components .count) where
     pub query-iff : (queryHolds c p q tree ≡ true) ↔ QueryPasses c p q tree
     unfolding queryHolds
-    query-iff = component-iff 0 tree l
+    query-iff = component-iff 0 (componentsIn tree) l
 
     pub query-decides : Decides (queryHolds c p q tree) (QueryPasses c p q tree)
     query-decides = record { holds = query-iff .0; fails = λ n h. clash (query-iff .1 h) n }

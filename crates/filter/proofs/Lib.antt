@@ -1,4 +1,4 @@
-pub mod Places
-pub mod TrialsLaws
 pub mod Tests
+pub mod RangesLaws
+pub mod TrialsLaws
 pub mod FilterRules

@@ -1,106 +1,152 @@
--- Laws of what is tried of a component: its sizes, the search through the instances, and the range of a component by its place.
-use Prim.Native.Nat.{ℕ, zero, suc, _+_, _-_, _≤_, _<_}
+-- Laws of what is tried of a component: what a trial decides, what one look at a row rules out, and the search through the instances.
+use Prim.Native.Nat.{ℕ, zero, suc, _+_, _-_, _*_, _≤_, _<_}
 use mathlib.Core.Path.{_≡_, refl, sym, ap, _∙_, subst}
-use mathlib.Core.Bool.{Bool, true, false, _&&_}
-use mathlib.Core.List.{List}
+use mathlib.Core.Bool.{Bool, true, false, not, _&&_, _||_, and-false}
+use mathlib.Core.List.{List, _∷_}
 use native.Mathlib.Omega.{arith}
 use lib.Dec.{eqb}
+use lib.ListN.{getD}
 use borrow.Author.Count.{below-more}
 use borrow.Author.Tests.{eqb-true, eqb-false}
-use Rattle.ascii.specs.Names.{sameName}
 use Rattle.time.specs.Limits.{lastSecond}
+use Rattle.ascii.proofs.Bools.{clash}
 use Rattle.query.specs.Records.{rangeStart, rangeEnd, textOf, componentAt}
+use Rattle.query.specs.Counting.{someBelow}
 use Rattle.query.specs.declared.Sections.{Sections}
-use Rattle.query.specs.declared.ComponentRecord.{ComponentRecord}
 use Rattle.query_check.specs.WellFormed.{recordsGood}
 use Rattle.query_check.proofs.QueryRules.{records-say}
 use Rattle.values.specs.declared.times.Context.{Context}
 use Rattle.property.specs.declared.Scope.{Scope}
-use Rattle.nesting.specs.Components.{Component, itemsOf}
-use Rattle.nesting.specs.Passing.{linesFrom}
-use Rattle.property_tests.specs.PropertyTests.{propertiesAt, propertiesHold}
+use Rattle.nesting.specs.Components.{Component, propertiesIn, componentsIn}
+use Rattle.structure.specs.Rows.{componentBy, componentsBy}
+use Rattle.events.specs.EntryRows.{eventAt, blockAt}
 use Rattle.events.specs.declared.Event.{Event}
 use Rattle.events.specs.declared.EventRead.{EventRead}
+use Rattle.events.specs.declared.Block.{Block}
 use Rattle.events.specs.declared.BlockRead.{BlockRead}
 use Rattle.events.specs.Sizes.{EventSmall}
-use Rattle.recurrence.specs.Candidates.{FirstCandidate}
+use Rattle.calendar.specs.Meaning.{componentScope, eventOf, blockPeriods}
+use Rattle.calendar.proofs.Sizes.{eventOf-small}
+use Rattle.recurrence.specs.TimeRange.{instanceIn, blockIn}
+use Rattle.recurrence.specs.Candidates.{FirstCandidate, startsBefore}
+use Rattle.recurrence.specs.Instances.{instancesAtMost}
 use Rattle.recurrence.proofs.Candidates.{search-finds, search-ends, few-before}
 use Rattle.recurrence.proofs.TimeRange.{decided-once}
-use Rattle.calendar.specs.Meaning.{componentScope}
-use Rattle.calendar.specs.Places.{eventAt, blockAt}
-use Rattle.calendar.proofs.Sizes.{eventAt-small}
-use Rattle.calendar.proofs.Steps.{eventOf-at, blockOf-at}
+use Rattle.ascii.specs.Names.{sameName}
+use Rattle.query.specs.declared.ComponentRecord.{ComponentRecord}
+use Rattle.structure.proofs.RowsLaws.{inner-list}
+use Rattle.property_tests.specs.PropertyTests.{propertiesHold}
+use Rattle.filter.specs.Tests.{eventIn, blockRangeIn, componentIn, rangeHolds, someComponent, childrenHold}
+use Rattle.filter.specs.Ranges.{Given, Here, RowSmall, EndsOutside, RowOutside, RuledOut}
+use Rattle.filter.specs.Trials.{trialHolds, trialPasses, trialGoesOn, Tried, SmallTrial, TrialOf, isCalled, componentFits, Unfit, other-name, out-of-range, other-lines, Alone}
 use Rattle.filter.specs.declared.trials.Trial.{Trial}
-use Rattle.filter.specs.Tests.{eventIn, blockRangeIn, componentIn, rangeHolds}
-use Rattle.filter.specs.Places.{blockLinesIn}
-use Rattle.filter.specs.Trials.{eventTrial, trialIn, trialOf, trialWhere, trialHolds, trialPasses, trialGoesOn, Tried, SmallTrial, hereAlone}
-use Rattle.filter.proofs.Places.{some-decides, range-at}
+use Rattle.filter.proofs.RangesLaws.{some-decides, none-from, by-kind, event-of, block-of, ruled-out-fails}
+use Rattle.filter.proofs.Tests.{someHere}
 
--- ---- a trial is small
+-- ---- what a trial decides
 
-event-trial-small : (y : EventRead) (a b : ℕ) → ((e : Event) → y ≡ EventRead.Of e → EventSmall e) → a < b → b ≤ lastSecond → SmallTrial (eventTrial y a b)
-unfolding eventTrial
-event-trial-small (EventRead.Of e) a b h p q = (h e refl, p, q)
-event-trial-small EventRead.Broken a b h p q = tt
+-- it is done once, with this outcome
+pub once-of : {b t : Bool} → t ≡ b → TrialOf b (Trial.Once t)
+unfolding trialHolds
+once-of e = record { small = tt; decides = e }
 
-trial-in-small : (c : Context) (o : Scope) (s : List ℕ) (at a b : ℕ) → a < b → b ≤ lastSecond → SmallTrial (trialIn c o s at a b)
-unfolding trialIn
-trial-in-small c Scope.Event s at a b p q = event-trial-small (eventAt c s at) a b (λ e h. eventAt-small c s at e h) p q
-trial-in-small c Scope.FreeBusy s at a b p q = tt
-trial-in-small c Scope.Other s at a b p q = tt
+pub trial-as : {a b : Bool} {t : Trial} → a ≡ b → TrialOf a t → TrialOf b t
+trial-as e w = record { small = w .small; decides = w .decides ∙ e }
 
-pub trial-of-small : (c : Context) (p : List ℕ) (q : Sections) (r : ℕ) (o : Scope) (s : List ℕ) (at : ℕ) → recordsGood p q ≡ true → r ≤ q .ranges .count
-    → SmallTrial (trialOf c p q r o s at)
-unfolding trialOf
-trial-of-small c p q zero o s at g h = tt
-trial-of-small c p q (suc r) o s at g h =
-    let i : r < q .ranges .count = omega arith in
-    let w = records-say p q g .ranges-good r i in
-    trial-in-small c o s at (rangeStart p q r) (rangeEnd p q r) (w .start-first) (w .end-limit)
+-- the component of row k, by what its row says it is
+module _ {c : Context} {s index rows column : List ℕ} (g : Given c s index rows column) {k : ℕ} (h : Here s rows k) {n : ℕ} (z : n ≡ getD rows (4 * k + 3) 0) where
+  abbrev tested : ℕ → ℕ → Bool
+  tested a b = componentIn c (componentScope (componentBy s rows k)) (componentBy s rows k) a b
 
-pub where-small : (b : Bool) (t : Trial) → SmallTrial t → SmallTrial (trialWhere b t)
-unfolding trialWhere
-where-small true t h = h
-where-small false t h = tt
+  pub trial-event : {e : Event} (a b : ℕ) → n ≡ 1 → e ≡ eventAt column k → (a < b) × (b ≤ lastSecond) → TrialOf (tested a b) (Trial.Instances e a b)
+  unfolding trialHolds componentIn eventIn
+  trial-event {e} a b o x w =
+      let q : eventOf c (componentBy s rows k) ≡ EventRead.Of e = event-of g h (sym z ∙ o) ∙ ap EventRead.Of (sym x) in
+      record {
+        small = (eventOf-small c (componentBy s rows k) e q, w .0, w .1);
+        decides =
+            by-kind (h .row)
+            (λ u y. sym (ap (λ (v : Scope). componentIn c v (componentBy s rows k) a b) y ∙ ap (λ (v : EventRead). eventIn v a b) q))
+            (λ u y. absurd (omega arith))
+            (λ u y. absurd (omega arith));
+      }
 
-pub small-as : {t u : Trial} → t ≡ u → SmallTrial u → SmallTrial t
-small-as e h = subst (λ (x : Trial). SmallTrial x) (sym e) h
+  pub trial-block : {x : Block} {t : Bool} (a b : ℕ) → n ≡ 2 → x ≡ blockAt column k
+      → t ≡ blockIn x (blockPeriods c (propertiesIn (componentBy s rows k .items))) a b → TrialOf (tested a b) (Trial.Once t)
+  unfolding componentIn blockRangeIn
+  trial-block {x} a b o e q =
+      once-of
+      (by-kind (h .row)
+      (λ u y. absurd (omega arith))
+      (λ u y.
+      q
+      ∙ ap (λ (v : Block). blockIn v (blockPeriods c (propertiesIn (componentBy s rows k .items))) a b) e
+      ∙ sym (ap (λ (v : Scope). componentIn c v (componentBy s rows k) a b) y ∙ ap (λ (v : BlockRead). blockRangeIn c (componentBy s rows k) v a b) (block-of g h u)))
+      (λ u y. absurd (omega arith)))
 
--- ---- the trial of a component by its scope
+  pub trial-other : (a b : ℕ) → (n ≡ 1 → ⊥) → (n ≡ 2 → ⊥) → TrialOf (tested a b) (Trial.Once false)
+  unfolding componentIn
+  trial-other a b o e =
+      once-of
+      (by-kind (h .row)
+      (λ u y. absurd (o (z ∙ u)))
+      (λ u y. absurd (e (z ∙ u)))
+      (λ u y. sym (ap (λ (v : Scope). componentIn c v (componentBy s rows k) a b) y)))
 
-module _ (c : Context) (o : Scope) (s : List ℕ) (at a b : ℕ) where
-  pub in-event : {r : EventRead} (e : Event) → o ≡ Scope.Event → r ≡ eventAt c s at → r ≡ EventRead.Of e → Trial.Instances e a b ≡ trialIn c o s at a b
-  unfolding trialIn eventTrial
-  in-event e z x q = ap (λ (y : EventRead). eventTrial y a b) (sym q ∙ x) ∙ ap (λ (w : Scope). trialIn c w s at a b) (sym z)
-
-  pub in-broken : {r : EventRead} → o ≡ Scope.Event → r ≡ eventAt c s at → r ≡ EventRead.Broken → Trial.Once false ≡ trialIn c o s at a b
-  unfolding trialIn eventTrial
-  in-broken z x q = ap (λ (y : EventRead). eventTrial y a b) (sym q ∙ x) ∙ ap (λ (w : Scope). trialIn c w s at a b) (sym z)
-
-  pub in-block : {t : Bool} → o ≡ Scope.FreeBusy → t ≡ blockLinesIn c (blockAt c s at) (propertiesAt s at) a b → Trial.Once t ≡ trialIn c o s at a b
-  unfolding trialIn
-  in-block z e = ap Trial.Once e ∙ ap (λ (w : Scope). trialIn c w s at a b) (sym z)
-
-  pub in-other : o ≡ Scope.Other → Trial.Once false ≡ trialIn c o s at a b
-  unfolding trialIn
-  in-other z = ap (λ (w : Scope). trialIn c w s at a b) (sym z)
+-- what a good query says of a record's range
+module _ (p : List ℕ) (q : Sections) (r : ℕ) {a b : ℕ} (g : recordsGood p q ≡ true) (l : r ≤ q .ranges .count) (h : r ≡ 0 → ⊥)
+    (x : a ≡ rangeStart p q (r - 1)) (y : b ≡ rangeEnd p q (r - 1)) where
+  pub range-good : (a < b) × (b ≤ lastSecond)
+  range-good =
+      let i : r - 1 < q .ranges .count = omega arith in
+      let w = records-say p q g .ranges-good (r - 1) i in
+      (rw (x, y) (w .start-first), rw y (w .end-limit))
 
 -- against a record's range
-module _ (c : Context) (p : List ℕ) (q : Sections) (o : Scope) (s : List ℕ) (at : ℕ) where
-  pub range-none : (r : ℕ) → r ≡ 0 → Trial.Once true ≡ trialOf c p q r o s at
-  unfolding trialOf
-  range-none zero h = refl
+module _ (c : Context) (p : List ℕ) (q : Sections) (k : Component) where
+  pub range-none : (r : ℕ) → r ≡ 0 → TrialOf (rangeHolds c p q r k) (Trial.Once true)
+  unfolding rangeHolds
+  range-none zero h = once-of refl
   range-none (suc r) h = absurd (omega arith)
 
-  pub range-some : (r : ℕ) {a b : ℕ} {t : Trial} → (r ≡ 0 → ⊥) → a ≡ rangeStart p q (r - 1) → b ≡ rangeEnd p q (r - 1) → t ≡ trialIn c o s at a b
-      → t ≡ trialOf c p q r o s at
-  unfolding trialOf
-  range-some zero h x y z = absurd (h refl)
-  range-some (suc r) {a} {b} h x y z =
+  pub range-some : (r : ℕ) {a b : ℕ} {t : Trial} → (r ≡ 0 → ⊥) → a ≡ rangeStart p q (r - 1) → b ≡ rangeEnd p q (r - 1)
+      → TrialOf (componentIn c (componentScope k) k a b) t → TrialOf (rangeHolds c p q r k) t
+  unfolding rangeHolds
+  range-some zero h x y w = absurd (h refl)
+  range-some (suc r) {a} {b} h x y w =
       let n : suc r - 1 ≡ r = omega arith in
-      z
-      ∙ ap (λ (w : ℕ). trialIn c o s at w b) (x ∙ ap (rangeStart p q) n)
-      ∙ ap (λ (w : ℕ). trialIn c o s at (rangeStart p q r) w) (y ∙ ap (rangeEnd p q) n)
+      trial-as
+      (ap (λ (i : ℕ). componentIn c (componentScope k) k i b) (x ∙ ap (rangeStart p q) n)
+      ∙ ap (λ (i : ℕ). componentIn c (componentScope k) k (rangeStart p q r) i) (y ∙ ap (rangeEnd p q) n))
+      w
+
+-- ---- one look at a row
+
+module _ {rows column : List ℕ} {k : ℕ} (m : RowSmall rows column k) {n : ℕ} (z : n ≡ getD rows (4 * k + 3) 0) where
+  pub looked-small : {e : Event} → n ≡ 1 → e ≡ eventAt column k → EventSmall e
+  looked-small o x = subst (λ (y : Event). EventSmall y) (sym x) (m .event-small (sym z ∙ o))
+
+  pub looked-event : {e : Event} {a b i : ℕ} {r : Bool} → n ≡ 1 → e ≡ eventAt column k → b ≤ lastSecond → FirstCandidate e a i → r ≡ startsBefore e b i
+      → not r ≡ true → RowOutside rows column k a b
+  looked-event {e} {a} {b} o x l f q y =
+      record {
+        no-instance = λ u. ap (λ (w : Event). someBelow instancesAtMost (instanceIn w a b)) (sym x) ∙ none-from (looked-small o x) l f q y;
+        no-block = λ u. absurd (omega arith);
+      }
+
+  pub looked-block : {x : Block} {a b : ℕ} → n ≡ 2 → x ≡ blockAt column k → EndsOutside x a b → RowOutside rows column k a b
+  looked-block {x} {a} {b} o e w =
+      record { no-instance = λ u. absurd (omega arith); no-block = λ u. subst (λ (y : Block). EndsOutside y a b) e w }
+
+  pub looked-other : (a b : ℕ) → (n ≡ 1 → ⊥) → (n ≡ 2 → ⊥) → RowOutside rows column k a b
+  looked-other a b o e = record { no-instance = λ u. absurd (o (z ∙ u)); no-block = λ u. absurd (e (z ∙ u)) }
+
+pub looked-range : (p : List ℕ) (q : Sections) (r : ℕ) {rows column : List ℕ} {k a b : ℕ} → (r ≡ 0 → ⊥) → a ≡ rangeStart p q (r - 1)
+    → b ≡ rangeEnd p q (r - 1) → RowOutside rows column k a b → RuledOut p q r rows column k
+looked-range p q r h x y o = record { some = omega arith; outside = rw (← x, ← y) o }
+
+pub nothing-ruled-out : {P : Type 0} → false ≡ true → P
+nothing-ruled-out e = clash e refl
 
 -- ---- the search through the instances: none before k passes
 
@@ -160,45 +206,90 @@ module _ (t : Trial) (k : ℕ) {r : Bool} where
   pub tried-end : SmallTrial t → Tried t k → r ≡ trialGoesOn t k → r ≡ false → trialHolds t ≡ false
   tried-end h w e z = ended-fails t k h w (sym e ∙ z)
 
--- ---- a component of the tree, by its place
+-- ---- one component: its name, what its row rules out, and its own lines
 
-event-trial-holds : (y : EventRead) (a b : ℕ) → eventIn y a b ≡ trialHolds (eventTrial y a b)
-unfolding eventIn eventTrial trialHolds
-event-trial-holds (EventRead.Of e) a b = refl
-event-trial-holds EventRead.Broken a b = refl
+module _ (p : List ℕ) (q : Sections) (j : ℕ) (s rows column : List ℕ) (k : ℕ) {n : List ℕ} {a : Bool} (x : n ≡ textOf p q (componentAt p q j .name))
+    (y : a ≡ sameName (componentBy s rows k .begin .line .value) n) where
+  called-as : a ≡ isCalled p q j (componentBy s rows k)
+  unfolding isCalled
+  called-as = y ∙ ap (sameName (componentBy s rows k .begin .line .value)) x
 
-module _ (c : Context) (k : Component) (s : List ℕ) (at i : ℕ) (e : k .items ≡ itemsOf 0 (linesFrom s at i)) where
-  component-trial : (o : Scope) (a b : ℕ) → componentIn c o k a b ≡ trialHolds (trialIn c o s at a b)
-  unfolding componentIn trialIn trialHolds
-  component-trial Scope.Event a b = ap (λ (w : EventRead). eventIn w a b) (eventOf-at c k s at i e) ∙ event-trial-holds (eventAt c s at) a b
-  component-trial Scope.FreeBusy a b =
-      ap (λ (w : BlockRead). blockRangeIn c k w a b) (blockOf-at c k s at i e) ∙ range-at c k s at i a b e (blockAt c s at)
-  component-trial Scope.Other a b = refl
+  pub alone-other : a ≡ false → Alone p q j s rows column k false
+  alone-other z =
+      record { called = λ e. clash e refl; lines-hold = λ e. clash e refl; unfit = λ e. other-name (sym called-as ∙ z) }
 
-  -- the range of a component is what its trial decides
-  pub trial-by-place : (p : List ℕ) (q : Sections) (r : ℕ) → rangeHolds c p q r k ≡ trialHolds (trialOf c p q r (componentScope k) s at)
-  unfolding rangeHolds trialOf trialHolds
-  trial-by-place p q zero = refl
-  trial-by-place p q (suc r) = component-trial (componentScope k) (rangeStart p q r) (rangeEnd p q r)
+  pub alone-out : {r : ComponentRecord} {o : Bool} → r ≡ componentAt p q j → (o ≡ true → RuledOut p q (r .range) rows column k) → o ≡ true
+      → Alone p q j s rows column k false
+  alone-out e f z =
+      record {
+        called = λ w. clash w refl;
+        lines-hold = λ w. clash w refl;
+        unfit = λ w. out-of-range (subst (λ (u : ComponentRecord). RuledOut p q (u .range) rows column k) e (f z));
+      }
 
--- all else is asked first
-pub where-holds : (b : Bool) (t : Trial) → trialHolds (trialWhere b t) ≡ (b && trialHolds t)
-unfolding trialHolds trialWhere
-where-holds true t = refl
-where-holds false t = refl
+  pub alone-lines : {b : Bool} → a ≡ true → b ≡ propertiesHold p q j (propertiesIn (componentBy s rows k .items)) → Alone p q j s rows column k b
+  alone-lines z h = record { called = λ w. sym called-as ∙ z; lines-hold = λ w. sym h ∙ w; unfit = λ w. other-lines (sym h ∙ w) }
 
--- ---- a component by its name and its own lines alone
+-- ---- then its inner components, and then its instances
 
-module _ (p : List ℕ) (q : Sections) (j : ℕ) (v s : List ℕ) (at : ℕ) where
-  module _ {r : ComponentRecord} {w : List ℕ} {a : Bool} (e : r ≡ componentAt p q j) (x : w ≡ textOf p q (r .name)) (y : a ≡ sameName v w) where
-    alone-as : (a && propertiesHold p q j (propertiesAt s at)) ≡ hereAlone p q j v s at
-    unfolding hereAlone
-    alone-as =
-        ap (λ (t : Bool). t && propertiesHold p q j (propertiesAt s at))
-        (y ∙ ap (sameName v) (x ∙ ap (λ (z : ComponentRecord). textOf p q (z .name)) e))
+module _ {c : Context} (p : List ℕ) (q : Sections) (j : ℕ) {s index rows column : List ℕ} (g : Given c s index rows column) {k : ℕ} (h : Here s rows k) where
+  abbrev fits : Bool
+  fits = componentFits c p q j (componentBy s rows k)
 
-    pub alone-named : {b : Bool} → a ≡ true → b ≡ propertiesHold p q j (propertiesAt s at) → b ≡ hereAlone p q j v s at
-    alone-named z h = h ∙ ap (λ (t : Bool). t && propertiesHold p q j (propertiesAt s at)) (sym z) ∙ alone-as
+  inner-as : {b : Bool} → b ≡ childrenHold c p q (q .components .count - (j + 1)) j (componentsBy s rows (k + 1) (getD rows (4 * k + 2) 0))
+      → childrenHold c p q (q .components .count - suc j) j (componentsIn (componentBy s rows k .items)) ≡ b
+  inner-as y =
+      let n : q .components .count - (j + 1) ≡ q .components .count - suc j = omega arith in
+      ap (childrenHold c p q (q .components .count - suc j) j) (inner-list (h .row))
+      ∙ sym (y ∙ ap (λ (m : ℕ). childrenHold c p q m j (componentsBy s rows (k + 1) (getD rows (4 * k + 2) 0))) n)
 
-    pub alone-other : a ≡ false → false ≡ hereAlone p q j v s at
-    alone-other z = ap (λ (t : Bool). t && propertiesHold p q j (propertiesAt s at)) (sym z) ∙ alone-as
+  unfit-fails : Unfit p q j s rows column k → fits ≡ false
+  unfolding componentFits
+  unfit-fails (other-name e) = rw e refl
+  unfit-fails (out-of-range o) =
+      let e = ruled-out-fails g h p q (componentAt p q j .range) o in
+      rw (e, and-false (isCalled p q j (componentBy s rows k))) refl
+  unfit-fails (other-lines e) =
+      rw (e, and-false (isCalled p q j (componentBy s rows k) && rangeHolds c p q (componentAt p q j .range) (componentBy s rows k))) refl
+
+  module _ {a : Bool} (x : Alone p q j s rows column k a) where
+    pub here-not : a ≡ false → TrialOf fits (Trial.Once false)
+    here-not z = once-of (sym (unfit-fails (x .unfit z)))
+
+    module _ {b : Bool} (y : b ≡ childrenHold c p q (q .components .count - (j + 1)) j (componentsBy s rows (k + 1) (getD rows (4 * k + 2) 0))) where
+      pub here-childless : b ≡ false → TrialOf fits (Trial.Once false)
+      unfolding componentFits
+      here-childless w =
+          once-of
+          (sym
+          (ap (λ (t : Bool). isCalled p q j (componentBy s rows k) && rangeHolds c p q (componentAt p q j .range) (componentBy s rows k) && propertiesHold p q j (propertiesIn (componentBy s rows k .items)) && t)
+          (inner-as y ∙ w)
+          ∙ and-false (isCalled p q j (componentBy s rows k) && rangeHolds c p q (componentAt p q j .range) (componentBy s rows k) && propertiesHold p q j (propertiesIn (componentBy s rows k .items)))))
+
+      pub here-tried : {r : ComponentRecord} {t : Trial} → a ≡ true → b ≡ true → r ≡ componentAt p q j
+          → TrialOf (rangeHolds c p q (r .range) (componentBy s rows k)) t → TrialOf fits t
+      unfolding componentFits
+      here-tried z w e d =
+          let u = rangeHolds c p q (componentAt p q j .range) (componentBy s rows k) in
+          trial-as
+          (ap (λ (v : ComponentRecord). rangeHolds c p q (v .range) (componentBy s rows k)) e
+          ∙ sym (rw (x .called z, x .lines-hold z, inner-as y ∙ w) (all-true u)))
+          d
+        where
+          all-true : (t : Bool) → (t && true && true) ≡ t
+          all-true true = refl
+          all-true false = refl
+
+-- ---- the components side by side: some one passes
+
+module _ (c : Context) (p : List ℕ) (q : Sections) (j : ℕ) where
+  module _ (k : Component) {t : Trial} (y : TrialOf (componentFits c p q j k) t) where
+    here-first : (ks : List Component) → someHere c p q j (k ∷ ks) ≡ (trialHolds t || someHere c p q j ks)
+    unfolding someHere someComponent componentFits isCalled
+    here-first ks = ap (λ (b : Bool). b || someHere c p q j ks) (sym (y .decides))
+
+    pub here-found : trialHolds t ≡ true → (ks : List Component) → someHere c p q j (k ∷ ks) ≡ true
+    here-found z ks = here-first ks ∙ ap (λ (b : Bool). b || someHere c p q j ks) z
+
+    pub here-passed : trialHolds t ≡ false → (ks : List Component) → someHere c p q j (k ∷ ks) ≡ someHere c p q j ks
+    here-passed z ks = here-first ks ∙ ap (λ (b : Bool). b || someHere c p q j ks) z

@@ -74,20 +74,20 @@ pub data RangePasses (c : Context) (p : List ℕ) (q : Sections) (r : ℕ) (k : 
   no-range : r ≡ 0 → RangePasses c p q r k
   in-range : (i : ℕ) → r ≡ suc i → ComponentIn c k (rangeStart p q i) (rangeEnd p q i) → RangePasses c p q r k
 
--- ---- a component test, among the items of its scope
+-- ---- a component test, among the components of its scope
 
-pub data ComponentPasses (c : Context) (p : List ℕ) (q : Sections) : ℕ → Items → Type 0 where
+pub data ComponentPasses (c : Context) (p : List ℕ) (q : Sections) : ℕ → List Component → Type 0 where
   -- is-not-defined: no component directly there has the name
-  not-defined : {j : ℕ} {i : Items} → componentAt p q j .flag ≡ 1
-      → ((k : Component) → List·Memᴰ k (componentsIn i) → sameName (k .begin .line .value) (textOf p q (componentAt p q j .name)) ≡ false)
-      → ComponentPasses c p q j i
+  not-defined : {j : ℕ} {ks : List Component} → componentAt p q j .flag ≡ 1
+      → ((k : Component) → List·Memᴰ k ks → sameName (k .begin .line .value) (textOf p q (componentAt p q j .name)) ≡ false)
+      → ComponentPasses c p q j ks
   -- some component directly there has the name, is in the range, and passes every property test and every child test of the record
-  some-component : {j : ℕ} {i : Items} → (componentAt p q j .flag ≡ 1 → ⊥) → (k : Component) → List·Memᴰ k (componentsIn i)
+  some-component : {j : ℕ} {ks : List Component} → (componentAt p q j .flag ≡ 1 → ⊥) → (k : Component) → List·Memᴰ k ks
       → sameName (k .begin .line .value) (textOf p q (componentAt p q j .name)) ≡ true → RangePasses c p q (componentAt p q j .range) k
       → ((n : ℕ) → n < q .properties .count → propertyAt p q n .component ≡ j → PropertyPasses p q n (propertyAt p q n) (propertiesIn (k .items)))
-      → ((n : ℕ) → j < n → n < q .components .count → componentAt p q n .parent ≡ j → ComponentPasses c p q n (k .items))
-      → ComponentPasses c p q j i
+      → ((n : ℕ) → j < n → n < q .components .count → componentAt p q n .parent ≡ j → ComponentPasses c p q n (componentsIn (k .items)))
+      → ComponentPasses c p q j ks
 
 -- component 0, in the whole file
 abbrev pub QueryPasses : Context → List ℕ → Sections → Items → Type 0
-QueryPasses c p q tree = ComponentPasses c p q 0 tree
+QueryPasses c p q tree = ComponentPasses c p q 0 (componentsIn tree)

@@ -1,4 +1,4 @@
 pub mod Tests
-pub mod Places
+pub mod Ranges
 pub mod Trials
 pub mod FilterRules

@@ -47,33 +47,33 @@ someComponentNamed n [] = false
 someComponentNamed n (k ∷ ks) = sameName (k .begin .line .value) n || someComponentNamed n ks
 
 -- some component has the name, is in the range, and passes every property test and every child test of the record
-unfoldable pub someComponent : Context → List ℕ → Sections → ℕ → ComponentRecord → (Items → Bool) → List Component → Bool
+unfoldable pub someComponent : Context → List ℕ → Sections → ℕ → ComponentRecord → (List Component → Bool) → List Component → Bool
 someComponent c s q j r children [] = false
 someComponent c s q j r children (k ∷ ks) =
     sameName (k .begin .line .value) (textOf s q (r .name)) && rangeHolds c s q (r .range) k && propertiesHold s q j (propertiesIn (k .items))
-    && children (k .items)
+    && children (componentsIn (k .items))
     || someComponent c s q j r children ks
 
--- component record j among these items; flag 1 asks that no component has the name
-unfoldable pub componentHolds : Context → List ℕ → Sections → ℕ → ComponentRecord → (Items → Bool) → Items → Bool
-componentHolds c s q j r children i =
-    cond (eqb (r .flag) 1) (not (someComponentNamed (textOf s q (r .name)) (componentsIn i))) (someComponent c s q j r children (componentsIn i))
+-- component record j among these components; flag 1 asks that none has the name
+unfoldable pub componentHolds : Context → List ℕ → Sections → ℕ → ComponentRecord → (List Component → Bool) → List Component → Bool
+componentHolds c s q j r children ks =
+    cond (eqb (r .flag) 1) (not (someComponentNamed (textOf s q (r .name)) ks)) (someComponent c s q j r children ks)
 
--- of the last n component records, all those whose parent is p hold among these items
-unfoldable pub childrenHold : Context → List ℕ → Sections → ℕ → ℕ → Items → Bool
-childrenHold c s q zero p i = true
-childrenHold c s q (suc n) p i =
+-- of the last n component records, all those whose parent is p hold among these components
+unfoldable pub childrenHold : Context → List ℕ → Sections → ℕ → ℕ → List Component → Bool
+childrenHold c s q zero p ks = true
+childrenHold c s q (suc n) p ks =
     implies (eqb (componentAt s q (q .components .count - suc n) .parent) p)
     (componentHolds c s q (q .components .count - suc n) (componentAt s q (q .components .count - suc n))
     (λ inner. childrenHold c s q n (q .components .count - suc n) inner)
-    i)
-    && childrenHold c s q n p i
+    ks)
+    && childrenHold c s q n p ks
 
--- component record j among these items; its children are tests of records of higher numbers
-unfoldable pub componentTest : Context → List ℕ → Sections → ℕ → Items → Bool
-componentTest c s q j i =
-    componentHolds c s q j (componentAt s q j) (λ inner. childrenHold c s q (q .components .count - suc j) j inner) i
+-- component record j among these components; its children are tests of records of higher numbers
+unfoldable pub componentTest : Context → List ℕ → Sections → ℕ → List Component → Bool
+componentTest c s q j ks =
+    componentHolds c s q j (componentAt s q j) (λ inner. childrenHold c s q (q .components .count - suc j) j inner) ks
 
 -- the query on a file: component record 0 among what stands outside every component
 unfoldable pub queryHolds : Context → List ℕ → Sections → Items → Bool
-queryHolds c s q tree = componentTest c s q 0 tree
+queryHolds c s q tree = componentTest c s q 0 (componentsIn tree)

@@ -1,184 +1,224 @@
-// The component tests of a query, and the query on a whole file.
+// The component tests of a query, and the query on a whole file, by the rows of its components.
 // The search is left at the first component and instance that pass; a record's children have higher numbers.
 use crate::trials;
 use crate::trials::Trial;
-use calendar::places;
 use line::read;
-use nesting::items;
-use nesting::items::Item;
 use query::Sections;
 use query::fields;
+use structure::rows;
 use values::times::Context;
 ghost use mathlib.Core.Path.{_≡_};
 ghost use mathlib.Core.Bool.{true};
-ghost use Prim.Native.Nat.{_+_, _-_, _≤_, _<_};
-ghost use lib.ListN.{length};
+ghost use Prim.Native.Nat.{_+_, _-_, _*_, _≤_, _<_};
+ghost use lib.ListN.{getD};
+ghost use Rattle.ascii.specs.Names.{sameName};
 ghost use Rattle.values.specs.Times.{ContextGood};
-ghost use Rattle.nesting.specs.Components.{itemsOf};
-ghost use Rattle.nesting.specs.Passing.{linesFrom, treeIn};
-ghost use Rattle.calendar.specs.Places.{componentsFrom};
+ghost use Rattle.nesting.specs.Passing.{treeIn};
+ghost use Rattle.index.specs.Index.{Indexed};
+ghost use Rattle.structure.specs.Rows.{ComponentsAt, RowOf, FileRows, componentBy, componentsBy};
 ghost use Rattle.query.specs.Fits.{Fits};
+ghost use Rattle.query.specs.Records.{textOf, componentAt};
 ghost use Rattle.query_check.specs.WellFormed.{recordsGood};
+ghost use Rattle.contents.specs.EntryRows.{EntryRows};
 ghost use Rattle.filter.specs.Tests.{someComponentNamed, childrenHold, componentTest, queryHolds};
-ghost use Rattle.filter.specs.Trials.{hereAlone, trialHere};
+ghost use Rattle.filter.specs.Ranges.{Given, Here, Among, RowSmall};
+ghost use Rattle.filter.specs.Trials.{componentFits, TrialOf, Alone};
 
-// Has some component the name, of those that stand side by side from here on?
-fn some_component_named(name: &[u8], s: &[u8], from: usize, first: usize) -> bool
-    requires { ⌜ (from ≤ length (now s)) × (first ≤ from + 1) ⌝ }
-    ensures { λ t. ⌜ t ≡ someComponentNamed (now (name .entry)) (componentsFrom (now (s .entry)) from first) ⌝ }
+// Has the component of row k the name? It stands on the BEGIN line.
+fn is_called(name: &[u8], s: &[u8], index: &[u32], rows: &[u32], k: usize) -> bool
+    requires { ⌜ Indexed (now s) (now index) ⌝ }
+    requires { ⌜ RowOf (now s) (now rows) k ⌝ }
+    ensures { λ t. ⌜ t ≡ sameName (componentBy (now (s .entry)) (now (rows .entry)) k .begin .line .value) (now (name .entry)) ⌝ }
 {
-    let mut at = from;
-    let mut number = first;
-    loop {
-        match items::next_item(s, at) {
-            Item::Property(_, next) => {
-                at = next;
-                number += 1;
-            }
-            Item::Inner(e, next) => {
-                if ascii::same_name(read::value(&s[at..e]), name) {
-                    return true;
-                }
-                let p = items::skip_component(s, next, number + 1);
-                at = p.at;
-                number = p.number;
-            }
-            Item::Done => return false,
-        }
-    }
+    let i = rows::first_line(rows, k) - 1;
+    ascii::same_name(read::value(index::line_at(s, index, i)), name)
 }
 
-// Component record j among the components that stand side by side from here on.
+// Has some component the name, of those side by side from row `first` up to row `end`?
+fn some_component_named(
+    name: &[u8],
+    s: &[u8],
+    index: &[u32],
+    rows: &[u32],
+    first: usize,
+    end: usize,
+) -> bool
+    requires { ⌜ Indexed (now s) (now index) ⌝ }
+    requires { ⌜ ComponentsAt (now s) (now rows) first end ⌝ }
+    ensures { λ t. ⌜ t ≡ someComponentNamed (now (name .entry)) (componentsBy (now (s .entry)) (now (rows .entry)) first end) ⌝ }
+{
+    let mut k = first;
+    while k < end {
+        if is_called(name, s, index, rows, k) {
+            return true;
+        }
+        k = rows::next_row(rows, k);
+    }
+    false
+}
+
+// Component record j among the components side by side from row `first` up to row `end`.
 fn component_holds(
     query: &[u8],
     q: Sections,
     j: usize,
     s: &[u8],
-    from: usize,
+    index: &[u32],
+    rows: &[u32],
+    column: &[u64],
     first: usize,
+    end: usize,
     c: Context,
 ) -> bool
     requires { ⌜ Fits (now query) q ⌝ }
     requires { ⌜ recordsGood (now query) q ≡ true ⌝ }
     requires { ⌜ j < q .components .count ⌝ }
     requires { ⌜ ContextGood c ⌝ }
-    requires { ⌜ (from ≤ length (now s)) × (first ≤ from + 1) ⌝ }
-    ensures { λ t. ⌜ t ≡ componentTest c (now (query .entry)) q j (itemsOf 0 (linesFrom (now (s .entry)) from first)) ⌝ }
+    requires { ⌜ Given c (now s) (now index) (now rows) (now column) ⌝ }
+    requires { ⌜ Among (now s) (now rows) first end ⌝ }
+    ensures { λ t. ⌜ t ≡ componentTest c (now (query .entry)) q j (componentsBy (now (s .entry)) (now (rows .entry)) first end) ⌝ }
 {
     let r = fields::component_at(query, q, j);
+    let name = fields::text_of(query, q, r.name);
     if r.flag == 1 {
-        return !some_component_named(fields::text_of(query, q, r.name), s, from, first);
+        return !some_component_named(name, s, index, rows, first, end);
     }
-    let mut at = from;
-    let mut number = first;
+    let mut row = first;
     'search: loop {
-        match items::next_item(s, at) {
-            Item::Property(_, next) => {
-                at = next;
-                number += 1;
-            }
-            Item::Inner(e, next) => {
-                let inside = number + 1;
-                let t = trial_here(query, q, j, read::value(&s[at..e]), s, next, inside, c);
-                let mut k = trials::first_tried(t);
-                while trials::goes_on(t, k) {
-                    if trials::passes(t, k) {
-                        break 'search;
-                    }
-                    k += 1;
-                }
-                let p = items::skip_component(s, next, inside);
-                at = p.at;
-                number = p.number;
-            }
-            Item::Done => return false,
+        if end <= row {
+            return false;
         }
+        let t = trial_here(query, q, j, name, s, index, rows, column, row, c);
+        let mut k = trials::first_tried(t);
+        while trials::goes_on(t, k) {
+            if trials::passes(t, k) {
+                break 'search;
+            }
+            k += 1;
+        }
+        row = rows::next_row(rows, row);
     }
     true // left from inside
 }
 
-// What is tried of the component of this name, whose items begin here: the range of component record j, where all else holds.
+// What is tried of the component of row k: the range of component record j, where all else holds.
 fn trial_here(
     query: &[u8],
     q: Sections,
     j: usize,
     name: &[u8],
     s: &[u8],
-    at: usize,
-    first: usize,
+    index: &[u32],
+    rows: &[u32],
+    column: &[u64],
+    k: usize,
     c: Context,
 ) -> Trial
     requires { ⌜ Fits (now query) q ⌝ }
     requires { ⌜ recordsGood (now query) q ≡ true ⌝ }
     requires { ⌜ j < q .components .count ⌝ }
+    requires { ⌜ now name ≡ textOf (now query) q (componentAt (now query) q j .name) ⌝ }
     requires { ⌜ ContextGood c ⌝ }
-    requires { ⌜ (at ≤ length (now s)) × (first ≤ at + 1) ⌝ }
-    ensures { λ t. ⌜ t ≡ trialHere c (now (query .entry)) q j (now (name .entry)) (now (s .entry)) at first ⌝ }
+    requires { ⌜ Given c (now s) (now index) (now rows) (now column) ⌝ }
+    requires { ⌜ Here (now s) (now rows) k ⌝ }
+    ensures { λ t. ⌜ TrialOf (componentFits c (now (query .entry)) q j (componentBy (now (s .entry)) (now (rows .entry)) k)) t ⌝ }
 {
-    if alone_holds(query, q, j, name, s, at) {
-        if children_hold(query, q, j + 1, j, s, at, first, c) {
+    if alone_holds(query, q, j, name, s, index, rows, column, k) {
+        if children_hold(query, q, j + 1, j, s, index, rows, column, k, c) {
             let r = fields::component_at(query, q, j);
-            return trials::trial_of(query, q, r.range, s, at, c, places::scope_of(name));
+            return trials::trial_of(query, q, r.range, s, index, rows, column, k, c);
         }
     }
     Trial::Once(false)
 }
 
-// Of the component records from number `from` on, do all those of this parent hold among the components that stand side by side from here on?
+// Of the component records from number `from` on, do all those of this parent hold among the components directly in that of row k?
 fn children_hold(
     query: &[u8],
     q: Sections,
     from: usize,
     parent: usize,
     s: &[u8],
-    at: usize,
-    first: usize,
+    index: &[u32],
+    rows: &[u32],
+    column: &[u64],
+    k: usize,
     c: Context,
 ) -> bool
     requires { ⌜ Fits (now query) q ⌝ }
     requires { ⌜ recordsGood (now query) q ≡ true ⌝ }
     requires { ⌜ from ≤ q .components .count ⌝ }
     requires { ⌜ ContextGood c ⌝ }
-    requires { ⌜ (at ≤ length (now s)) × (first ≤ at + 1) ⌝ }
-    ensures { λ t. ⌜ t ≡ childrenHold c (now (query .entry)) q (q .components .count - from) parent (itemsOf 0 (linesFrom (now (s .entry)) at first)) ⌝ }
+    requires { ⌜ Given c (now s) (now index) (now rows) (now column) ⌝ }
+    requires { ⌜ Here (now s) (now rows) k ⌝ }
+    ensures { λ t. ⌜ t ≡ childrenHold c (now (query .entry)) q (q .components .count - from) parent (componentsBy (now (s .entry)) (now (rows .entry)) (k + 1) (getD (now (rows .entry)) (4 * k + 2) 0)) ⌝ }
 {
     let components = q.components;
     let n = components.count;
-    let mut k = from;
-    while k < n {
-        let next = k + 1;
-        let r = fields::component_at(query, q, k);
+    let inside = k + 1;
+    let end = rows::next_row(rows, k);
+    let mut i = from;
+    while i < n {
+        let next = i + 1;
+        let r = fields::component_at(query, q, i);
         if r.parent == parent {
-            if !component_holds(query, q, k, s, at, first, c) {
+            if !component_holds(query, q, i, s, index, rows, column, inside, end, c) {
                 return false;
             }
         }
-        k = next;
+        i = next;
     }
     true
 }
 
-// Has the component of this name the name of component record j, and does it pass the property tests?
-fn alone_holds(query: &[u8], q: Sections, j: usize, name: &[u8], s: &[u8], at: usize) -> bool
+// Has the component of row k the name, can its row be in the range of component record j, and does it pass the property tests?
+fn alone_holds(
+    query: &[u8],
+    q: Sections,
+    j: usize,
+    name: &[u8],
+    s: &[u8],
+    index: &[u32],
+    rows: &[u32],
+    column: &[u64],
+    k: usize,
+) -> bool
     requires { ⌜ Fits (now query) q ⌝ }
     requires { ⌜ recordsGood (now query) q ≡ true ⌝ }
     requires { ⌜ j < q .components .count ⌝ }
-    ensures { λ t. ⌜ t ≡ hereAlone (now (query .entry)) q j (now (name .entry)) (now (s .entry)) at ⌝ }
+    requires { ⌜ now name ≡ textOf (now query) q (componentAt (now query) q j .name) ⌝ }
+    requires { ⌜ Indexed (now s) (now index) ⌝ }
+    requires { ⌜ RowOf (now s) (now rows) k ⌝ }
+    requires { ⌜ RowSmall (now rows) (now column) k ⌝ }
+    ensures { λ t. ⌜ Alone (now (query .entry)) q j (now (s .entry)) (now (rows .entry)) (now (column .entry)) k t ⌝ }
 {
-    let r = fields::component_at(query, q, j);
-    if ascii::same_name(name, fields::text_of(query, q, r.name)) {
-        property_tests::properties_hold(query, q, j, s, at)
-    } else {
-        false
+    if !is_called(name, s, index, rows, k) {
+        return false;
     }
+    let r = fields::component_at(query, q, j);
+    if trials::ruled_out(query, q, r.range, rows, column, k) {
+        return false;
+    }
+    property_tests::properties_hold(query, q, j, s, index, rows, k)
 }
 
 // The query on a file: component record 0 among what stands outside every component.
-pub fn query_holds(query: &[u8], q: Sections, s: &[u8], c: Context) -> bool
+pub fn query_holds(
+    query: &[u8],
+    q: Sections,
+    s: &[u8],
+    index: &[u32],
+    rows: &[u32],
+    column: &[u64],
+    c: Context,
+) -> bool
     requires { ⌜ Fits (now query) q ⌝ }
     requires { ⌜ recordsGood (now query) q ≡ true ⌝ }
     requires { ⌜ ContextGood c ⌝ }
+    requires { ⌜ FileRows (now s) (now index) (now rows) ⌝ }
+    requires { ⌜ EntryRows c (now s) (now rows) (now column) (getD (now rows) 2 0) ⌝ }
     ensures { λ t. ⌜ t ≡ queryHolds c (now (query .entry)) q (treeIn (now (s .entry))) ⌝ }
 {
-    component_holds(query, q, 0, s, 0, 1, c)
+    let end = rows::next_row(rows, 0);
+    component_holds(query, q, 0, s, index, rows, column, 0, end, c)
 }

@@ -2,26 +2,27 @@
 // A block with both ends is tested by them alone, any other by its periods.
 use calendar::period_list;
 use calendar::period_list::PeriodStep;
-use calendar::places;
 use events::Block;
-use events::BlockRead;
 use events::Bound;
 use line::read;
-use nesting::items;
-use nesting::items::Item;
 use property::PropertyValue;
 use property::Scope;
 use recurrence::time_range;
+use structure::items;
+use structure::items::Item;
+use structure::rows;
 use values::times::Context;
 ghost use mathlib.Core.Path.{_≡_};
-ghost use Rattle.values.specs.Times.{ContextGood};
+ghost use mathlib.Core.Bool.{true};
 ghost use Rattle.line.specs.Reading.{lineOf};
-ghost use Rattle.property_tests.specs.PropertyTests.{propertiesAt};
+ghost use Rattle.nesting.specs.Components.{propertiesIn};
+ghost use Rattle.values.specs.Times.{ContextGood};
+ghost use Rattle.index.specs.Index.{Indexed};
+ghost use Rattle.structure.specs.Rows.{RowOf, componentBy};
 ghost use Rattle.calendar.specs.Meaning.{blockPeriods};
 ghost use Rattle.calendar.specs.Periods.{periodsFrom};
-ghost use Rattle.calendar.specs.Places.{blockAt};
 ghost use Rattle.recurrence.specs.TimeRange.{periodsOverlap, blockIn};
-ghost use Rattle.filter.specs.Places.{givesPeriods, lineIn, linesIn, blockLinesIn};
+ghost use Rattle.filter.specs.Ranges.{givesPeriods, lineIn, linesIn, EndsOutside};
 
 // Does some period of a value overlap the range?
 fn value_in(v: &[u8], a: u64, b: u64) -> bool
@@ -71,52 +72,72 @@ fn line_in(line: &[u8], c: Context, a: u64, b: u64) -> bool
     }
 }
 
-// Does some period of the component's own lines overlap the range?
-fn lines_in(s: &[u8], from: usize, c: Context, a: u64, b: u64) -> bool
+// Does some period of the lines directly in the component of row k overlap the range?
+fn lines_in(s: &[u8], index: &[u32], rows: &[u32], k: usize, c: Context, a: u64, b: u64) -> bool
     requires { ⌜ ContextGood c ⌝ }
-    ensures { λ r. ⌜ r ≡ linesIn c a b (propertiesAt (now (s .entry)) from) ⌝ }
+    requires { ⌜ Indexed (now s) (now index) ⌝ }
+    requires { ⌜ RowOf (now s) (now rows) k ⌝ }
+    ensures { λ r. ⌜ r ≡ linesIn c a b (propertiesIn (componentBy (now (s .entry)) (now (rows .entry)) k .items)) ⌝ }
 {
-    let mut at = from;
+    let mut i = rows::first_line(rows, k);
+    let mut row = k + 1;
+    let stop = rows::line_behind(rows, k) - 1;
+    let end = rows::next_row(rows, k);
     loop {
-        match items::next_item(s, at) {
-            Item::Property(e, next) => {
-                if line_in(&s[at..e], c, a, b) {
+        match items::item_at(rows, i, row, stop, end) {
+            Item::Property => {
+                if line_in(index::line_at(s, index, i), c, a, b) {
                     return true;
                 }
-                at = next;
+                i += 1;
             }
-            Item::Inner(_, next) => {
-                let p = items::skip_component(s, next, 0);
-                at = p.at;
+            Item::Inner(next, after) => {
+                i = next;
+                row = after;
             }
             Item::Done => return false,
         }
     }
 }
 
-// A block with both ends goes by them, any other by its periods.
-fn bounds_in(k: Block, s: &[u8], at: usize, c: Context, a: u64, b: u64) -> bool
+// Is the block of row k, whose ends these are, in the range?
+pub fn bounds_in(
+    x: Block,
+    s: &[u8],
+    index: &[u32],
+    rows: &[u32],
+    k: usize,
+    c: Context,
+    a: u64,
+    b: u64,
+) -> bool
     requires { ⌜ ContextGood c ⌝ }
-    ensures { λ r. ⌜ r ≡ blockIn k (blockPeriods c (propertiesAt (now (s .entry)) at)) a b ⌝ }
+    requires { ⌜ Indexed (now s) (now index) ⌝ }
+    requires { ⌜ RowOf (now s) (now rows) k ⌝ }
+    ensures { λ r. ⌜ r ≡ blockIn x (blockPeriods c (propertiesIn (componentBy (now (s .entry)) (now (rows .entry)) k .items))) a b ⌝ }
 {
-    let start = k.start;
-    let end = k.end;
+    let start = x.start;
+    let end = x.end;
     match start {
-        Bound::At(x) => match end {
-            Bound::At(y) => time_range::between_in(a, b, x, y),
-            Bound::None => lines_in(s, at, c, a, b),
+        Bound::At(y) => match end {
+            Bound::At(z) => time_range::between_in(a, b, y, z),
+            Bound::None => lines_in(s, index, rows, k, c, a, b),
         },
-        Bound::None => lines_in(s, at, c, a, b),
+        Bound::None => lines_in(s, index, rows, k, c, a, b),
     }
 }
 
-// Is the block whose items begin here in the range?
-pub fn block_in_at(s: &[u8], at: usize, c: Context, a: u64, b: u64) -> bool
-    requires { ⌜ ContextGood c ⌝ }
-    ensures { λ r. ⌜ r ≡ blockLinesIn c (blockAt c (now (s .entry)) at) (propertiesAt (now (s .entry)) at) a b ⌝ }
+// Has the block both ends, and do they stand outside the range? Then no line of it need be read.
+pub fn ends_outside(x: Block, a: u64, b: u64) -> bool
+    ensures { λ r. ⌜ (r ≡ true → EndsOutside x a b) ⌝ }
 {
-    match places::block_at(s, at, c) {
-        BlockRead::Of(k) => bounds_in(k, s, at, c, a, b),
-        BlockRead::Broken => false,
+    let start = x.start;
+    let end = x.end;
+    match start {
+        Bound::At(y) => match end {
+            Bound::At(z) => !time_range::between_in(a, b, y, z),
+            Bound::None => false,
+        },
+        Bound::None => false,
     }
 }

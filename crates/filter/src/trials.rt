@@ -1,21 +1,24 @@
 // What is tried of a component against a record's range: the instances of an event one by one, anything else once.
 // So one search serves events, blocks and records without a range.
 use crate::ranges;
-use calendar::places;
 use events::Event;
-use events::EventRead;
-use property::Scope;
 use query::Sections;
 use query::fields;
 use recurrence::time_range;
+use structure::rows;
 use values::times::Context;
 ghost use mathlib.Core.Path.{_≡_};
 ghost use mathlib.Core.Bool.{true};
-ghost use Prim.Native.Nat.{_≤_};
+ghost use Prim.Native.Nat.{_≤_, _<_};
+ghost use Rattle.time.specs.Limits.{lastSecond};
 ghost use Rattle.values.specs.Times.{ContextGood};
+ghost use Rattle.structure.specs.Rows.{componentBy};
 ghost use Rattle.query.specs.Fits.{Fits};
 ghost use Rattle.query_check.specs.WellFormed.{recordsGood};
-ghost use Rattle.filter.specs.Trials.{trialIn, trialOf, trialGoesOn, trialPasses, Tried, SmallTrial};
+ghost use Rattle.calendar.specs.Meaning.{componentScope};
+ghost use Rattle.filter.specs.Tests.{componentIn, rangeHolds};
+ghost use Rattle.filter.specs.Ranges.{Given, Here, RowSmall, RowOutside, RuledOut};
+ghost use Rattle.filter.specs.Trials.{trialGoesOn, trialPasses, Tried, SmallTrial, TrialOf};
 
 // The trial of one component.
 pub enum Trial {
@@ -25,19 +28,73 @@ pub enum Trial {
     Once(bool),
 }
 
-// The trial of the component of this scope, whose items begin here, against a range.
-fn trial_in(s: &[u8], at: usize, c: Context, scope: Scope, a: u64, b: u64) -> Trial
-    requires { ⌜ ContextGood c ⌝ }
-    ensures { λ t. ⌜ t ≡ trialIn c scope (now (s .entry)) at a b ⌝ }
+// Does one look at row k tell that the component is not in the range? Of a block without both ends it does not.
+fn row_outside(rows: &[u32], column: &[u64], k: usize, a: u64, b: u64) -> bool
+    requires { ⌜ RowSmall (now rows) (now column) k ⌝ }
+    requires { ⌜ (a < b) × (b ≤ lastSecond) ⌝ }
+    ensures { λ r. ⌜ (r ≡ true → RowOutside (now (rows .entry)) (now (column .entry)) k a b) ⌝ }
 {
-    match scope {
-        Scope::Event => match places::event_at(s, at, c) {
-            EventRead::Of(e) => Trial::Instances(e, a, b),
-            EventRead::Broken => Trial::Once(false),
-        },
-        Scope::FreeBusy => Trial::Once(ranges::block_in_at(s, at, c, a, b)),
-        Scope::Other => Trial::Once(false),
+    let kind = rows::kind_at(rows, k);
+    if kind == 1 {
+        let e = events::rows::event_at(column, k);
+        return !time_range::starts_before(e, b, time_range::first_candidate(e, a));
     }
+    if kind == 2 {
+        return ranges::ends_outside(events::rows::block_at(column, k), a, b);
+    }
+    true
+}
+
+// The same against a record's range, 0 for none: without one nothing is ruled out.
+pub fn ruled_out(
+    query: &[u8],
+    q: Sections,
+    r: usize,
+    rows: &[u32],
+    column: &[u64],
+    k: usize,
+) -> bool
+    requires { ⌜ Fits (now query) q ⌝ }
+    requires { ⌜ recordsGood (now query) q ≡ true ⌝ }
+    requires { ⌜ r ≤ q .ranges .count ⌝ }
+    requires { ⌜ RowSmall (now rows) (now column) k ⌝ }
+    ensures { λ t. ⌜ (t ≡ true → RuledOut (now (query .entry)) q r (now (rows .entry)) (now (column .entry)) k) ⌝ }
+{
+    if r == 0 {
+        return false;
+    }
+    let i = r - 1;
+    let a = fields::range_start(query, q, i);
+    let b = fields::range_end(query, q, i);
+    row_outside(rows, column, k, a, b)
+}
+
+// The trial of the component of row k against a range.
+fn trial_in(
+    s: &[u8],
+    index: &[u32],
+    rows: &[u32],
+    column: &[u64],
+    k: usize,
+    c: Context,
+    a: u64,
+    b: u64,
+) -> Trial
+    requires { ⌜ ContextGood c ⌝ }
+    requires { ⌜ Given c (now s) (now index) (now rows) (now column) ⌝ }
+    requires { ⌜ Here (now s) (now rows) k ⌝ }
+    requires { ⌜ (a < b) × (b ≤ lastSecond) ⌝ }
+    ensures { λ t. ⌜ TrialOf (componentIn c (componentScope (componentBy (now (s .entry)) (now (rows .entry)) k)) (componentBy (now (s .entry)) (now (rows .entry)) k) a b) t ⌝ }
+{
+    let kind = rows::kind_at(rows, k);
+    if kind == 1 {
+        return Trial::Instances(events::rows::event_at(column, k), a, b);
+    }
+    if kind == 2 {
+        let x = events::rows::block_at(column, k);
+        return Trial::Once(ranges::bounds_in(x, s, index, rows, k, c, a, b));
+    }
+    Trial::Once(false)
 }
 
 // The same against a record's range, 0 for none.
@@ -46,15 +103,19 @@ pub fn trial_of(
     q: Sections,
     r: usize,
     s: &[u8],
-    at: usize,
+    index: &[u32],
+    rows: &[u32],
+    column: &[u64],
+    k: usize,
     c: Context,
-    scope: Scope,
 ) -> Trial
     requires { ⌜ Fits (now query) q ⌝ }
     requires { ⌜ recordsGood (now query) q ≡ true ⌝ }
     requires { ⌜ r ≤ q .ranges .count ⌝ }
     requires { ⌜ ContextGood c ⌝ }
-    ensures { λ t. ⌜ t ≡ trialOf c (now (query .entry)) q r scope (now (s .entry)) at ⌝ }
+    requires { ⌜ Given c (now s) (now index) (now rows) (now column) ⌝ }
+    requires { ⌜ Here (now s) (now rows) k ⌝ }
+    ensures { λ t. ⌜ TrialOf (rangeHolds c (now (query .entry)) q r (componentBy (now (s .entry)) (now (rows .entry)) k)) t ⌝ }
 {
     if r == 0 {
         return Trial::Once(true);
@@ -62,7 +123,7 @@ pub fn trial_of(
     let i = r - 1;
     let a = fields::range_start(query, q, i);
     let b = fields::range_end(query, q, i);
-    trial_in(s, at, c, scope, a, b)
+    trial_in(s, index, rows, column, k, c, a, b)
 }
 
 // The first instance to try: none before it passes.

@@ -1,106 +1,34 @@
--- Laws of the property tests: the loops over the lines of a component, the parameters of a line and the values of a parameter,
--- and what each test of a record comes to.
-use Prim.Native.Nat.{ℕ, _+_, zero, suc, _-_, _≤_, _<_}
+-- Laws of the property and parameter tests: of one text, of the loops over values, parameters and lines, and of the tests of a record.
+use Prim.Native.Nat.{ℕ, zero, suc, _+_, _-_, _≤_, _<_, _*_}
 use mathlib.Core.Path.{_≡_, refl, sym, ap, _∙_, subst}
-use mathlib.Core.Bool.{Bool, true, false, _||_, cond, not, _&&_, or-assoc}
-use mathlib.Core.List.{List, [], _∷_, _++_}
+use mathlib.Core.Bool.{Bool, true, false, cond, not, _&&_, _||_, or-assoc}
+use mathlib.Core.List.{List, [], _∷_, _++_, map}
 use native.Mathlib.Omega.{arith}
-use native.Mathlib.Numerals.{add-one}
 use lib.Dec.{eqb}
-use lib.ListN.{length, take, drop, getD, drop-of-length-le}
-use lib.Seq.{drop-cons}
+use lib.ListN.{length, take, drop, getD}
 use borrow.Author.Tests.{eq-eqb, ne-eqb}
-use Rattle.ascii.specs.Names.{sameName}
-use Rattle.text.specs.Lines.{part}
 use Rattle.text.specs.TextMatch.{contains}
 use Rattle.text.specs.declared.Collation.{Collation}
+use Rattle.line.specs.Grammar.{Parameter, ContentLine}
+use Rattle.line.specs.Splitting.{nextPlace, after, splitParts, splitAfter, quotesOff}
+use Rattle.line.specs.Reading.{headOf, isNamed, valuesOf, parameterOf, lineOf, keepIf, parametersNamed, pooled, valuesNamed, hasParameter, nameOf, valueOf}
+use Rattle.line.proofs.Splitting.{nextPlace-ge, nextPlace-le, parts-from, splitAfter-in, splitAfter-out}
+use Rattle.line.proofs.ReadingParameters.{parametersFrom, parameters-next, parameters-end, parameters-all, next-inside}
 use Rattle.query.specs.Records.{textOf, parameterAt, propertyAt}
 use Rattle.query.specs.declared.Sections.{Sections}
 use Rattle.query.specs.declared.ParameterRecord.{ParameterRecord}
-use Rattle.query.specs.Counting.{implies, everyBelow}
-use Rattle.query.specs.declared.PropertyRecord.{PropertyRecord}
-use Rattle.line.specs.Grammar.{ContentLine, Parameter}
-use Rattle.line.specs.Reading.{lineOf, headOf, isNamed, valuesOf, parameterOf, keepIf, parametersNamed, pooled, valuesNamed, hasParameter, nameOf, valueOf}
-use Rattle.line.specs.Splitting.{nextPlace}
-use Rattle.line.proofs.Splitting.{nextPlace-le}
-use Rattle.line.proofs.ReadingParameters.{parametersFrom, parameters-next, parameters-end, parameters-all, next-inside}
+use Rattle.query.specs.Counting.{implies}
 use Rattle.query_check.specs.QueryRules.{GoodParameter, GoodProperty}
 use Rattle.query_check.specs.WellFormed.{recordsGood}
 use Rattle.query_check.proofs.QueryRules.{records-say}
-use Rattle.nesting.specs.Components.{Numbered, Items, itemsOf, propertiesIn}
-use Rattle.nesting.specs.Passing.{linesFrom, PropertyAt, InnerAt, NoItemAt, SkipsTo}
-use Rattle.nesting.specs.declared.items.Place.{Place}
-use Rattle.nesting.proofs.Components.{bareLines, by-lines}
-use Rattle.property_tests.specs.PropertyTests.{propertiesAt, collationOf, textHolds, someValue, parameterHolds, parameterPasses, parametersHold, someNamed, lineHolds, someLine, propertyHolds, propertyPasses, propertiesHold}
-
--- ---- a line of a component that passes a test: line numbers play no part, and inner components are passed over
-
--- f asks whether g holds of some line
-pub record SomeOf (f : List Numbered → Bool) (g : ContentLine → Bool) : Type 0 where
-  pub no-line : f [] ≡ false
-  pub a-line : (x : Numbered) (xs : List Numbered) → f (x ∷ xs) ≡ (g (x .line) || f xs)
-
--- what is left to look through decides
-pub record Seeking (f : List Numbered → Bool) (s : List ℕ) (from at : ℕ) : Type 0 where
-  pub rest : f (propertiesAt s at) ≡ f (propertiesAt s from)
-
-pub seeking-start : (f : List Numbered → Bool) (s : List ℕ) (from : ℕ) → Seeking f s from from
-seeking-start f s from = record { rest = refl }
-
-module _ {f : List Numbered → Bool} {g : ContentLine → Bool} (t : SomeOf f g) where
-  some-bare : List ContentLine → Bool
-  some-bare [] = false
-  some-bare (x ∷ xs) = g x || some-bare xs
-
-  by-bare : (xs : List Numbered) → f xs ≡ some-bare (bareLines xs)
-  unfolding some-bare
-  by-bare [] = t .no-line
-  by-bare (x ∷ xs) = t .a-line x xs ∙ ap (λ (b : Bool). g (x .line) || b) (by-bare xs)
-
-  -- by which number the lines begin plays no part
-  pub any-number : (s : List ℕ) (at d i j : ℕ) → f (propertiesIn (itemsOf d (linesFrom s at i))) ≡ f (propertiesIn (itemsOf d (linesFrom s at j)))
-  any-number s at d i j = by-lines f some-bare by-bare s at d i j
-
-  pub from-any : (s : List ℕ) (at i : ℕ) → f (propertiesIn (itemsOf 0 (linesFrom s at i))) ≡ f (propertiesAt s at)
-  unfolding propertiesAt
-  from-any s at i = any-number s at 0 i 1
-
-  -- ---- one step
-
-  line-at : {s : List ℕ} {at e next : ℕ} → PropertyAt s at e next → f (propertiesAt s at) ≡ (g (lineOf (part s at e)) || f (propertiesAt s next))
-  unfolding propertiesAt propertiesIn
-  line-at {s} {at} {e} {next} h =
-      ap (λ (k : Items). f (propertiesIn k)) (h .items 1)
-      ∙ t .a-line _ _
-      ∙ ap (λ (b : Bool). g (lineOf (part s at e)) || b) (any-number s next 0 (1 + 1) 1)
-
-  component-at : {s : List ℕ} {at e next j : ℕ} {p : Place} → InnerAt s at e next → SkipsTo s next j p → f (propertiesAt s at) ≡ f (propertiesAt s (p .at))
-  unfolding propertiesAt propertiesIn
-  component-at {s} {at} {e} {next} {j} {p} h k =
-      ap (λ (x : Items). f (propertiesIn x)) (h .items 1)
-      ∙ any-number s next 1 (1 + 1) j
-      ∙ ap (λ (x : Items). f (propertiesIn x)) (k .items 0)
-      ∙ any-number s (p .at) 0 (p .number) 1
-
-  nothing-at : {s : List ℕ} {at : ℕ} → NoItemAt s at → f (propertiesAt s at) ≡ false
-  unfolding propertiesAt propertiesIn
-  nothing-at h = ap (λ (k : Items). f (propertiesIn k)) (h .items 1) ∙ t .no-line
-
-  -- ---- the loop: none before `at` passes
-
-  module _ {s : List ℕ} {from at : ℕ} (r : Seeking f s from at) where
-    pub seeking-next : {e next : ℕ} {b : Bool} → PropertyAt s at e next → b ≡ g (lineOf (part s at e)) → b ≡ false → Seeking f s from next
-    seeking-next {next = next} h q z =
-        record { rest = ap (λ (x : Bool). x || f (propertiesAt s next)) (sym z ∙ q) ∙ sym (line-at h) ∙ r .rest }
-
-    pub seeking-found : {e next : ℕ} {b : Bool} → PropertyAt s at e next → b ≡ g (lineOf (part s at e)) → b ≡ true → true ≡ f (propertiesAt s from)
-    seeking-found {next = next} h q z = ap (λ (x : Bool). x || f (propertiesAt s next)) (sym z ∙ q) ∙ sym (line-at h) ∙ r .rest
-
-    pub seeking-inner : {e next j : ℕ} {p : Place} → InnerAt s at e next → SkipsTo s next j p → Seeking f s from (p .at)
-    seeking-inner h k = record { rest = sym (component-at h k) ∙ r .rest }
-
-    pub seeking-end : NoItemAt s at → false ≡ f (propertiesAt s from)
-    seeking-end h = sym (nothing-at h) ∙ r .rest
+use Rattle.property_tests.specs.PropertyTests.{collationOf, textHolds, textOr, textPasses, someValue, somePasses, parameterHolds, parameterPasses, parametersHold, someNamed, lineHolds, someLine, propertyHolds, propertyPasses}
+use Rattle.nesting.specs.Components.{Numbered, Items, none, propertiesIn}
+use Rattle.index.specs.Index.{lineBytes, Entry, Indexed}
+use Rattle.structure.specs.Rows.{itemsBy, numberedLine, ItemsAt, RowOf, componentBy}
+use Rattle.structure.specs.Items.{PropertyAt, InnerAt}
+use Rattle.structure.proofs.RowsLaws.{rows-lines}
+use Rattle.ascii.specs.Names.{sameName}
+use Rattle.query.specs.declared.PropertyRecord.{PropertyRecord}
 
 -- ---- one text
 
@@ -114,131 +42,172 @@ unfolding collationOf
 collation-casemap zero h = absurd (h refl)
 collation-casemap (suc n) h = refl
 
-module _ (s : List ℕ) (q : Sections) where
-  pub text-none : (t c f : ℕ) (v : List ℕ) → t ≡ 0 → true ≡ textHolds s q t c f v
-  unfolding textHolds
-  text-none zero c f v h = refl
-  text-none (suc t) c f v h = absurd (omega arith)
+-- without a text
+pub passes-none : (n : ℕ) (w : List ℕ) (c f : ℕ) (v : List ℕ) → n ≡ 0 → true ≡ textPasses n w c f v
+unfolding textPasses
+passes-none zero w c f v h = refl
+passes-none (suc n) w c f v h = absurd (omega arith)
 
-  text-some : (t c f : ℕ) (v : List ℕ) → (t ≡ 0 → ⊥)
-      → textHolds s q t c f v ≡ cond (eqb f 2) (not (contains (collationOf c) v (textOf s q (t - 1)))) (contains (collationOf c) v (textOf s q (t - 1)))
-  unfolding textHolds
-  text-some zero c f v h = absurd (h refl)
-  text-some (suc t) c f v h =
-      let n : t ≡ suc t - 1 = omega arith in
-      ap (λ (i : ℕ). cond (eqb f 2) (not (contains (collationOf c) v (textOf s q i))) (contains (collationOf c) v (textOf s q i))) n
+-- with one
+module _ (n : ℕ) (w : List ℕ) (c f : ℕ) (v : List ℕ) {k : Collation} {b : Bool} (h : n ≡ 0 → ⊥) (y : k ≡ collationOf c) (z : b ≡ contains k v w) where
+  passes-some : cond (eqb f 2) (not b) b ≡ textPasses n w c f v
+  unfolding textPasses
+  passes-some = go n h
+    where
+      go : (n : ℕ) → (n ≡ 0 → ⊥) → cond (eqb f 2) (not b) b ≡ textPasses n w c f v
+      go zero h = absurd (h refl)
+      go (suc n) h = ap (λ (x : Bool). cond (eqb f 2) (not x) x) (z ∙ ap (λ (j : Collation). contains j v w) y)
 
-  module _ (t c f : ℕ) (v : List ℕ) {w : List ℕ} {k : Collation} {b : Bool} (h : t ≡ 0 → ⊥) (x : w ≡ textOf s q (t - 1)) (y : k ≡ collationOf c)
-      (z : b ≡ contains k v w) where
-    has-text : b ≡ contains (collationOf c) v (textOf s q (t - 1))
-    has-text = z ∙ ap (λ (u : List ℕ). contains k v u) x ∙ ap (λ (j : Collation). contains j v (textOf s q (t - 1))) y
+  pub passes-negated : f ≡ 2 → not b ≡ textPasses n w c f v
+  passes-negated e = ap (λ (x : Bool). cond x (not b) b) (sym (eq-eqb f 2 e)) ∙ passes-some
 
-    pub text-negated : f ≡ 2 → not b ≡ textHolds s q t c f v
-    text-negated e = ap not has-text ∙ sym (text-some t c f v h ∙ rw (eq-eqb f 2 e) refl)
+  pub passes-plain : (f ≡ 2 → ⊥) → b ≡ textPasses n w c f v
+  passes-plain e = ap (λ (x : Bool). cond x (not b) b) (sym (ne-eqb f 2 e)) ∙ passes-some
 
-    pub text-plain : (f ≡ 2 → ⊥) → b ≡ textHolds s q t c f v
-    text-plain e = has-text ∙ sym (text-some t c f v h ∙ rw (ne-eqb f 2 e) refl)
+-- ---- the values of one parameter: none before place `from` holds up
 
-  -- ---- the values of one parameter: none before number k holds up
+abbrev valuesFrom : List ℕ → ℕ → List (List ℕ)
+valuesFrom u from = map quotesOff (splitParts true 44 false (drop from u))
 
-  module _ (r : ParameterRecord) where
-    pub record Trying (vs : List (List ℕ)) (k : ℕ) : Type 0 where
-      pub within : k ≤ length vs
-      pub rest : someValue s q r (drop k vs) ≡ someValue s q r vs
+module _ (r : ParameterRecord) (w : List ℕ) where
+  pub record Trying (p u : List ℕ) (from : ℕ) : Type 0 where
+    pub within : from ≤ length u
+    pub rest : somePasses r w (valuesFrom u from) ≡ somePasses r w (valuesOf p)
 
-    pub trying-start : (vs : List (List ℕ)) → Trying vs 0
-    trying-start vs = record { within = omega arith; rest = refl }
+  pub trying-start : (p u : List ℕ) → u ≡ after true 61 p → Trying p u 0
+  unfolding valuesOf
+  trying-start p u q = record { within = omega arith; rest = ap (λ (x : List ℕ). somePasses r w (map quotesOff (splitParts true 44 false x))) q }
 
-    value-here : (vs : List (List ℕ)) (k : ℕ) → k < length vs
-        → someValue s q r (drop k vs) ≡ (textHolds s q (r .text) (r .collation) (r .flag) (getD vs k []) || someValue s q r (drop (k + 1) vs))
-    unfolding someValue
-    value-here vs k h = rw (add-one k, drop-cons vs k [] h) refl
+  module _ {p u : List ℕ} {from e : ℕ} (t : Trying p u from) (x : e ≡ nextPlace true 44 u from) where
+    pub value-rises : from ≤ e
+    value-rises = omega (arith, nextPlace-ge true 44 u from)
 
-    module _ {vs : List (List ℕ)} {k : ℕ} (w : Trying vs k) where
-      pub trying-next : {v : List ℕ} {b : Bool} → k < length vs → v ≡ getD vs k [] → b ≡ textHolds s q (r .text) (r .collation) (r .flag) v → b ≡ false → Trying vs (k + 1)
-      trying-next h x y z =
+    pub value-inside : e ≤ length u
+    value-inside = omega (arith, nextPlace-le true 44 u from (t .within))
+
+    module _ {v : List ℕ} {b : Bool} (y : v ≡ quotesOff (take (e - from) (drop from u))) (z : b ≡ textPasses (r .text) w (r .collation) (r .flag) v) where
+      value-here : (b || somePasses r w (map quotesOff (splitAfter true 44 u e))) ≡ somePasses r w (valuesOf p)
+      unfolding somePasses
+      value-here =
+          ap (λ (k : Bool). k || somePasses r w (map quotesOff (splitAfter true 44 u e)))
+          (z ∙ ap (textPasses (r .text) w (r .collation) (r .flag)) y)
+          ∙ ap (λ (k : ℕ). somePasses r w (map quotesOff (take (k - from) (drop from u) ∷ splitAfter true 44 u k))) x
+          ∙ ap (λ (l : List (List ℕ)). somePasses r w (map quotesOff l)) (sym (parts-from true 44 u from (t .within)))
+          ∙ t .rest
+
+      pub trying-found : b ≡ true → true ≡ somePasses r w (valuesOf p)
+      trying-found k = ap (λ (i : Bool). i || somePasses r w (map quotesOff (splitAfter true 44 u e))) (sym k) ∙ value-here
+
+      value-after : b ≡ false → somePasses r w (map quotesOff (splitAfter true 44 u e)) ≡ somePasses r w (valuesOf p)
+      value-after k = ap (λ (i : Bool). i || somePasses r w (map quotesOff (splitAfter true 44 u e))) (sym k) ∙ value-here
+
+      pub trying-next : b ≡ false → e < length u → Trying p u (e + 1)
+      trying-next k h =
           record {
             within = omega arith;
-            rest =
-                ap (λ (t : Bool). t || someValue s q r (drop (k + 1) vs))
-                (sym z ∙ y ∙ ap (textHolds s q (r .text) (r .collation) (r .flag)) x)
-                ∙ sym (value-here vs k h)
-                ∙ w .rest;
+            rest = ap (λ (l : List (List ℕ)). somePasses r w (map quotesOff l)) (sym (splitAfter-in true 44 u e h)) ∙ value-after k;
           }
 
-      pub trying-found : {v : List ℕ} {b : Bool} → k < length vs → v ≡ getD vs k [] → b ≡ textHolds s q (r .text) (r .collation) (r .flag) v → b ≡ true
-          → true ≡ someValue s q r vs
-      trying-found h x y z =
-          ap (λ (t : Bool). t || someValue s q r (drop (k + 1) vs))
-          (sym z ∙ y ∙ ap (textHolds s q (r .text) (r .collation) (r .flag)) x)
-          ∙ sym (value-here vs k h)
-          ∙ w .rest
+      pub trying-end : b ≡ false → length u ≤ e → false ≡ somePasses r w (valuesOf p)
+      unfolding somePasses
+      trying-end k h = ap (λ (l : List (List ℕ)). somePasses r w (map quotesOff l)) (sym (splitAfter-out true 44 u e h)) ∙ value-after k
 
-      pub trying-end : length vs ≤ k → false ≡ someValue s q r vs
-      unfolding someValue
-      trying-end h = sym (ap (someValue s q r) (drop-of-length-le vs h)) ∙ w .rest
+  -- ---- the parameters of a line: no value of one before `at` holds up
 
-    -- ---- the parameters of a line: no value of one before `at` holds up
+  some-append : (vs us : List (List ℕ)) → somePasses r w (vs ++ us) ≡ (somePasses r w vs || somePasses r w us)
+  unfolding somePasses
+  some-append [] us = refl
+  some-append (v ∷ vs) us =
+      ap (λ (t : Bool). textPasses (r .text) w (r .collation) (r .flag) v || t) (some-append vs us)
+      ∙ sym (or-assoc (textPasses (r .text) w (r .collation) (r .flag) v) (somePasses r w vs) (somePasses r w us))
 
-    some-append : (vs ws : List (List ℕ)) → someValue s q r (vs ++ ws) ≡ (someValue s q r vs || someValue s q r ws)
-    unfolding someValue
-    some-append [] ws = refl
-    some-append (v ∷ vs) ws =
-        ap (λ (t : Bool). textHolds s q (r .text) (r .collation) (r .flag) v || t) (some-append vs ws)
-        ∙ sym (or-assoc (textHolds s q (r .text) (r .collation) (r .flag) v) (someValue s q r vs) (someValue s q r ws))
+  named-here : (n t : List ℕ) (ps : List Parameter)
+      → somePasses r w (valuesNamed n (parameterOf t ∷ ps)) ≡ (isNamed n t && somePasses r w (valuesOf t) || somePasses r w (valuesNamed n ps))
+  unfolding valuesNamed parametersNamed isNamed parameterOf pooled
+  named-here n t ps = go (isNamed n t)
+    where
+      go : (x : Bool) → somePasses r w (pooled (keepIf x (parameterOf t) (parametersNamed n ps)))
+          ≡ (x && somePasses r w (valuesOf t) || somePasses r w (pooled (parametersNamed n ps)))
+      go true = some-append (valuesOf t) (pooled (parametersNamed n ps))
+      go false = refl
 
-    named-here : (n t : List ℕ) (ps : List Parameter)
-        → someValue s q r (valuesNamed n (parameterOf t ∷ ps)) ≡ (isNamed n t && someValue s q r (valuesOf t) || someValue s q r (valuesNamed n ps))
-    unfolding valuesNamed parametersNamed isNamed parameterOf pooled
-    named-here n t ps = go (isNamed n t)
-      where
-        go : (x : Bool) → someValue s q r (pooled (keepIf x (parameterOf t) (parametersNamed n ps)))
-            ≡ (x && someValue s q r (valuesOf t) || someValue s q r (pooled (parametersNamed n ps)))
-        go true = some-append (valuesOf t) (pooled (parametersNamed n ps))
-        go false = refl
+  -- one parameter
+  module _ (n t : List ℕ) {a : Bool} (x : a ≡ isNamed n t) where
+    pub named-value : {b : Bool} → a ≡ true → b ≡ somePasses r w (valuesOf t) → b ≡ (isNamed n t && somePasses r w (valuesOf t))
+    named-value e y = y ∙ ap (λ (z : Bool). z && somePasses r w (valuesOf t)) (sym e ∙ x)
 
-    pub record Looking (n h : List ℕ) (at : ℕ) : Type 0 where
-      pub inside : at ≤ length h
-      pub rest : someValue s q r (valuesNamed n (parametersFrom h at)) ≡ someValue s q r (valuesNamed n (parametersFrom h (nextPlace true 59 h 0)))
+    pub other-value : a ≡ false → false ≡ (isNamed n t && somePasses r w (valuesOf t))
+    other-value e = ap (λ (z : Bool). z && somePasses r w (valuesOf t)) (sym e ∙ x)
 
-    pub looking-start : (n h : List ℕ) (at : ℕ) → at ≡ nextPlace true 59 h 0 → Looking n h at
-    looking-start n h at x =
-        record {
-          inside = omega (arith, nextPlace-le true 59 h 0 (omega arith));
-          rest = ap (λ (i : ℕ). someValue s q r (valuesNamed n (parametersFrom h i))) x;
-        }
+  pub record Looking (n h : List ℕ) (at : ℕ) : Type 0 where
+    pub inside : at ≤ length h
+    pub rest : somePasses r w (valuesNamed n (parametersFrom h at)) ≡ somePasses r w (valuesNamed n (parametersFrom h (nextPlace true 59 h 0)))
 
-    module _ {n h : List ℕ} {at : ℕ} (w : Looking n h at) where
-      module _ {e : ℕ} {a b : Bool} (k : at < length h) (x : e ≡ nextPlace true 59 h (at + 1)) (y : a ≡ isNamed n (take (e - (at + 1)) (drop (at + 1) h)))
-          (z : b ≡ someValue s q r (valuesOf (take (e - (at + 1)) (drop (at + 1) h)))) where
-        looking-here : (a && b || someValue s q r (valuesNamed n (parametersFrom h e)))
-            ≡ someValue s q r (valuesNamed n (parametersFrom h (nextPlace true 59 h 0)))
-        looking-here =
-            ap (λ (t : Bool). t && b || someValue s q r (valuesNamed n (parametersFrom h e))) y
-            ∙ ap (λ (t : Bool). isNamed n (take (e - (at + 1)) (drop (at + 1) h)) && t || someValue s q r (valuesNamed n (parametersFrom h e))) z
-            ∙ sym (named-here n (take (e - (at + 1)) (drop (at + 1) h)) (parametersFrom h e))
-            ∙ ap (λ (ps : List Parameter). someValue s q r (valuesNamed n ps)) (sym (parameters-next h at e k x))
-            ∙ w .rest
+  pub looking-start : (n h : List ℕ) (at : ℕ) → at ≡ nextPlace true 59 h 0 → Looking n h at
+  looking-start n h at x =
+      record {
+        inside = omega (arith, nextPlace-le true 59 h 0 (omega arith));
+        rest = ap (λ (i : ℕ). somePasses r w (valuesNamed n (parametersFrom h i))) x;
+      }
 
-        pub looking-next : (a && b) ≡ false → Looking n h e
-        looking-next g =
-            record {
-              inside = next-inside h at e k x;
-              rest = ap (λ (t : Bool). t || someValue s q r (valuesNamed n (parametersFrom h e))) (sym g) ∙ looking-here;
-            }
+  module _ {n h : List ℕ} {at : ℕ} (g : Looking n h at) where
+    module _ {e : ℕ} {b : Bool} (k : at < length h) (x : e ≡ nextPlace true 59 h (at + 1))
+        (z : b ≡ (isNamed n (take (e - (at + 1)) (drop (at + 1) h)) && somePasses r w (valuesOf (take (e - (at + 1)) (drop (at + 1) h))))) where
+      looking-here : (b || somePasses r w (valuesNamed n (parametersFrom h e)))
+          ≡ somePasses r w (valuesNamed n (parametersFrom h (nextPlace true 59 h 0)))
+      looking-here =
+          ap (λ (t : Bool). t || somePasses r w (valuesNamed n (parametersFrom h e))) z
+          ∙ sym (named-here n (take (e - (at + 1)) (drop (at + 1) h)) (parametersFrom h e))
+          ∙ ap (λ (ps : List Parameter). somePasses r w (valuesNamed n ps)) (sym (parameters-next h at e k x))
+          ∙ g .rest
 
-        pub looking-found : (l : List ℕ) → h ≡ headOf l → (a && b) ≡ true → true ≡ someValue s q r (valuesNamed n (lineOf l .parameters))
-        looking-found l i g =
-            ap (λ (t : Bool). t || someValue s q r (valuesNamed n (parametersFrom h e))) (sym g)
-            ∙ looking-here
-            ∙ ap (λ (ps : List Parameter). someValue s q r (valuesNamed n ps)) (parameters-all l h i)
+      pub looking-next : b ≡ false → Looking n h e
+      looking-next y =
+          record {
+            inside = next-inside h at e k x;
+            rest = ap (λ (t : Bool). t || somePasses r w (valuesNamed n (parametersFrom h e))) (sym y) ∙ looking-here;
+          }
 
-      pub looking-end : (l : List ℕ) → length h ≤ at → h ≡ headOf l → false ≡ someValue s q r (valuesNamed n (lineOf l .parameters))
-      unfolding someValue valuesNamed parametersNamed pooled
-      looking-end l k i =
-          sym (ap (λ (ps : List Parameter). someValue s q r (valuesNamed n ps)) (parameters-end h at k))
-          ∙ w .rest
-          ∙ ap (λ (ps : List Parameter). someValue s q r (valuesNamed n ps)) (parameters-all l h i)
+      pub looking-found : (l : List ℕ) → h ≡ headOf l → b ≡ true → true ≡ somePasses r w (valuesNamed n (lineOf l .parameters))
+      looking-found l i y =
+          ap (λ (t : Bool). t || somePasses r w (valuesNamed n (parametersFrom h e))) (sym y)
+          ∙ looking-here
+          ∙ ap (λ (ps : List Parameter). somePasses r w (valuesNamed n ps)) (parameters-all l h i)
+
+    pub looking-end : (l : List ℕ) → length h ≤ at → h ≡ headOf l → false ≡ somePasses r w (valuesNamed n (lineOf l .parameters))
+    unfolding somePasses valuesNamed parametersNamed pooled
+    looking-end l k i =
+        sym (ap (λ (ps : List Parameter). somePasses r w (valuesNamed n ps)) (parameters-end h at k))
+        ∙ g .rest
+        ∙ ap (λ (ps : List Parameter). somePasses r w (valuesNamed n ps)) (parameters-all l h i)
+
+module _ (s : List ℕ) (q : Sections) where
+  -- ---- the text of a record, looked up
+
+  pub text-none : (t : ℕ) → t ≡ 0 → [] ≡ textOr s q t
+  unfolding textOr
+  text-none zero h = refl
+  text-none (suc t) h = absurd (omega arith)
+
+  pub text-some : (t : ℕ) {w : List ℕ} → (t ≡ 0 → ⊥) → w ≡ textOf s q (t - 1) → w ≡ textOr s q t
+  unfolding textOr
+  text-some zero h x = absurd (h refl)
+  text-some (suc t) h x = let n : suc t - 1 ≡ t = omega arith in x ∙ ap (textOf s q) n
+
+  -- with its bytes at hand the test is the same
+  pub text-given : (t c f : ℕ) (v : List ℕ) {w : List ℕ} → w ≡ textOr s q t → textPasses t w c f v ≡ textHolds s q t c f v
+  unfolding textPasses textHolds textOr
+  text-given zero c f v x = refl
+  text-given (suc t) c f v x =
+      ap (λ (u : List ℕ). cond (eqb f 2) (not (contains (collationOf c) v u)) (contains (collationOf c) v u)) x
+
+  module _ (r : ParameterRecord) where
+    values-given : {w : List ℕ} → w ≡ textOr s q (r .text) → (vs : List (List ℕ)) → somePasses r w vs ≡ someValue s q r vs
+    unfolding somePasses someValue
+    values-given x [] = refl
+    values-given {w} x (v ∷ vs) =
+        ap (λ (t : Bool). t || somePasses r w vs) (text-given (r .text) (r .collation) (r .flag) v x)
+        ∙ ap (λ (t : Bool). textHolds s q (r .text) (r .collation) (r .flag) v || t) (values-given x vs)
 
     -- ---- one parameter test
 
@@ -247,9 +216,11 @@ module _ (s : List ℕ) (q : Sections) where
       unfolding parameterHolds
       parameter-absent g k = rw (eq-eqb _ 1 g) (ap not (k ∙ ap (λ (m : List ℕ). hasParameter m x) e))
 
-      pub parameter-there : {b : Bool} → (r .flag ≡ 1 → ⊥) → b ≡ someValue s q r (valuesNamed n (x .parameters)) → b ≡ parameterHolds s q x r
+      pub parameter-there : {w : List ℕ} {b : Bool} → (r .flag ≡ 1 → ⊥) → w ≡ textOr s q (r .text) → b ≡ somePasses r w (valuesNamed n (x .parameters))
+          → b ≡ parameterHolds s q x r
       unfolding parameterHolds
-      parameter-there g k = rw (ne-eqb _ 1 g) (k ∙ ap (λ (m : List ℕ). someValue s q r (valuesNamed m (x .parameters))) e)
+      parameter-there g y k =
+          rw (ne-eqb _ 1 g) (k ∙ values-given y (valuesNamed n (x .parameters)) ∙ ap (λ (m : List ℕ). someValue s q r (valuesNamed m (x .parameters))) e)
 
   -- ---- one parameter record, where it is one of a property record
 
@@ -274,7 +245,73 @@ module _ (s : List ℕ) (q : Sections) where
     pub parameter-text : r .text ≤ q .texts .count
     parameter-text = parameter-good .text-there
 
--- ---- one line, and one property test
+-- f asks whether g holds of some line
+pub record SomeOf (f : List Numbered → Bool) (g : ContentLine → Bool) : Type 0 where
+  pub no-line : f [] ≡ false
+  pub a-line : (x : Numbered) (xs : List Numbered) → f (x ∷ xs) ≡ (g (x .line) || f xs)
+
+-- the loop stands at line i of the component of row c, none before passes, and what is left to look through decides
+pub record Seeking (f : List Numbered → Bool) (s rows : List ℕ) (c i k j m : ℕ) : Type 0 where
+  pub left : ItemsAt s rows i k j m
+  pub rest : f (propertiesIn (itemsBy s i)) ≡ f (propertiesIn (componentBy s rows c .items))
+
+-- the END line stands before the line behind it
+pub row-ends : {s rows : List ℕ} {c e : ℕ} → RowOf s rows c → e ≡ getD rows (4 * c + 1) 0 → 1 ≤ e
+row-ends r q = omega (arith, r .end)
+
+pub seeking-start : (f : List Numbered → Bool) {s rows : List ℕ} {c i e m : ℕ} → RowOf s rows c → i ≡ getD rows (4 * c) 0 → e ≡ getD rows (4 * c + 1) 0
+    → m ≡ getD rows (4 * c + 2) 0 → Seeking f s rows c i (c + 1) (e - 1) m
+unfolding componentBy
+seeking-start f {s} {rows} {c} {i} {e} {m} r p q n =
+    let z : e - 1 ≡ r .stop = omega (arith, r .end) in
+    rw (p, z, n) (record { left = r .inner; rest = refl })
+
+-- ---- what the next step asks
+
+module _ {f : List Numbered → Bool} {s rows : List ℕ} {c i k j m : ℕ} (r : Seeking f s rows c i k j m) where
+  pub seeking-small : i ≤ j
+  seeking-small = rows-lines (r .left .items)
+
+  pub seeking-line : {index : List ℕ} → Indexed s index → PropertyAt s rows i k j m → Entry s index i
+  seeking-line x h = x .entries i (h .inside)
+
+module _ {f : List Numbered → Bool} {g : ContentLine → Bool} (t : SomeOf f g) where
+  -- ---- one step
+
+  line-at : {s rows : List ℕ} {i k j m : ℕ} → PropertyAt s rows i k j m
+      → f (propertiesIn (itemsBy s i)) ≡ (g (lineOf (lineBytes s i)) || f (propertiesIn (itemsBy s (i + 1))))
+  unfolding propertiesIn numberedLine
+  line-at h = ap (λ (x : Items). f (propertiesIn x)) (h .items) ∙ t .a-line _ _
+
+  component-at : {s rows : List ℕ} {i k j m next row : ℕ} → InnerAt s rows i k j m next row
+      → f (propertiesIn (itemsBy s i)) ≡ f (propertiesIn (itemsBy s next))
+  unfolding propertiesIn
+  component-at h = ap (λ (x : Items). f (propertiesIn x)) (h .items)
+
+  nothing-at : (s : List ℕ) (i : ℕ) → itemsBy s i ≡ none → f (propertiesIn (itemsBy s i)) ≡ false
+  unfolding propertiesIn
+  nothing-at s i h = ap (λ (x : Items). f (propertiesIn x)) h ∙ t .no-line
+
+  -- ---- the loop
+
+  module _ {s rows : List ℕ} {c i k j m : ℕ} (r : Seeking f s rows c i k j m) where
+    module _ {l : List ℕ} {b : Bool} (h : PropertyAt s rows i k j m) (p : l ≡ lineBytes s i) (q : b ≡ g (lineOf l)) where
+      line-here : (b || f (propertiesIn (itemsBy s (i + 1)))) ≡ f (propertiesIn (componentBy s rows c .items))
+      line-here =
+          ap (λ (x : Bool). x || f (propertiesIn (itemsBy s (i + 1)))) (q ∙ ap (λ (x : List ℕ). g (lineOf x)) p) ∙ sym (line-at h) ∙ r .rest
+
+      pub seeking-next : b ≡ false → Seeking f s rows c (i + 1) k j m
+      seeking-next z =
+          record { left = h .rest; rest = ap (λ (x : Bool). x || f (propertiesIn (itemsBy s (i + 1)))) (sym z) ∙ line-here }
+
+      pub seeking-found : b ≡ true → true ≡ f (propertiesIn (componentBy s rows c .items))
+      seeking-found z = ap (λ (x : Bool). x || f (propertiesIn (itemsBy s (i + 1)))) (sym z) ∙ line-here
+
+    pub seeking-inner : {next row : ℕ} → InnerAt s rows i k j m next row → Seeking f s rows c next row j m
+    seeking-inner h = record { left = h .rest; rest = sym (component-at h) ∙ r .rest }
+
+    pub seeking-end : itemsBy s i ≡ none → false ≡ f (propertiesIn (componentBy s rows c .items))
+    seeking-end h = sym (nothing-at s i h) ∙ r .rest
 
 -- both searches ask for one line
 pub named-lines : (n : List ℕ) → SomeOf (someNamed n) (λ x. sameName (x .name) n)
@@ -282,9 +319,9 @@ unfolding someNamed
 named-lines n = record { no-line = refl; a-line = λ x xs. refl }
 
 -- a line read in place
-pub named-line : (n l : List ℕ) {m : List ℕ} {b : Bool} → m ≡ nameOf l → b ≡ sameName m n → b ≡ sameName (lineOf l .name) n
+pub named-line : (n l : List ℕ) {b : Bool} → b ≡ sameName (nameOf l) n → b ≡ sameName (lineOf l .name) n
 unfolding lineOf
-named-line n l e q = q ∙ ap (λ (x : List ℕ). sameName x n) e
+named-line n l q = q
 
 module _ (s : List ℕ) (q : Sections) where
   module _ (i : ℕ) (r : PropertyRecord) where
@@ -292,17 +329,18 @@ module _ (s : List ℕ) (q : Sections) where
     unfolding someLine
     holding-lines = record { no-line = refl; a-line = λ x xs. refl }
 
-    module _ (l : List ℕ) {m n : List ℕ} {a : Bool} (x : m ≡ nameOf l) (y : n ≡ textOf s q (r .name)) (z : a ≡ sameName m n) where
+    module _ (l : List ℕ) {n w : List ℕ} {a : Bool} (y : n ≡ textOf s q (r .name)) (x : w ≡ textOr s q (r .text)) (z : a ≡ sameName (nameOf l) n) where
       line-as : (a && textHolds s q (r .text) (r .collation) (r .flag) (valueOf l) && parametersHold s q i (lineOf l)) ≡ lineHolds s q i r (lineOf l)
       unfolding lineHolds lineOf
       line-as =
           ap (λ (t : Bool). t && textHolds s q (r .text) (r .collation) (r .flag) (valueOf l) && parametersHold s q i (lineOf l))
-          (z ∙ ap (λ (u : List ℕ). sameName u n) x ∙ ap (sameName (nameOf l)) y)
+          (z ∙ ap (sameName (nameOf l)) y)
 
-      module _ {v : List ℕ} {b : Bool} (e : a ≡ true) (u : v ≡ valueOf l) (w : b ≡ textHolds s q (r .text) (r .collation) (r .flag) v) where
+      module _ {v : List ℕ} {b : Bool} (e : a ≡ true) (u : v ≡ valueOf l) (p : b ≡ textPasses (r .text) w (r .collation) (r .flag) v) where
         text-as : (b && parametersHold s q i (lineOf l)) ≡ lineHolds s q i r (lineOf l)
         text-as =
-            ap (λ (t : Bool). t && parametersHold s q i (lineOf l)) (w ∙ ap (textHolds s q (r .text) (r .collation) (r .flag)) u)
+            ap (λ (t : Bool). t && parametersHold s q i (lineOf l))
+            (p ∙ ap (textPasses (r .text) w (r .collation) (r .flag)) u ∙ text-given s q (r .text) (r .collation) (r .flag) (valueOf l) x)
             ∙ ap (λ (t : Bool). t && textHolds s q (r .text) (r .collation) (r .flag) (valueOf l) && parametersHold s q i (lineOf l)) (sym e)
             ∙ line-as
 
@@ -359,26 +397,3 @@ module _ (s : List ℕ) (q : Sections) where
 
       pub property-text : r .text ≤ q .texts .count
       property-text = property-good .text-there
-
--- ---- a property test, by the place of the lines
-
-pub property-by-place : (p : List ℕ) (q : Sections) (j : ℕ) (r : PropertyRecord) (s : List ℕ) (at i : ℕ)
-    → propertyHolds p q j r (propertiesIn (itemsOf 0 (linesFrom s at i))) ≡ propertyHolds p q j r (propertiesAt s at)
-unfolding propertyHolds
-property-by-place p q j r s at i =
-    ap (λ (t : Bool). cond (eqb (r .flag) 1) (not t) (someLine p q j r (propertiesIn (itemsOf 0 (linesFrom s at i)))))
-    (from-any (named-lines (textOf p q (r .name))) s at i)
-    ∙ ap (λ (t : Bool). cond (eqb (r .flag) 1) (not (someNamed (textOf p q (r .name)) (propertiesAt s at))) t) (from-any (holding-lines p q j r) s at i)
-
-every-same : (n : ℕ) (f g : ℕ → Bool) → ((i : ℕ) → f i ≡ g i) → everyBelow n f ≡ everyBelow n g
-unfolding everyBelow
-every-same zero f g h = refl
-every-same (suc n) f g h = ap (λ (t : Bool). t && f n) (every-same n f g h) ∙ ap (λ (t : Bool). everyBelow n g && t) (h n)
-
--- every property test of a component record
-pub properties-by-place : (p : List ℕ) (q : Sections) (k : ℕ) (s : List ℕ) (at i : ℕ)
-    → propertiesHold p q k (propertiesIn (itemsOf 0 (linesFrom s at i))) ≡ propertiesHold p q k (propertiesAt s at)
-unfolding propertiesHold propertyPasses
-properties-by-place p q k s at i =
-    every-same (q .properties .count) _ _
-    (λ j. ap (implies (eqb (propertyAt p q j .component) k)) (property-by-place p q j (propertyAt p q j) s at i))

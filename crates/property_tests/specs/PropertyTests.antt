@@ -8,8 +8,7 @@ use Rattle.text.specs.TextMatch.{contains}
 use Rattle.text.specs.declared.Collation.{Collation}
 use Rattle.line.specs.Grammar.{ContentLine}
 use Rattle.line.specs.Reading.{hasParameter, valuesNamed}
-use Rattle.nesting.specs.Components.{Numbered, itemsOf, propertiesIn}
-use Rattle.nesting.specs.Passing.{linesFrom}
+use Rattle.nesting.specs.Components.{Numbered}
 use Rattle.query.specs.Records.{textOf, propertyAt, parameterAt}
 use Rattle.query.specs.Counting.{everyBelow, implies}
 use Rattle.query.specs.declared.Sections.{Sections}
@@ -26,10 +25,25 @@ unfoldable pub textHolds : List ℕ → Sections → ℕ → ℕ → ℕ → Lis
 textHolds s q zero c f v = true
 textHolds s q (suc t) c f v = cond (eqb f 2) (not (contains (collationOf c) v (textOf s q t))) (contains (collationOf c) v (textOf s q t))
 
+-- the bytes of a record's text, 0 for none
+unfoldable pub textOr : List ℕ → Sections → ℕ → List ℕ
+textOr s q zero = []
+textOr s q (suc t) = textOf s q t
+
+-- the same test with the bytes of text t at hand
+unfoldable pub textPasses : ℕ → List ℕ → ℕ → ℕ → List ℕ → Bool
+textPasses zero w c f v = true
+textPasses (suc t) w c f v = cond (eqb f 2) (not (contains (collationOf c) v w)) (contains (collationOf c) v w)
+
 -- some one value holds up
 unfoldable pub someValue : List ℕ → Sections → ParameterRecord → List (List ℕ) → Bool
 someValue s q r [] = false
 someValue s q r (v ∷ vs) = textHolds s q (r .text) (r .collation) (r .flag) v || someValue s q r vs
+
+-- the same with the bytes of the record's text at hand
+unfoldable pub somePasses : ParameterRecord → List ℕ → List (List ℕ) → Bool
+somePasses r w [] = false
+somePasses r w (v ∷ vs) = textPasses (r .text) w (r .collation) (r .flag) v || somePasses r w vs
 
 -- a parameter test on one line: flag 1 asks that no parameter has the name
 unfoldable pub parameterHolds : List ℕ → Sections → ContentLine → ParameterRecord → Bool
@@ -68,7 +82,3 @@ propertyPasses s q k xs i = implies (eqb (propertyAt s q i .component) k) (prope
 -- every property test of component record k
 unfoldable pub propertiesHold : List ℕ → Sections → ℕ → List Numbered → Bool
 propertiesHold s q k xs = everyBelow (q .properties .count) (propertyPasses s q k xs)
-
--- the lines directly in the component whose items begin at a place; by which number they begin plays no part in a test
-unfoldable pub propertiesAt : List ℕ → ℕ → List Numbered
-propertiesAt s at = propertiesIn (itemsOf 0 (linesFrom s at 1))

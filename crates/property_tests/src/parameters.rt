@@ -7,50 +7,53 @@ use query::ParameterRecord;
 use query::Sections;
 use query::fields;
 ghost use mathlib.Core.Path.{_≡_};
-ghost use mathlib.Core.Bool.{true};
+ghost use mathlib.Core.Bool.{true, _&&_};
 ghost use Prim.Native.Nat.{_≤_, _<_};
-ghost use Rattle.line.specs.Reading.{valuesOf, valuesNamed, lineOf};
+ghost use Rattle.line.specs.Reading.{isNamed, valuesOf, valuesNamed, lineOf};
 ghost use Rattle.query.specs.Fits.{Fits};
 ghost use Rattle.query_check.specs.WellFormed.{recordsGood};
-ghost use Rattle.property_tests.specs.PropertyTests.{someValue, parameterHolds, parameterPasses, parametersHold};
+ghost use Rattle.property_tests.specs.PropertyTests.{somePasses, parameterHolds, parameterPasses, parametersHold};
 
-// Does some value of a parameter hold up?
-fn some_value(query: &[u8], q: Sections, r: ParameterRecord, p: &[u8]) -> bool
-    requires { ⌜ Fits (now query) q ⌝ }
-    requires { ⌜ r .text ≤ q .texts .count ⌝ }
-    ensures { λ t. ⌜ t ≡ someValue (now (query .entry)) q r (valuesOf (now (p .entry))) ⌝ }
+// Does some value of a parameter hold up against the record's text? One pass, from comma to comma.
+fn some_value(r: ParameterRecord, text: &[u8], p: &[u8]) -> bool
+    ensures { λ t. ⌜ t ≡ somePasses r (now (text .entry)) (valuesOf (now (p .entry))) ⌝ }
 {
-    let n = read::value_count(p);
-    let mut k: usize = 0;
-    while k < n {
-        if texts::text_holds(
-            query,
-            q,
-            r.text,
-            r.collation,
-            r.flag,
-            read::parameter_value(p, k),
-        ) {
+    let values = split::after(p, 61, true);
+    let mut from: usize = 0;
+    loop {
+        let e = split::find(values, from, 44, true);
+        let v = split::quotes_off(&values[from..e]);
+        if texts::text_passes(r.text, text, r.collation, r.flag, v) {
             return true;
         }
-        k += 1;
+        if values.len() <= e {
+            return false;
+        }
+        from = e + 1;
     }
-    false
+}
+
+// Has a parameter the name, and does some value of it hold up?
+fn named_value(r: ParameterRecord, name: &[u8], text: &[u8], p: &[u8]) -> bool
+    ensures { λ t. ⌜ t ≡ (isNamed (now (name .entry)) (now (p .entry)) && somePasses r (now (text .entry)) (valuesOf (now (p .entry)))) ⌝ }
+{
+    if read::is_named(p, name) {
+        some_value(r, text, p)
+    } else {
+        false
+    }
 }
 
 // Does some value of a parameter of the name hold up?
-fn some_named(query: &[u8], q: Sections, r: ParameterRecord, name: &[u8], line: &[u8]) -> bool
-    requires { ⌜ Fits (now query) q ⌝ }
-    requires { ⌜ r .text ≤ q .texts .count ⌝ }
-    ensures { λ t. ⌜ t ≡ someValue (now (query .entry)) q r (valuesNamed (now (name .entry)) (lineOf (now (line .entry)) .parameters)) ⌝ }
+fn some_named(r: ParameterRecord, name: &[u8], text: &[u8], line: &[u8]) -> bool
+    ensures { λ t. ⌜ t ≡ somePasses r (now (text .entry)) (valuesNamed (now (name .entry)) (lineOf (now (line .entry)) .parameters)) ⌝ }
 {
     let h = read::head(line);
     let mut at = split::find(h, 0, 59, true);
     while at < h.len() {
         let from = at + 1;
         let e = split::find(h, from, 59, true);
-        let p = &h[from..e];
-        if read::is_named(p, name) & some_value(query, q, r, p) {
+        if named_value(r, name, text, &h[from..e]) {
             return true;
         }
         at = e;
@@ -69,10 +72,11 @@ fn parameter_holds(query: &[u8], q: Sections, line: &[u8], r: ParameterRecord) -
     let flag = r.flag;
     let name = fields::text_of(query, q, n);
     if flag == 1 {
-        !read::has_parameter(line, name)
-    } else {
-        some_named(query, q, r, name, line)
+        return !read::has_parameter(line, name);
     }
+    let t = r.text;
+    let text = texts::text_or(query, q, t);
+    some_named(r, name, text, line)
 }
 
 // Parameter record k, where it is one of property record i.

@@ -9,7 +9,7 @@ use lib.ListN.{length, take, drop}
 use lib.Seq.{length-take-le}
 use borrow.Author.Tests.{ltb-true, ltb-false, lt-ltb, le-ltb, lt-leb}
 use Rattle.text.specs.Unfolding.{unfolded, Unfolded}
-use Rattle.text.proofs.Unfolding.{unfolded-room, unfolded-front}
+use Rattle.text.proofs.Unfolding.{unfolded-room, length-unfolded}
 use Rattle.line.specs.WellFormed.{lineCheck}
 use Rattle.line.specs.declared.check.LineCheck.{LineCheck}
 use Rattle.nesting.specs.Nesting.{nestingOf}
@@ -21,7 +21,7 @@ use Rattle.calendar.specs.declared.ValueCheck.{ValueCheck}
 use Rattle.calendar.specs.declared.RuleCheck.{RuleCheck}
 use Rattle.calendar.specs.declared.Fault.{Fault}
 use Rattle.refusals.specs.Refusals.{Row, lowest, NumbersRise, ends, goes-on, sizeRows, lineRow, nestingRow, unsupportedRow, badValueRow, ruleRow, calendarRows, contentsRows}
-use Rattle.refusals.specs.Stages.{sizeFault, CalendarRead, earlyFault, workBy}
+use Rattle.refusals.specs.Stages.{sizeFault, earlyFault, workBy}
 use Rattle.refusals.proofs.Refusals.{no-fault-here, same-number, stage-passed, stage-refused, lowest-above}
 
 -- ---- numbers that rise from stage to stage
@@ -197,6 +197,5 @@ module _ {cal work left : List ℕ} {n : ℕ} (u : Unfolded cal work left n) whe
   pub unfolded-long : n ≡ length (take n left)
   unfolded-long = sym (length-take-le n left (unfolded-room u))
 
-  pub calendar-read : {f : Fault} (c : Context) → f ≡ faultOf (meaningOf c (take n left))
-      → CalendarRead c cal work left (record { length = n; fault = f })
-  calendar-read c e = record { unfolds = u; fault-is = e ∙ ap (λ (x : List ℕ). faultOf (meaningOf c x)) (unfolded-front u) }
+  pub unfolded-small : length cal ≤ 65536 → n ≤ 65536
+  unfolded-small h = omega (arith, u .count, length-unfolded cal)

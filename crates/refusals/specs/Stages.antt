@@ -1,25 +1,16 @@
 -- The stages that both calls have: the refusals of each, and what it leaves in the work buffer (document 01, Refusal numbers).
 use Prim.Native.Nat.{ℕ}
-use mathlib.Core.Path.{_≡_}
 use mathlib.Core.Bool.{Bool, true, false}
 use mathlib.Core.List.{List, [], _++_}
 use lib.Dec.{leb}
 use lib.ListN.{length, drop}
-use Rattle.text.specs.Unfolding.{unfolded, Unfolded}
-use Rattle.values.specs.declared.times.Context.{Context}
-use Rattle.calendar.specs.Meaning.{meaningOf, faultOf}
+use Rattle.text.specs.Unfolding.{unfolded}
 use Rattle.calendar.specs.declared.Fault.{Fault}
 use Rattle.refusals.specs.Refusals.{lowest, sizeRows}
-use Rattle.refusals.specs.declared.Reading.{Reading}
 
 -- refusals 2 and 3
 unfoldable pub sizeFault : List ℕ → List ℕ → Fault
 sizeFault cal work = lowest (sizeRows cal work [])
-
--- the calendar unfolded in the work buffer, and its refusal of 6 to 10
-pub record CalendarRead (c : Context) (cal work left : List ℕ) (r : Reading) : Type 0 where
-  pub unfolds : Unfolded cal work left (r .length)
-  pub fault-is : r .fault ≡ faultOf (meaningOf c (unfolded cal))
 
 -- ---- the work buffer
 

@@ -1,24 +1,14 @@
 // The stages that both calls have, each against its rows of the refusal table.
 // The signed offset is turned into an unsigned number here, and nowhere below.
 use calendar::Fault;
-use values::times::Context;
 ghost use mathlib.Core.Path.{_≡_};
-ghost use Prim.Native.Nat.{_≤_};
-ghost use lib.ListN.{length};
-ghost use Rattle.values.specs.Times.{ContextGood};
 ghost use Rattle.refusals.specs.Offsets.{offsetRead};
-ghost use Rattle.refusals.specs.Stages.{sizeFault, CalendarRead};
+ghost use Rattle.refusals.specs.Stages.{sizeFault};
 
 // The offset as 50,400 more than it, or that it is out of bounds.
 pub enum OffsetRead {
     Of(u64),
     Bad,
-}
-
-// What is known of a calendar once it is unfolded: how many bytes it then has, and its lowest refusal.
-pub struct Reading {
-    pub length: usize,
-    pub fault: Fault,
 }
 
 // Refusal 1.
@@ -45,18 +35,4 @@ pub fn check_sizes(cal: &[u8], work: &[u8]) -> Fault
         return Fault::At(3, 0);
     }
     Fault::None
-}
-
-// Unfolds the calendar to the front of the work buffer; then refusals 6 to 10.
-pub fn read_calendar(work: &mut [u8], cal: &[u8], c: Context) -> Reading
-    requires { ⌜ length (now cal) ≤ length (now work) ⌝ }
-    requires { ⌜ ContextGood c ⌝ }
-    ensures { λ r. ⌜ CalendarRead c (now (cal .entry)) (now (work .entry)) (now (work .exit)) r ⌝ }
-{
-    let n = text::unfold_into(work, cal);
-    let f = calendar::faults::check_calendar(&work[..n], c);
-    Reading {
-        length: n,
-        fault: f,
-    }
 }

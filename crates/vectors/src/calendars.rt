@@ -6,6 +6,9 @@ use crate::out::print_number;
 use calendar::Fault;
 use values::times::Context;
 ghost use Prim.Native.Nat.{_≤_};
+ghost use lib.ListN.{length};
+ghost use Rattle.values.specs.Times.{ContextGood};
+ghost use Rattle.structure.specs.Rows.{FileRows};
 
 // A number in decimal, up to 100,800; any other byte counts as 0.
 fn shift(s: &[u8]) -> u64
@@ -50,6 +53,31 @@ fn show_fault(f: Fault) {
     }
 }
 
+// Refusals 8 to 10 of a calendar that index and rows know. The pieces are not asked for.
+fn contents_fault(s: &[u8], index: &[u32], rows: &[u32], c: Context) -> Fault
+    requires { ⌜ FileRows (now s) (now index) (now rows) ⌝ }
+    requires { ⌜ ContextGood c ⌝ }
+{
+    let mut column = [0u32; 1539];
+    let mut entries = [0u64; 3072];
+    let read = contents::read_contents(&mut column, &mut entries, s, index, rows, c, 0, 1);
+    read.fault
+}
+
+// Refusals 6 to 10 of an unfolded calendar.
+fn fault_of(s: &[u8], c: Context) -> Fault
+    requires { ⌜ length (now s) ≤ 65536 ⌝ }
+    requires { ⌜ ContextGood c ⌝ }
+{
+    let mut index = [0u32; 16385];
+    let mut rows = [0u32; 1024];
+    let structure = structure::read_structure(&mut index, &mut rows, s);
+    match calendar::faults::structure_fault(structure) {
+        Fault::At(n, line) => Fault::At(n, line),
+        Fault::None => contents_fault(s, &index, &rows, c),
+    }
+}
+
 fn check(cal: &[u8], shift: u64)
     requires { ⌜ shift ≤ 100800 ⌝ }
 {
@@ -58,8 +86,12 @@ fn check(cal: &[u8], shift: u64)
         print(b"too long");
         return;
     }
+    if 65536 < cal.len() {
+        print(b"too long");
+        return;
+    }
     let n = text::unfold_into(&mut work, cal);
-    show_fault(calendar::faults::check_calendar(&work[..n], Context { shift }));
+    show_fault(fault_of(&work[..n], Context { shift }));
 }
 
 // The offset as 50,400 more than it, a blank, and the calendar in hex.

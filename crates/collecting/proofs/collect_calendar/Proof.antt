@@ -1,7 +1,7 @@
 -- The tables are those of the part of the buffer that unfolding wrote.
 use Rattle.text.proofs.Unfolding.{unfolded-room}
-use Rattle.refusals.proofs.Stages.{unfolded-long}
-use Rattle.collecting.proofs.CollectStages.{calendar-collected, unfolded-small}
+use Rattle.refusals.proofs.Stages.{unfolded-long, unfolded-small}
+use Rattle.collecting.proofs.CollectStages.{calendar-collected}
 use native.Mathlib.Omega.{arith}
 use borrow.Author.Needs.{needs}
 use Rattle.collecting.proofs.collect_calendar.Statement.{statement}

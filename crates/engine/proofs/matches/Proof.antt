@@ -7,7 +7,7 @@ use Rattle.calendar.specs.declared.Fault.{Fault}
 use Rattle.refusals.specs.Offsets.{offsetRead}
 use Rattle.refusals.specs.Stages.{sizeFault}
 use Rattle.refusals.specs.declared.OffsetRead.{OffsetRead}
-use Rattle.refusals.proofs.Stages.{sizes-room}
+use Rattle.refusals.proofs.Stages.{sizes-room, sizes-small}
 use Rattle.refusals.proofs.Offsets.{shift-bound, offset-given}
 use Rattle.engine.proofs.MatchStages.{match-refused-1, match-refused-sizes, match-sizes-passed}
 use borrow.Author.Needs.{needs}
@@ -41,7 +41,7 @@ sizes-pass : (c : tie.After-enum-told2) → sizeFault (now (c .before .before .b
 sizes-pass c = sym (c .before .before .check-sizes .ensures) ∙ c .enum-told2 .given .1
 
 match-query-requires : tie.Need-match-query-requires
-match-query-requires c κs = (sizes-room _ _ (sizes-pass (c .before)), shift-bound _ (offset-good (c .before .before .before .before .before)))
+match-query-requires c κs = (sizes-room _ _ (sizes-pass (c .before)), (sizes-small _ _ (sizes-pass (c .before)), shift-bound _ (offset-good (c .before .before .before .before .before))))
 
 returns : tie.Need-returns
 returns c = match-refused-1 _ _ _ _ (offset-given (toZ-ofZ w64 (c .before .before .before .before .before .before .args .offset) (c .before .before .before .before .before .before .fits .offset)) (c .before .before .read-offset .ensures) (c .enum-told .given .1))

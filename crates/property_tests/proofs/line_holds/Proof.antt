@@ -1,44 +1,54 @@
 -- A line of another name fails; one of the name goes by its value, and then by its parameters.
-use mathlib.Core.Path.{refl}
 use borrow.Author.Tests.{not-true, not-false}
 use Rattle.property_tests.proofs.PropertyTests.{line-other, line-valued, line-failed}
 use borrow.Author.Needs.{needs}
 use Rattle.property_tests.proofs.line_holds.Statement.{statement}
 use Rattle.property_tests.proofs.line_holds.Tie as tie
 
-text-of-requires : tie.Need-text-of-requires
-text-of-requires c κs = search needs
-
 is-called-requires : tie.Need-is-called-requires
 is-called-requires c κs = search needs
 
 returns : tie.Need-returns
-returns c = line-other _ _ _ _ _ refl (c .before .before .text-of .ensures) (c .before .is-called .ensures) (not-true _ (c .if1 .taken))
+returns c = line-other _ _ _ _ _ (c .before .before .before .before .before .before .pre .1 .1 .0) (c .before .before .before .before .before .before .pre .1 .1 .1) (c .before .is-called .ensures) (not-true _ (c .if1 .taken))
 
 value-requires : tie.Need-value-requires
 value-requires c κs = search needs
 
-text-holds-requires : tie.Need-text-holds-requires
-text-holds-requires c κs = search needs
+text-passes-requires : tie.Need-text-passes-requires
+text-passes-requires c κs = search needs
 
 parameters-hold-requires : tie.Need-parameters-hold-requires
 parameters-hold-requires c κs = search needs
 
 returns-2 : tie.Need-returns-2
-returns-2 c = line-valued _ _ _ _ _ refl (c .before .before .before .before .before .before .text-of .ensures) (c .before .before .before .before .before .is-called .ensures) (not-false _ (c .before .before .before .before .if1 .left)) (c .before .before .before .value .ensures) (c .before .before .text-holds .ensures) (c .before .if2 .taken) (c .parameters-hold .ensures)
+returns-2 c =
+    line-valued _ _ _ _ _
+    (c .before .before .before .before .before .before .before .before .before .before .pre .1 .1 .0)
+    (c .before .before .before .before .before .before .before .before .before .before .pre .1 .1 .1)
+    (c .before .before .before .before .before .is-called .ensures)
+    (not-false _ (c .before .before .before .before .if1 .left))
+    (c .before .before .before .value .ensures)
+    (c .before .before .text-passes .ensures) (c .before .if2 .taken)
+    (c .parameters-hold .ensures)
 
 returns-3 : tie.Need-returns-3
-returns-3 c = line-failed _ _ _ _ _ refl (c .before .before .before .before .before .text-of .ensures) (c .before .before .before .before .is-called .ensures) (not-false _ (c .before .before .before .if1 .left)) (c .before .before .value .ensures) (c .before .text-holds .ensures) (c .if2 .left)
+returns-3 c =
+    line-failed _ _ _ _ _
+    (c .before .before .before .before .before .before .before .before .before .pre .1 .1 .0)
+    (c .before .before .before .before .before .before .before .before .before .pre .1 .1 .1)
+    (c .before .before .before .before .is-called .ensures)
+    (not-false _ (c .before .before .before .if1 .left))
+    (c .before .before .value .ensures)
+    (c .before .text-passes .ensures) (c .if2 .left)
 
 pub line-holds-spec : {M : Type 1} → statement M
 line-holds-spec =
     tie.close
     (tie.spec
-    text-of-requires
     is-called-requires
     returns
     value-requires
-    text-holds-requires
+    text-passes-requires
     parameters-hold-requires
     returns-2
     returns-3)

@@ -1,26 +1,28 @@
 -- Every record so far passes, and the first that does not decides.
-use Rattle.property_tests.specs.PropertyTests.{propertiesAt, propertyPasses, propertiesHold}
-use mathlib.Core.Bool.{true}
-use Rattle.query.specs.Counting.{everyBelow}
-use borrow.Author.Tests.{not-true, not-false}
-use Rattle.query.proofs.Counting.{every-start, every-stop, every-next, every-end}
 use Prim.Native.Nat.{_-_, _≤_}
+use mathlib.Core.Bool.{true}
+use borrow.Author.Tests.{not-true, not-false}
+use Rattle.nesting.specs.Components.{propertiesIn}
+use Rattle.structure.specs.Rows.{componentBy}
+use Rattle.query.specs.Counting.{everyBelow}
+use Rattle.query.proofs.Counting.{every-start, every-stop, every-next, every-end}
+use Rattle.property_tests.specs.PropertyTests.{propertyPasses, propertiesHold}
 use mathlib.Core.Path.{_≡_, sym, _∙_}
 use native.Mathlib.Omega.{arith}
 use Rattle.property_tests.proofs.properties_hold.Statement.{statement}
 use Rattle.property_tests.proofs.properties_hold.Tie as tie
 
 abbrev Inv-loop : tie.InvT-loop
-Inv-loop query q k s at n i₀ i = (i ≤ q .properties .count) × (everyBelow i (propertyPasses query q k (propertiesAt s at)) ≡ true)
+Inv-loop query q j s index rows k n i₀ i = (i ≤ q .properties .count) × (everyBelow i (propertyPasses query q j (propertiesIn (componentBy s rows k .items))) ≡ true)
 
 abbrev μ-loop : tie.MeasureT-loop
-μ-loop query q k s at n i₀ i = n - i
+μ-loop query q j s index rows k n i₀ i = n - i
 
 loop-holds : tie.Need-loop-holds Inv-loop μ-loop
 loop-holds c = (omega arith, every-start _)
 
 property-passes-requires : tie.Need-property-passes-requires Inv-loop μ-loop
-property-passes-requires c κs = (c .before .before .before .before .before .pre .0, (c .before .before .before .before .before .pre .1, c .loop-test .taken))
+property-passes-requires c κs = (c .before .before .before .before .before .before .before .pre .0, (c .before .before .before .before .before .before .before .pre .1 .0, (c .loop-test .taken, c .before .before .before .before .before .before .before .pre .1 .1)))
 
 returns : tie.Need-returns Inv-loop μ-loop
 unfolding propertiesHold

@@ -8,7 +8,7 @@ property-at-requires : tie.Need-property-at-requires
 property-at-requires c κs = search needs
 
 property-holds-requires : tie.Need-property-holds-requires
-property-holds-requires c κs = search needs
+property-holds-requires c κs = c .before .before .before .before .before .before .before .pre
 
 returns : tie.Need-returns
 returns c = property-asked _ _ _ (c .before .before .before .property-at .ensures) _ _ (c .before .if1 .taken) (c .property-holds .ensures)

@@ -1,68 +1,97 @@
 -- No line so far has the name, so the lines that are left decide.
 use Rattle.property_tests.specs.PropertyTests.{someNamed}
-use Rattle.property_tests.proofs.PropertyTests.{named-lines, named-line, Seeking, seeking-start, seeking-next, seeking-found, seeking-inner, seeking-end}
+use Rattle.property_tests.proofs.PropertyTests.{named-lines, named-line}
+use Rattle.structure.proofs.ItemsLaws.{property-at, inner-at, no-item-at}
+use Rattle.property_tests.proofs.PropertyTests.{Seeking, row-ends, seeking-start, seeking-small, seeking-line, seeking-next, seeking-found, seeking-inner, seeking-end}
 use Prim.Native.Nat.{_-_}
-use mathlib.Core.Path.{refl}
-use lib.ListN.{length}
-use Rattle.nesting.proofs.Components.{property-at, inner-at, no-item-at}
 use native.Mathlib.Omega.{arith}
 use borrow.Author.Needs.{needs}
 use Rattle.property_tests.proofs.some_named.Statement.{statement}
 use Rattle.property_tests.proofs.some_named.Tie as tie
 
 abbrev Inv-loop : tie.InvT-loop
-Inv-loop name s from at₀ at = Seeking (someNamed name) s from at
+Inv-loop name s index rows k i₀ row₀ stop end i row = Seeking (someNamed name) s rows k i row stop end
 
 abbrev μ-loop : tie.MeasureT-loop
-μ-loop name s from at₀ at = length s - at
+μ-loop name s index rows k i₀ row₀ stop end i row = stop - i
+
+first-line-requires : tie.Need-first-line-requires Inv-loop μ-loop
+first-line-requires c κs = c .before .before .before .before .pre .1 .room
+
+add-row : tie.Need-add-row Inv-loop μ-loop
+add-row c = omega (arith, c .before .before .before .before .before .pre .1 .few)
+
+line-behind-requires : tie.Need-line-behind-requires Inv-loop μ-loop
+line-behind-requires c κs = c .before .before .before .before .before .pre .1 .room
+
+sub-stop : tie.Need-sub-stop Inv-loop μ-loop
+sub-stop c = row-ends (c .before .before .before .before .before .before .pre .1) (c .line-behind .ensures)
+
+next-row-requires : tie.Need-next-row-requires Inv-loop μ-loop
+next-row-requires c κs = c .before .before .before .before .before .before .pre .1 .room
 
 loop-holds : tie.Need-loop-holds Inv-loop μ-loop
-loop-holds c = seeking-start _ _ _
+loop-holds c = seeking-start _ (c .before .before .before .before .before .before .before .pre .1) (c .before .before .first-line .ensures) (c .before .line-behind .ensures) (c .next-row .ensures)
 
-next-item-requires : tie.Need-next-item-requires Inv-loop μ-loop
-next-item-requires c κs = search needs
+item-at-requires : tie.Need-item-at-requires Inv-loop μ-loop
+item-at-requires c κs = ((c .loop .inv .left .few, c .loop .inv .left .room), omega (arith, seeking-small (c .loop .inv), c .loop .inv .left .inside))
 
-enum-known-e : tie.Need-enum-known-e Inv-loop μ-loop
-enum-known-e c = search needs
+enum-told : tie.Need-enum-told Inv-loop μ-loop
+enum-told c = search needs
 
-sub-is-called : tie.Need-sub-is-called Inv-loop μ-loop
-sub-is-called c = let h = property-at _ _ (c .before .before .before .next-item .ensures) (c .before .e .given .1) in omega (arith, h .line .starts, h .line .ends, h .line .inside)
-
-part-is-called-start : tie.Need-part-is-called-start Inv-loop μ-loop
-part-is-called-start c = let h = property-at _ _ (c .before .before .before .next-item .ensures) (c .before .e .given .1) in omega (arith, h .line .starts, h .line .ends, h .line .inside)
-
-part-is-called-end : tie.Need-part-is-called-end Inv-loop μ-loop
-part-is-called-end c = let h = property-at _ _ (c .before .before .before .next-item .ensures) (c .before .e .given .1) in omega (arith, h .line .starts, h .line .ends, h .line .inside)
+line-at-requires : tie.Need-line-at-requires Inv-loop μ-loop
+line-at-requires c κs =
+    seeking-line
+    (c .before .before .before .loop .inv)
+    (c .before .before .before .before .before .before .before .before .before .before .before .pre .0)
+    (property-at (c .before .before .before .loop .inv .left) (c .before .before .item-at .ensures) (c .enum-told .given .1))
 
 is-called-requires : tie.Need-is-called-requires Inv-loop μ-loop
 is-called-requires c κs = search needs
 
 returns : tie.Need-returns Inv-loop μ-loop
-returns c = seeking-found (named-lines _) (c .before .before .before .before .before .before .before .loop .inv) (property-at _ _ (c .before .before .before .before .before .before .next-item .ensures) (c .before .before .before .before .e .given .1)) (named-line _ _ refl (c .before .is-called .ensures)) (c .if1 .taken)
+returns c =
+    seeking-found (named-lines _)
+    (c .before .before .before .before .before .before .loop .inv)
+    (property-at (c .before .before .before .before .before .before .loop .inv .left) (c .before .before .before .before .before .item-at .ensures) (c .before .before .before .enum-told .given .1))
+    (c .before .before .line-at .ensures)
+    (named-line _ _ (c .before .is-called .ensures)) (c .if1 .taken)
+
+add-i : tie.Need-add-i Inv-loop μ-loop
+add-i c = omega (arith, seeking-small (c .before .before .before .before .before .before .loop .inv), c .before .before .before .before .before .before .loop .inv .left .inside)
 
 loop-less : tie.Need-loop-less Inv-loop μ-loop
-loop-less c = let h = property-at _ _ (c .before .before .before .before .before .before .next-item .ensures) (c .before .before .before .before .e .given .1) in omega (arith, h .line .goes-on, h .line .inside)
+loop-less c =
+    let h =
+    property-at
+    (c .before .before .before .before .before .before .loop .inv .left)
+    (c .before .before .before .before .before .item-at .ensures)
+    (c .before .before .before .enum-told .given .1)
+    in
+    omega (arith, h .onward)
 
 loop-again : tie.Need-loop-again Inv-loop μ-loop
-loop-again c = seeking-next (named-lines _) (c .before .before .before .before .before .before .before .loop .inv) (property-at _ _ (c .before .before .before .before .before .before .next-item .ensures) (c .before .before .before .before .e .given .1)) (named-line _ _ refl (c .before .is-called .ensures)) (c .if1 .left)
+loop-again c =
+    seeking-next (named-lines _)
+    (c .before .before .before .before .before .before .loop .inv)
+    (property-at (c .before .before .before .before .before .before .loop .inv .left) (c .before .before .before .before .before .item-at .ensures) (c .before .before .before .enum-told .given .1))
+    (c .before .before .line-at .ensures)
+    (named-line _ _ (c .before .is-called .ensures)) (c .if1 .left)
 
 enum-known-next : tie.Need-enum-known-next Inv-loop μ-loop
 enum-known-next c = search needs
 
-skip-component-requires : tie.Need-skip-component-requires Inv-loop μ-loop
-skip-component-requires c κs = let h = inner-at _ _ (c .before .before .before .next-item .ensures) (c .before .next .given .1) in (h .line .inside, omega arith)
-
 loop-less-2 : tie.Need-loop-less-2 Inv-loop μ-loop
-loop-less-2 c = let h = inner-at _ _ (c .before .before .before .before .next-item .ensures) (c .before .before .next .given .1) in omega (arith, h .line .goes-on, h .line .inside, c .skip-component .ensures .onward, c .skip-component .ensures .within)
+loop-less-2 c = let h = inner-at (c .before .before .before .before .loop .inv .left) _ _ (c .before .before .before .item-at .ensures) (c .before .next .given .1) in omega (arith, h .onward, h .within)
 
 loop-again-2 : tie.Need-loop-again-2 Inv-loop μ-loop
-loop-again-2 c = seeking-inner (named-lines _) (c .before .before .before .before .before .loop .inv) (inner-at _ _ (c .before .before .before .before .next-item .ensures) (c .before .before .next .given .1)) (c .skip-component .ensures)
+loop-again-2 c = seeking-inner (named-lines _) (c .before .before .before .before .loop .inv) (inner-at (c .before .before .before .before .loop .inv .left) _ _ (c .before .before .before .item-at .ensures) (c .before .next .given .1))
 
-enum-told : tie.Need-enum-told Inv-loop μ-loop
-enum-told c = search needs
+enum-told-2 : tie.Need-enum-told-2 Inv-loop μ-loop
+enum-told-2 c = search needs
 
 returns-2 : tie.Need-returns-2 Inv-loop μ-loop
-returns-2 c = seeking-end (named-lines _) (c .before .before .before .loop .inv) (no-item-at (c .before .before .next-item .ensures) (c .enum-told .given .1))
+returns-2 c = seeking-end (named-lines _) (c .before .before .before .loop .inv) (no-item-at (c .before .before .before .loop .inv .left) (c .before .before .item-at .ensures) (c .enum-told2 .given .1))
 
 pub some-named-spec : {M : Type 1} → statement M
 some-named-spec =
@@ -70,19 +99,22 @@ some-named-spec =
     (tie.spec
     Inv-loop
     μ-loop
+    first-line-requires
+    add-row
+    line-behind-requires
+    sub-stop
+    next-row-requires
     loop-holds
-    next-item-requires
-    enum-known-e
-    sub-is-called
-    part-is-called-start
-    part-is-called-end
+    item-at-requires
+    enum-told
+    line-at-requires
     is-called-requires
     returns
+    add-i
     loop-less
     loop-again
     enum-known-next
-    skip-component-requires
     loop-less-2
     loop-again-2
-    enum-told
+    enum-told-2
     returns-2)

@@ -1,52 +1,37 @@
--- The filter is asked of the unfolded calendar, once it has no fault.
+-- The answer is that of the part of the buffer that unfolding wrote.
 use Rattle.text.proofs.Unfolding.{unfolded-room}
-use Rattle.refusals.proofs.Stages.{unfolded-long}
-use Rattle.engine.proofs.MatchStages.{match-refused, match-verdict}
+use Rattle.refusals.proofs.Stages.{unfolded-long, unfolded-small}
+use Rattle.engine.proofs.MatchStages.{match-calendar-read}
+use native.Mathlib.Omega.{arith}
 use borrow.Author.Needs.{needs}
 use Rattle.engine.proofs.matching.match_calendar.Statement.{statement}
 use Rattle.engine.proofs.matching.match_calendar.Tie as tie
 
-read-calendar-requires : tie.Need-read-calendar-requires
-read-calendar-requires c κs = search needs
+unfold-into-requires : tie.Need-unfold-into-requires
+unfold-into-requires c κs = search needs
 
-enum-known-f : tie.Need-enum-known-f
-enum-known-f c = search needs
+slice-reshare-prefix-match-unfolded : tie.Need-slice-reshare-prefix-match-unfolded
+slice-reshare-prefix-match-unfolded c = unfolded-room (c .before .before .unfold-into .ensures)
 
-enum-told : tie.Need-enum-told
-enum-told c = search needs
+slice-aggregate-match-unfolded : tie.Need-slice-aggregate-match-unfolded
+slice-aggregate-match-unfolded c = unfolded-long (c .before .before .before .unfold-into .ensures)
 
-slice-reshare-prefix-query-holds : tie.Need-slice-reshare-prefix-query-holds
-slice-reshare-prefix-query-holds c = unfolded-room (c .before .before .before .before .read-calendar .ensures .unfolds)
-
-slice-aggregate-query-holds : tie.Need-slice-aggregate-query-holds
-slice-aggregate-query-holds c = unfolded-long (c .before .before .before .before .before .read-calendar .ensures .unfolds)
-
-query-holds-requires : tie.Need-query-holds-requires
-query-holds-requires c κs = search needs
+match-unfolded-requires : tie.Need-match-unfolded-requires
+match-unfolded-requires c κs = (omega (arith, unfolded-small (c .before .before .before .unfold-into .ensures) (c .before .before .before .before .before .before .before .before .pre .1 .0), unfolded-long (c .before .before .before .unfold-into .ensures)), c .before .before .before .before .before .before .before .before .pre .1 .1)
 
 same-length : tie.Need-same-length
 same-length c = search needs
 
 returns : tie.Need-returns
-returns c = match-refused _ _ (c .before .before .before .before .before .read-calendar .ensures) _ _ (c .before .f .given .1)
-
-same-length-2 : tie.Need-same-length-2
-same-length-2 c = search needs
-
-returns-2 : tie.Need-returns-2
-returns-2 c = match-verdict _ _ (c .before .before .before .before .before .before .read-calendar .ensures) _ _ (c .before .before .enum-told .given .1) (c .query-holds .ensures)
+returns c = match-calendar-read _ _ _ _ _ (c .before .before .before .before .unfold-into .ensures) (c .match-unfolded .ensures)
 
 pub match-calendar-spec : {M : Type 1} → statement M
 match-calendar-spec =
     tie.close
     (tie.spec
-    read-calendar-requires
-    enum-known-f
-    enum-told
-    slice-reshare-prefix-query-holds
-    slice-aggregate-query-holds
-    query-holds-requires
+    unfold-into-requires
+    slice-reshare-prefix-match-unfolded
+    slice-aggregate-match-unfolded
+    match-unfolded-requires
     same-length
-    returns
-    same-length-2
-    returns-2)
+    returns)

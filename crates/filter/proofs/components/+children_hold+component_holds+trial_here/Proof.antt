@@ -1,20 +1,17 @@
 -- Of the records of one parent the first that fails decides, and of the components side by side the first that passes; what is tried of one
 -- component asks the records of higher numbers.
-use Prim.Native.Nat.{ℕ, _+_, _-_, _*_, _<_, _≤_}
-use mathlib.Core.Path.{refl, _∙_}
+use Prim.Native.Nat.{ℕ, _+_, _-_, _*_, _<_}
+use mathlib.Core.Path.{_∙_}
 use native.Mathlib.Omega.{arith}
-use lib.ListN.{length}
-use borrow.Author.Needs.{needs}
+use lib.ListN.{getD}
 use borrow.Author.Tests.{not-true, not-false}
 use borrow.Fn.Kinds.{In}
 use borrow.Fn.PlainCycle.{Measures, is, falls, and}
-use Rattle.nesting.specs.Components.{itemsOf}
-use Rattle.nesting.specs.Passing.{linesFrom, InnerAt}
-use Rattle.nesting.proofs.Components.{property-at, inner-at, no-item-at}
-use Rattle.calendar.proofs.Loops.{Passing, passing-start, passing-property, passing-inner, passing-found, passing-end}
-use Rattle.filter.specs.Trials.{Tried, SmallTrial}
-use Rattle.filter.proofs.TrialsLaws.{tried-counted, tried-found, tried-more, tried-end}
-use Rattle.filter.proofs.Tests.{component-name, component-range, here-not, here-childless, here-tried, here-small, someHere, here-found, here-passed, here-none, test-absent, test-there, Descending, descending-start, descending-other, descending-next, descending-stop, descending-end}
+use Rattle.structure.specs.Rows.{componentsBy}
+use Rattle.filter.specs.Trials.{Tried}
+use Rattle.filter.proofs.Tests.{Beside, beside-start, beside-here, beside-next, beside-found, beside-end, component-name, component-range, record-name, someHere, here-none, test-absent, test-there, child-as, Descending, descending-start, descending-other, descending-next, descending-stop, descending-end}
+use Rattle.filter.proofs.RangesLaws.{row-small, beside-file, inner-among}
+use Rattle.filter.proofs.TrialsLaws.{tried-counted, tried-found, tried-more, tried-end, here-not, here-childless, here-tried, here-found, here-passed}
 use Rattle.filter.proofs.components.children_hold.Reads as children-hold
 use Rattle.filter.proofs.components.children_hold.Kinds as children-hold-kinds
 use Rattle.filter.proofs.components.+children_hold+component_holds+trial_here.Lts-children_hold as children-hold-lts
@@ -24,88 +21,120 @@ use Rattle.filter.proofs.components.+children_hold+component_holds+tria
 use Rattle.filter.proofs.components.trial_here.Reads as trial-here
 use Rattle.filter.proofs.components.trial_here.Kinds as trial-here-kinds
 use Rattle.filter.proofs.components.+children_hold+component_holds+trial_here.Lts-trial_here as trial-here-lts
-use Rattle.calendar.proofs.places.scope_of.Reads as scope-of-reads
 use Rattle.filter.proofs.components.alone_holds.Reads as alone-holds-reads
 use Rattle.filter.proofs.components.some_component_named.Reads as some-component-named-reads
 use Rattle.filter.proofs.trials.first_tried.Reads as first-tried-reads
 use Rattle.filter.proofs.trials.goes_on.Reads as goes-on-reads
 use Rattle.filter.proofs.trials.passes.Reads as passes-reads
 use Rattle.filter.proofs.trials.trial_of.Reads as trial-of-reads
-use Rattle.line.proofs.read.value.Reads as value-reads
-use Rattle.nesting.proofs.items.next_item.Reads as next-item-reads
-use Rattle.nesting.proofs.items.skip_component.Reads as skip-component-reads
 use Rattle.query.proofs.fields.component_at.Reads as component-at-reads
 use Rattle.query.proofs.fields.text_of.Reads as text-of-reads
+use Rattle.structure.proofs.rows.next_row.Reads as next-row-reads
 use Rattle.filter.proofs.components.+children_hold+component_holds+trial_here.{statement}
 use Rattle.filter.proofs.components.+children_hold+component_holds+trial_here.Tie.{close}
 
 -- the records that are left, three steps for each
-abbrev μ-children-hold : Measures 2 children-hold-kinds.ps ℕ
+abbrev μ-children-hold : Measures 5 children-hold-kinds.ps ℕ
 μ-children-hold κs a = (a .1 .0 .components .count - a .1 .1 .0) * 3 + 1
 
-abbrev μ-component-holds : Measures 2 component-holds-kinds.ps ℕ
+abbrev μ-component-holds : Measures 5 component-holds-kinds.ps ℕ
 μ-component-holds κs a = (a .1 .0 .components .count - a .1 .1 .0) * 3
 
-abbrev μ-trial-here : Measures 3 trial-here-kinds.ps ℕ
+abbrev μ-trial-here : Measures 6 trial-here-kinds.ps ℕ
 μ-trial-here κs a = (a .1 .0 .components .count - a .1 .1 .0) * 3 - 1
 
-abbrev children-hold-at : ℕ → In 2 children-hold-kinds.ps
-children-hold-at t = and 2 children-hold-kinds.ps (is 2 children-hold-kinds.ps μ-children-hold t) children-hold.Pre
+abbrev children-hold-at : ℕ → In 5 children-hold-kinds.ps
+children-hold-at t =
+    and 5 children-hold-kinds.ps (is 5 children-hold-kinds.ps μ-children-hold t) children-hold.Pre
 
-abbrev children-hold-below : ℕ → In 2 children-hold-kinds.ps
-children-hold-below t = and 2 children-hold-kinds.ps (falls 2 children-hold-kinds.ps _<_ μ-children-hold t) children-hold.Pre
+abbrev children-hold-below : ℕ → In 5 children-hold-kinds.ps
+children-hold-below t =
+    and
+    5
+    children-hold-kinds.ps
+    (falls 5 children-hold-kinds.ps _<_ μ-children-hold t)
+    children-hold.Pre
 
-abbrev component-holds-at : ℕ → In 2 component-holds-kinds.ps
-component-holds-at t = and 2 component-holds-kinds.ps (is 2 component-holds-kinds.ps μ-component-holds t) component-holds.Pre
+abbrev component-holds-at : ℕ → In 5 component-holds-kinds.ps
+component-holds-at t =
+    and
+    5
+    component-holds-kinds.ps
+    (is 5 component-holds-kinds.ps μ-component-holds t)
+    component-holds.Pre
 
-abbrev component-holds-below : ℕ → In 2 component-holds-kinds.ps
-component-holds-below t = and 2 component-holds-kinds.ps (falls 2 component-holds-kinds.ps _<_ μ-component-holds t) component-holds.Pre
+abbrev component-holds-below : ℕ → In 5 component-holds-kinds.ps
+component-holds-below t =
+    and
+    5
+    component-holds-kinds.ps
+    (falls 5 component-holds-kinds.ps _<_ μ-component-holds t)
+    component-holds.Pre
 
-abbrev trial-here-at : ℕ → In 3 trial-here-kinds.ps
-trial-here-at t = and 3 trial-here-kinds.ps (is 3 trial-here-kinds.ps μ-trial-here t) trial-here.Pre
+abbrev trial-here-at : ℕ → In 6 trial-here-kinds.ps
+trial-here-at t =
+    and 6 trial-here-kinds.ps (is 6 trial-here-kinds.ps μ-trial-here t) trial-here.Pre
 
-abbrev trial-here-below : ℕ → In 3 trial-here-kinds.ps
-trial-here-below t = and 3 trial-here-kinds.ps (falls 3 trial-here-kinds.ps _<_ μ-trial-here t) trial-here.Pre
-
-abbrev children-hold-claims : ℕ → children-hold-lts.Claims
-children-hold-claims t = (component-at-reads.Asked, component-at-reads.Learnt, component-holds-below t, component-holds.Post)
-
-abbrev component-holds-claims : ℕ → component-holds-lts.Claims
-component-holds-claims t =
-    (component-at-reads.Asked, component-at-reads.Learnt, text-of-reads.Asked, text-of-reads.Learnt, some-component-named-reads.Asked, some-component-named-reads.Learnt, next-item-reads.Asked, next-item-reads.Learnt, value-reads.Asked, value-reads.Learnt, trial-here-below t, trial-here.Post, first-tried-reads.Asked, first-tried-reads.Learnt, goes-on-reads.Asked, goes-on-reads.Learnt, passes-reads.Asked, passes-reads.Learnt, skip-component-reads.Asked, skip-component-reads.Learnt)
-
-abbrev trial-here-claims : ℕ → trial-here-lts.Claims
-trial-here-claims t =
-    (alone-holds-reads.Asked, alone-holds-reads.Learnt, children-hold-below t, children-hold.Post, component-at-reads.Asked, component-at-reads.Learnt, scope-of-reads.Asked, scope-of-reads.Learnt, trial-of-reads.Asked, trial-of-reads.Learnt)
+abbrev trial-here-below : ℕ → In 6 trial-here-kinds.ps
+trial-here-below t =
+    and 6 trial-here-kinds.ps (falls 6 trial-here-kinds.ps _<_ μ-trial-here t) trial-here.Pre
 
 -- ---- the records of one parent
 
+abbrev children-hold-claims : ℕ → children-hold-lts.Claims
+children-hold-claims t =
+    (next-row-reads.Asked, next-row-reads.Learnt, component-at-reads.Asked, component-at-reads.Learnt, component-holds-below t, component-holds.Post)
+
 abbrev children-hold-Inv-loop : children-hold-lts.InvT-loop
-children-hold-Inv-loop query q from parent s at first c n k₀ k = Descending c query q parent (itemsOf 0 (linesFrom s at first)) from k
+children-hold-Inv-loop query q from parent s index rows column k c n inside end i₀ i = Descending c query q parent (componentsBy s rows (k + 1) (getD rows (4 * k + 2) 0)) from i
 
 abbrev children-hold-μ-loop : children-hold-lts.MeasureT-loop
-children-hold-μ-loop query q from parent s at first c n k₀ k = n - k
+children-hold-μ-loop query q from parent s index rows column k c n inside end i₀ i = n - i
+
+children-hold-add-inside : (t : ℕ) → children-hold-lts.Need-add-inside (children-hold-claims t) (children-hold-at t) children-hold.Post children-hold-Inv-loop children-hold-μ-loop
+children-hold-add-inside t c = omega (arith, c .before .before .before .before .before .before .pre .1 .1 .1 .1 .1 .1 .row .few)
+
+children-hold-next-row-requires : (t : ℕ) → children-hold-lts.Need-next-row-requires (children-hold-claims t) (children-hold-at t) children-hold.Post children-hold-Inv-loop children-hold-μ-loop
+children-hold-next-row-requires t c κs = c .before .before .before .before .before .before .pre .1 .1 .1 .1 .1 .1 .row .room
 
 children-hold-loop-holds : (t : ℕ) → children-hold-lts.Need-loop-holds (children-hold-claims t) (children-hold-at t) children-hold.Post children-hold-Inv-loop children-hold-μ-loop
-children-hold-loop-holds t c = descending-start _ _ _ _ _ _ (c .before .before .before .pre .1 .1 .1 .0)
+children-hold-loop-holds t c = descending-start _ _ _ _ _ _ (c .before .before .before .before .before .before .before .pre .1 .1 .1 .0)
 
 children-hold-add-next : (t : ℕ) → children-hold-lts.Need-add-next (children-hold-claims t) (children-hold-at t) children-hold.Post children-hold-Inv-loop children-hold-μ-loop
 children-hold-add-next t c = omega arith
 
 children-hold-component-at-requires : (t : ℕ) → children-hold-lts.Need-component-at-requires (children-hold-claims t) (children-hold-at t) children-hold.Post children-hold-Inv-loop children-hold-μ-loop
-children-hold-component-at-requires t c κs = (c .before .before .before .before .before .pre .1 .0, c .loop-test .taken)
+children-hold-component-at-requires t c κs = (c .before .before .before .before .before .before .before .before .before .pre .1 .0, c .loop-test .taken)
 
 children-hold-component-holds-requires : (t : ℕ) → children-hold-lts.Need-component-holds-requires (children-hold-claims t) (children-hold-at t) children-hold.Post children-hold-Inv-loop children-hold-μ-loop
-children-hold-component-holds-requires t c κs = (omega (arith, c .before .before .before .before .before .before .before .before .pre .0, c .before .before .before .loop-test .taken, c .before .before .before .before .loop .inv .onward), (c .before .before .before .before .before .before .before .before .pre .1 .0, (c .before .before .before .before .before .before .before .before .pre .1 .1 .0, (c .before .before .before .loop-test .taken, (c .before .before .before .before .before .before .before .before .pre .1 .1 .1 .1 .0, c .before .before .before .before .before .before .before .before .pre .1 .1 .1 .1 .1)))))
+children-hold-component-holds-requires t c κs =
+    let h = c .before .before .before .before .before .before .before .before .before .before .before .before .pre in (
+      omega (arith, h .0, c .before .before .before .loop-test .taken, c .before .before .before .before .loop .inv .onward),
+      (h .1 .0, (h .1 .1 .0, (c .before .before .before .loop-test .taken, (h .1 .1 .1 .1 .0, (h .1 .1 .1 .1 .1 .0, inner-among (h .1 .1 .1 .1 .1 .1) (c .before .before .before .before .before .next-row .ensures)))))),
+    )
 
 children-hold-returns : (t : ℕ) → children-hold-lts.Need-returns (children-hold-claims t) (children-hold-at t) children-hold.Post children-hold-Inv-loop children-hold-μ-loop
-children-hold-returns t c = descending-stop _ _ _ _ _ (c .before .before .before .before .before .before .loop .inv) (c .before .before .before .before .before .loop-test .taken) (c .before .before .before .before .component-at .ensures) (c .before .before .if1 .taken) (c .before .component-holds .ensures) (not-true _ (c .if2 .taken))
+children-hold-returns t c =
+    descending-stop _ _ _ _ _
+    (c .before .before .before .before .before .before .loop .inv)
+    (c .before .before .before .before .before .loop-test .taken)
+    (c .before .before .before .before .component-at .ensures)
+    (c .before .before .if1 .taken)
+    (child-as _ _ _ _ _ _ _ (c .before .before .before .before .before .before .before .next-row .ensures) (c .before .component-holds .ensures))
+    (not-true _ (c .if2 .taken))
 
 children-hold-loop-less : (t : ℕ) → children-hold-lts.Need-loop-less (children-hold-claims t) (children-hold-at t) children-hold.Post children-hold-Inv-loop children-hold-μ-loop
 children-hold-loop-less t c = omega arith
 
 children-hold-loop-again : (t : ℕ) → children-hold-lts.Need-loop-again (children-hold-claims t) (children-hold-at t) children-hold.Post children-hold-Inv-loop children-hold-μ-loop
-children-hold-loop-again t c = descending-next _ _ _ _ _ (c .before .before .before .before .before .before .loop .inv) (c .before .before .before .before .before .loop-test .taken) (c .before .before .before .before .component-at .ensures) (c .before .before .if1 .taken) (c .before .component-holds .ensures) (not-false _ (c .if2 .left))
+children-hold-loop-again t c =
+    descending-next _ _ _ _ _
+    (c .before .before .before .before .before .before .loop .inv)
+    (c .before .before .before .before .before .loop-test .taken)
+    (c .before .before .before .before .component-at .ensures)
+    (c .before .before .if1 .taken)
+    (child-as _ _ _ _ _ _ _ (c .before .before .before .before .before .before .before .next-row .ensures) (c .before .component-holds .ensures))
+    (not-false _ (c .if2 .left))
 
 children-hold-loop-less-2 : (t : ℕ) → children-hold-lts.Need-loop-less-2 (children-hold-claims t) (children-hold-at t) children-hold.Post children-hold-Inv-loop children-hold-μ-loop
 children-hold-loop-less-2 t c = omega arith
@@ -118,151 +147,179 @@ children-hold-returns-2 t c = descending-end _ _ _ _ _ (c .before .loop .inv) (c
 
 -- ---- the components side by side
 
+abbrev component-holds-claims : ℕ → component-holds-lts.Claims
+component-holds-claims t = (
+  component-at-reads.Asked,
+  component-at-reads.Learnt,
+  text-of-reads.Asked,
+  text-of-reads.Learnt,
+  some-component-named-reads.Asked,
+  some-component-named-reads.Learnt,
+  trial-here-below t,
+  trial-here.Post,
+  first-tried-reads.Asked,
+  first-tried-reads.Learnt,
+  goes-on-reads.Asked,
+  goes-on-reads.Learnt,
+  passes-reads.Asked,
+  passes-reads.Learnt,
+  next-row-reads.Asked,
+  next-row-reads.Learnt,
+)
+
 abbrev component-holds-Inv-loop : component-holds-lts.InvT-loop
-component-holds-Inv-loop query q j s from first c at number e next inside t k₀ k = Tried t k
+component-holds-Inv-loop query q j s index rows column first end c name row t k₀ k = Tried t k
 
 abbrev component-holds-μ-loop : component-holds-lts.MeasureT-loop
-component-holds-μ-loop query q j s from first c at number e next inside t k₀ k = 47483 - k
+component-holds-μ-loop query q j s index rows column first end c name row t k₀ k = 47483 - k
 
 abbrev component-holds-Inv-search : component-holds-lts.InvT-search
-component-holds-Inv-search query q j s from first c at₀ number₀ at number = Passing (someHere c query q j) s from first at number
+component-holds-Inv-search query q j s index rows column first end c name row₀ row = Beside (someHere c query q j) s rows first end row
 
 abbrev component-holds-μ-search : component-holds-lts.MeasureT-search
-component-holds-μ-search query q j s from first c at₀ number₀ at number = length s - at
-
--- a component begins at the place
-inner-here : (t : ℕ) (c : component-holds-lts.After-e (component-holds-claims t) (component-holds-at t) component-holds.Post component-holds-Inv-loop component-holds-μ-loop component-holds-Inv-search component-holds-μ-search)
-    → InnerAt (c .before .before .before .before .before .before .before .before .before .args .s .now) (c .before .before .before .search .at) (c .e .given .0 .0) (c .e .given .0 .1 .0)
-inner-here t c = inner-at _ _ (c .before .before .next-item .ensures) (c .e .given .1)
-
--- what is tried of it is small
-small-here : (t : ℕ) (c : component-holds-lts.After-trial-here (component-holds-claims t) (component-holds-at t) component-holds.Post component-holds-Inv-loop component-holds-μ-loop component-holds-Inv-search component-holds-μ-search)
-    → SmallTrial (c .trial-here .result)
-small-here t c = here-small _ _ _ _ _ _ _ _ (c .before .before .before .before .before .before .before .before .before .before .before .before .before .pre .1 .1 .0) (c .before .before .before .before .before .before .before .before .before .before .before .before .before .pre .1 .1 .1 .0) (c .trial-here .ensures)
-
--- an instance to try is one of those up to 2099
-counted-here : (t : ℕ) (c : component-holds-lts.Then2 (component-holds-claims t) (component-holds-at t) component-holds.Post component-holds-Inv-loop component-holds-μ-loop component-holds-Inv-search component-holds-μ-search)
-    → c .before .before .loop .k ≤ 47482
-counted-here t c = tried-counted _ _ (small-here t (c .before .before .before .before)) (c .before .goes-on .ensures) (c .if2 .taken)
+component-holds-μ-search query q j s index rows column first end c name row₀ row = end - row
 
 component-holds-component-at-requires : (t : ℕ) → component-holds-lts.Need-component-at-requires (component-holds-claims t) (component-holds-at t) component-holds.Post component-holds-Inv-loop component-holds-μ-loop component-holds-Inv-search component-holds-μ-search
-component-holds-component-at-requires t c κs = (c .before .before .pre .1 .0, c .before .before .pre .1 .1 .1 .0)
+component-holds-component-at-requires t c κs = (c .before .before .before .before .before .pre .1 .0, c .before .before .before .before .before .pre .1 .1 .1 .0)
 
 component-holds-text-of-requires : (t : ℕ) → component-holds-lts.Need-text-of-requires (component-holds-claims t) (component-holds-at t) component-holds.Post component-holds-Inv-loop component-holds-μ-loop component-holds-Inv-search component-holds-μ-search
-component-holds-text-of-requires t c κs = (c .before .before .before .before .before .pre .1 .0, component-name _ _ _ (c .before .before .before .before .before .pre .1 .1 .0) (c .before .before .before .before .before .pre .1 .1 .1 .0) (c .before .before .component-at .ensures))
+component-holds-text-of-requires t c κs = let h = c .before .before .before .before .before .before .pre in (h .1 .0, component-name _ _ _ (h .1 .1 .0) (h .1 .1 .1 .0) (c .component-at .ensures))
 
 component-holds-some-component-named-requires : (t : ℕ) → component-holds-lts.Need-some-component-named-requires (component-holds-claims t) (component-holds-at t) component-holds.Post component-holds-Inv-loop component-holds-μ-loop component-holds-Inv-search component-holds-μ-search
-component-holds-some-component-named-requires t c κs = c .before .before .before .before .before .before .pre .1 .1 .1 .1 .1
+component-holds-some-component-named-requires t c κs = (c .before .before .before .before .before .before .before .before .before .pre .1 .1 .1 .1 .1 .0 .indexed, c .before .before .before .before .before .before .before .before .before .pre .1 .1 .1 .1 .1 .1 .components)
 
 component-holds-returns : (t : ℕ) → component-holds-lts.Need-returns (component-holds-claims t) (component-holds-at t) component-holds.Post component-holds-Inv-loop component-holds-μ-loop component-holds-Inv-search component-holds-μ-search
-component-holds-returns t c = test-absent _ _ _ _ _ _ _ (c .before .before .before .before .component-at .ensures) (c .before .before .if1 .taken) (c .before .text-of .ensures) (c .some-component-named .ensures)
+component-holds-returns t c = test-absent _ _ _ _ _ (c .before .before .before .before .component-at .ensures) (c .before .if1 .taken) (c .before .before .before .text-of .ensures) (c .some-component-named .ensures)
 
 component-holds-search-holds : (t : ℕ) → component-holds-lts.Need-search-holds (component-holds-claims t) (component-holds-at t) component-holds.Post component-holds-Inv-loop component-holds-μ-loop component-holds-Inv-search component-holds-μ-search
-component-holds-search-holds t c = passing-start _ _ _ _ (c .before .before .before .before .before .pre .1 .1 .1 .1 .1 .0) (c .before .before .before .before .before .pre .1 .1 .1 .1 .1 .1)
+component-holds-search-holds t c = beside-start _ (c .before .before .before .before .before .before .before .before .before .pre .1 .1 .1 .1 .1 .1 .components)
 
-component-holds-next-item-requires : (t : ℕ) → component-holds-lts.Need-next-item-requires (component-holds-claims t) (component-holds-at t) component-holds.Post component-holds-Inv-loop component-holds-μ-loop component-holds-Inv-search component-holds-μ-search
-component-holds-next-item-requires t c κs = search needs
-
-component-holds-enum-known-next : (t : ℕ) → component-holds-lts.Need-enum-known-next (component-holds-claims t) (component-holds-at t) component-holds.Post component-holds-Inv-loop component-holds-μ-loop component-holds-Inv-search component-holds-μ-search
-component-holds-enum-known-next t c = search needs
-
-component-holds-add-number : (t : ℕ) → component-holds-lts.Need-add-number (component-holds-claims t) (component-holds-at t) component-holds.Post component-holds-Inv-loop component-holds-μ-loop component-holds-Inv-search component-holds-μ-search
-component-holds-add-number t c = let h = property-at _ _ (c .before .before .before .next-item .ensures) (c .before .next .given .1) in omega (arith, h .line .goes-on, h .line .inside, c .before .before .before .before .search .inv .counted)
-
-component-holds-search-less : (t : ℕ) → component-holds-lts.Need-search-less (component-holds-claims t) (component-holds-at t) component-holds.Post component-holds-Inv-loop component-holds-μ-loop component-holds-Inv-search component-holds-μ-search
-component-holds-search-less t c = let h = property-at _ _ (c .before .before .before .next-item .ensures) (c .before .next .given .1) in omega (arith, h .line .goes-on, h .line .inside)
-
-component-holds-search-again : (t : ℕ) → component-holds-lts.Need-search-again (component-holds-claims t) (component-holds-at t) component-holds.Post component-holds-Inv-loop component-holds-μ-loop component-holds-Inv-search component-holds-μ-search
-component-holds-search-again t c = passing-property (c .before .before .before .before .search .inv) (property-at _ _ (c .before .before .before .next-item .ensures) (c .before .next .given .1))
-
-component-holds-enum-known-e : (t : ℕ) → component-holds-lts.Need-enum-known-e (component-holds-claims t) (component-holds-at t) component-holds.Post component-holds-Inv-loop component-holds-μ-loop component-holds-Inv-search component-holds-μ-search
-component-holds-enum-known-e t c = search needs
-
-component-holds-add-inside : (t : ℕ) → component-holds-lts.Need-add-inside (component-holds-claims t) (component-holds-at t) component-holds.Post component-holds-Inv-loop component-holds-μ-loop component-holds-Inv-search component-holds-μ-search
-component-holds-add-inside t c = let h = inner-here t (c .before) in omega (arith, h .line .starts, h .line .ends, h .line .goes-on, h .line .inside, c .before .before .before .before .search .inv .counted)
-
-component-holds-sub-value : (t : ℕ) → component-holds-lts.Need-sub-value (component-holds-claims t) (component-holds-at t) component-holds.Post component-holds-Inv-loop component-holds-μ-loop component-holds-Inv-search component-holds-μ-search
-component-holds-sub-value t c = let h = inner-here t (c .before) in omega (arith, h .line .starts, h .line .ends, h .line .goes-on, h .line .inside, c .before .before .before .before .search .inv .counted)
-
-component-holds-part-value-start : (t : ℕ) → component-holds-lts.Need-part-value-start (component-holds-claims t) (component-holds-at t) component-holds.Post component-holds-Inv-loop component-holds-μ-loop component-holds-Inv-search component-holds-μ-search
-component-holds-part-value-start t c = let h = inner-here t (c .before) in omega (arith, h .line .starts, h .line .ends, h .line .goes-on, h .line .inside, c .before .before .before .before .search .inv .counted)
-
-component-holds-part-value-end : (t : ℕ) → component-holds-lts.Need-part-value-end (component-holds-claims t) (component-holds-at t) component-holds.Post component-holds-Inv-loop component-holds-μ-loop component-holds-Inv-search component-holds-μ-search
-component-holds-part-value-end t c = let h = inner-here t (c .before) in omega (arith, h .line .starts, h .line .ends, h .line .goes-on, h .line .inside, c .before .before .before .before .search .inv .counted)
-
-component-holds-value-requires : (t : ℕ) → component-holds-lts.Need-value-requires (component-holds-claims t) (component-holds-at t) component-holds.Post component-holds-Inv-loop component-holds-μ-loop component-holds-Inv-search component-holds-μ-search
-component-holds-value-requires t c κs = search needs
+component-holds-returns-2 : (t : ℕ) → component-holds-lts.Need-returns-2 (component-holds-claims t) (component-holds-at t) component-holds.Post component-holds-Inv-loop component-holds-μ-loop component-holds-Inv-search component-holds-μ-search
+component-holds-returns-2 t c = test-there _ _ _ _ _ (c .before .before .before .before .before .component-at .ensures) (c .before .before .if1 .left) (here-none _ _ _ _ ∙ beside-end (c .before .search .inv) (c .if2 .taken))
 
 component-holds-trial-here-requires : (t : ℕ) → component-holds-lts.Need-trial-here-requires (component-holds-claims t) (component-holds-at t) component-holds.Post component-holds-Inv-loop component-holds-μ-loop component-holds-Inv-search component-holds-μ-search
-component-holds-trial-here-requires t c κs = let h = inner-here t (c .before .before .before) in (omega (arith, c .before .before .before .before .before .before .before .before .before .before .before .before .pre .0, c .before .before .before .before .before .before .before .before .before .before .before .before .pre .1 .1 .1 .0), (c .before .before .before .before .before .before .before .before .before .before .before .before .pre .1 .0, (c .before .before .before .before .before .before .before .before .before .before .before .before .pre .1 .1 .0, (c .before .before .before .before .before .before .before .before .before .before .before .before .pre .1 .1 .1 .0, (c .before .before .before .before .before .before .before .before .before .before .before .before .pre .1 .1 .1 .1 .0, (h .line .inside, omega (arith, h .line .goes-on, c .before .before .before .before .before .before .search .inv .counted)))))))
+component-holds-trial-here-requires t c κs =
+    let h = c .before .before .before .before .before .before .before .before .before .before .before .pre in (
+      omega (arith, h .0, h .1 .1 .1 .0),
+      (
+        h .1 .0,
+        (
+          h .1 .1 .0,
+          (
+            h .1 .1 .1 .0,
+            (
+              record-name _ _ _ (c .before .before .before .before .before .component-at .ensures) (c .before .before .before .before .text-of .ensures),
+              (h .1 .1 .1 .1 .0, (h .1 .1 .1 .1 .1 .0, beside-file (c .before .search .inv) (c .if2 .left) (h .1 .1 .1 .1 .1 .1 .within))),
+            ),
+          ),
+        ),
+      ),
+    )
 
 component-holds-first-tried-requires : (t : ℕ) → component-holds-lts.Need-first-tried-requires (component-holds-claims t) (component-holds-at t) component-holds.Post component-holds-Inv-loop component-holds-μ-loop component-holds-Inv-search component-holds-μ-search
-component-holds-first-tried-requires t c κs = small-here t c
+component-holds-first-tried-requires t c κs = c .trial-here .ensures .small
 
 component-holds-loop-holds : (t : ℕ) → component-holds-lts.Need-loop-holds (component-holds-claims t) (component-holds-at t) component-holds.Post component-holds-Inv-loop component-holds-μ-loop component-holds-Inv-search component-holds-μ-search
 component-holds-loop-holds t c = c .first-tried .ensures
 
 component-holds-goes-on-requires : (t : ℕ) → component-holds-lts.Need-goes-on-requires (component-holds-claims t) (component-holds-at t) component-holds.Post component-holds-Inv-loop component-holds-μ-loop component-holds-Inv-search component-holds-μ-search
-component-holds-goes-on-requires t c κs = (small-here t (c .before .before), omega (arith, c .loop .inv .few))
+component-holds-goes-on-requires t c κs = (c .before .before .trial-here .ensures .small, omega (arith, c .loop .inv .few))
 
 component-holds-passes-requires : (t : ℕ) → component-holds-lts.Need-passes-requires (component-holds-claims t) (component-holds-at t) component-holds.Post component-holds-Inv-loop component-holds-μ-loop component-holds-Inv-search component-holds-μ-search
-component-holds-passes-requires t c κs = (small-here t (c .before .before .before .before), omega (arith, c .before .before .loop .inv .few))
+component-holds-passes-requires t c κs = (c .before .before .before .before .trial-here .ensures .small, omega (arith, c .before .before .loop .inv .few))
 
 component-holds-add-k : (t : ℕ) → component-holds-lts.Need-add-k (component-holds-claims t) (component-holds-at t) component-holds.Post component-holds-Inv-loop component-holds-μ-loop component-holds-Inv-search component-holds-μ-search
 component-holds-add-k t c = omega (arith, c .before .before .before .before .loop .inv .few)
 
 component-holds-loop-less : (t : ℕ) → component-holds-lts.Need-loop-less (component-holds-claims t) (component-holds-at t) component-holds.Post component-holds-Inv-loop component-holds-μ-loop component-holds-Inv-search component-holds-μ-search
-component-holds-loop-less t c = omega (arith, counted-here t (c .before .before))
+component-holds-loop-less t c = omega (arith, tried-counted _ _ (c .before .before .before .before .before .before .trial-here .ensures .small) (c .before .before .before .goes-on .ensures) (c .before .before .if3 .taken))
 
 component-holds-loop-again : (t : ℕ) → component-holds-lts.Need-loop-again (component-holds-claims t) (component-holds-at t) component-holds.Post component-holds-Inv-loop component-holds-μ-loop component-holds-Inv-search component-holds-μ-search
-component-holds-loop-again t c = tried-more _ _ (counted-here t (c .before .before)) (c .before .before .before .before .loop .inv) (c .before .passes .ensures) (c .if3 .left)
+component-holds-loop-again t c =
+    tried-more _ _
+    (tried-counted _ _ (c .before .before .before .before .before .before .trial-here .ensures .small) (c .before .before .before .goes-on .ensures) (c .before .before .if3 .taken))
+    (c .before .before .before .before .loop .inv)
+    (c .before .passes .ensures) (c .if4 .left)
 
-component-holds-skip-component-requires : (t : ℕ) → component-holds-lts.Need-skip-component-requires (component-holds-claims t) (component-holds-at t) component-holds.Post component-holds-Inv-loop component-holds-μ-loop component-holds-Inv-search component-holds-μ-search
-component-holds-skip-component-requires t c κs = let h = inner-here t (c .before .before .before .before .before .before .before .before) in (omega (arith, h .line .inside), omega (arith, h .line .goes-on, h .line .inside, c .before .before .before .before .before .before .before .before .before .before .before .search .inv .counted))
+component-holds-next-row-requires : (t : ℕ) → component-holds-lts.Need-next-row-requires (component-holds-claims t) (component-holds-at t) component-holds.Post component-holds-Inv-loop component-holds-μ-loop component-holds-Inv-search component-holds-μ-search
+component-holds-next-row-requires t c κs = beside-here (c .before .before .before .before .before .before .search .inv) (c .before .before .before .before .before .if2 .left) .row .room
 
-component-holds-search-less-2 : (t : ℕ) → component-holds-lts.Need-search-less-2 (component-holds-claims t) (component-holds-at t) component-holds.Post component-holds-Inv-loop component-holds-μ-loop component-holds-Inv-search component-holds-μ-search
-component-holds-search-less-2 t c = let h = inner-here t (c .before .before .before .before .before .before .before .before .before) in omega (arith, h .line .goes-on, h .line .inside, c .skip-component .ensures .onward, c .skip-component .ensures .within)
+component-holds-search-less : (t : ℕ) → component-holds-lts.Need-search-less (component-holds-claims t) (component-holds-at t) component-holds.Post component-holds-Inv-loop component-holds-μ-loop component-holds-Inv-search component-holds-μ-search
+component-holds-search-less t c =
+    let h =
+    beside-here
+    (c .before .before .before .before .before .before .before .search .inv)
+    (c .before .before .before .before .before .before .if2 .left)
+    in
+    omega (arith, h .onward, h .within, c .next-row .ensures)
 
-component-holds-search-again-2 : (t : ℕ) → component-holds-lts.Need-search-again-2 (component-holds-claims t) (component-holds-at t) component-holds.Post component-holds-Inv-loop component-holds-μ-loop component-holds-Inv-search component-holds-μ-search
-component-holds-search-again-2 t c = passing-inner (c .before .before .before .before .before .before .before .before .before .before .before .before .search .inv) (inner-here t (c .before .before .before .before .before .before .before .before .before)) refl (c .skip-component .ensures) (here-passed _ _ _ _ _ _ _ _ _ (c .before .before .before .before .before .before .value .ensures) (c .before .before .before .before .before .trial-here .ensures) (tried-end _ _ (small-here t (c .before .before .before .before .before)) (c .before .before .before .loop .inv) (c .before .before .goes-on .ensures) (c .before .if2 .left)))
-
-component-holds-enum-told : (t : ℕ) → component-holds-lts.Need-enum-told (component-holds-claims t) (component-holds-at t) component-holds.Post component-holds-Inv-loop component-holds-μ-loop component-holds-Inv-search component-holds-μ-search
-component-holds-enum-told t c = search needs
-
-component-holds-returns-2 : (t : ℕ) → component-holds-lts.Need-returns-2 (component-holds-claims t) (component-holds-at t) component-holds.Post component-holds-Inv-loop component-holds-μ-loop component-holds-Inv-search component-holds-μ-search
-component-holds-returns-2 t c = test-there _ _ _ _ _ _ _ (c .before .before .before .before .before .before .component-at .ensures) (c .before .before .before .before .if1 .left) (here-none _ _ _ _ ∙ passing-end (c .before .before .before .search .inv) (no-item-at (c .before .before .next-item .ensures) (c .enum-told .given .1)))
+component-holds-search-again : (t : ℕ) → component-holds-lts.Need-search-again (component-holds-claims t) (component-holds-at t) component-holds.Post component-holds-Inv-loop component-holds-μ-loop component-holds-Inv-search component-holds-μ-search
+component-holds-search-again t c =
+    beside-next
+    (c .before .before .before .before .before .before .before .search .inv)
+    (c .before .before .before .before .before .before .if2 .left) (c .next-row .ensures)
+    (here-passed _ _ _ _ _
+    (c .before .before .before .before .before .trial-here .ensures)
+    (tried-end _ _ (c .before .before .before .before .before .trial-here .ensures .small) (c .before .before .before .loop .inv) (c .before .before .goes-on .ensures) (c .before .if3 .left)))
 
 component-holds-returns-3 : (t : ℕ) → component-holds-lts.Need-returns-3 (component-holds-claims t) (component-holds-at t) component-holds.Post component-holds-Inv-loop component-holds-μ-loop component-holds-Inv-search component-holds-μ-search
-component-holds-returns-3 t c = test-there _ _ _ _ _ _ _ (c .before .before .before .before .before .before .before .before .before .before .before .before .before .before .before .before .component-at .ensures) (c .before .before .before .before .before .before .before .before .before .before .before .before .before .before .if1 .left) (passing-found (c .before .before .before .before .before .before .before .before .before .before .before .before .before .search .inv) (inner-here t (c .before .before .before .before .before .before .before .before .before .before)) (here-found _ _ _ _ _ _ _ _ _ (c .before .before .before .before .before .before .before .value .ensures) (c .before .before .before .before .before .before .trial-here .ensures) (tried-found _ _ (small-here t (c .before .before .before .before .before .before)) (c .before .passes .ensures) (c .if3 .taken))))
+component-holds-returns-3 t c =
+    test-there _ _ _ _ _
+    (c .before .before .before .before .before .before .before .before .before .before .before .before .component-at .ensures)
+    (c .before .before .before .before .before .before .before .before .before .if1 .left)
+    (beside-found
+    (c .before .before .before .before .before .before .before .before .search .inv)
+    (c .before .before .before .before .before .before .before .if2 .left)
+    (here-found _ _ _ _ _
+    (c .before .before .before .before .before .before .trial-here .ensures)
+    (tried-found _ _ (c .before .before .before .before .before .before .trial-here .ensures .small) (c .before .passes .ensures) (c .if4 .taken))))
 
 -- ---- one component
 
+abbrev trial-here-claims : ℕ → trial-here-lts.Claims
+trial-here-claims t =
+    (alone-holds-reads.Asked, alone-holds-reads.Learnt, children-hold-below t, children-hold.Post, component-at-reads.Asked, component-at-reads.Learnt, trial-of-reads.Asked, trial-of-reads.Learnt)
+
 trial-here-alone-holds-requires : (t : ℕ) → trial-here-lts.Need-alone-holds-requires (trial-here-claims t) (trial-here-at t) trial-here.Post
-trial-here-alone-holds-requires t c κs = (c .before .before .before .pre .1 .0, (c .before .before .before .pre .1 .1 .0, c .before .before .before .pre .1 .1 .1 .0))
+trial-here-alone-holds-requires t c κs =
+    let h = c .before .before .before .before .before .before .pre in
+    (h .1 .0, (h .1 .1 .0, (h .1 .1 .1 .0, (h .1 .1 .1 .1 .0, (h .1 .1 .1 .1 .1 .1 .0 .indexed, (h .1 .1 .1 .1 .1 .1 .1 .row, row-small (h .1 .1 .1 .1 .1 .1 .0) (h .1 .1 .1 .1 .1 .1 .1)))))))
 
 trial-here-add-children-hold : (t : ℕ) → trial-here-lts.Need-add-children-hold (trial-here-claims t) (trial-here-at t) trial-here.Post
-trial-here-add-children-hold t c = omega (arith, c .before .before .before .before .before .pre .1 .1 .1 .0, c .before .before .before .before .before .pre .1 .0 .components-few)
+trial-here-add-children-hold t c = omega (arith, c .before .before .before .before .before .before .before .before .pre .1 .1 .1 .0, c .before .before .before .before .before .before .before .before .pre .1 .0 .components-few)
 
 trial-here-children-hold-requires : (t : ℕ) → trial-here-lts.Need-children-hold-requires (trial-here-claims t) (trial-here-at t) trial-here.Post
-trial-here-children-hold-requires t c κs = (omega (arith, c .before .before .before .before .before .pre .0, c .before .before .before .before .before .pre .1 .1 .1 .0), (c .before .before .before .before .before .pre .1 .0, (c .before .before .before .before .before .pre .1 .1 .0, (omega (arith, c .before .before .before .before .before .pre .1 .1 .1 .0), (c .before .before .before .before .before .pre .1 .1 .1 .1 .0, c .before .before .before .before .before .pre .1 .1 .1 .1 .1)))))
+trial-here-children-hold-requires t c κs =
+    let h = c .before .before .before .before .before .before .before .before .pre in
+    (omega (arith, h .0, h .1 .1 .1 .0), (h .1 .0, (h .1 .1 .0, (omega (arith, h .1 .1 .1 .0), (h .1 .1 .1 .1 .1 .0, (h .1 .1 .1 .1 .1 .1 .0, h .1 .1 .1 .1 .1 .1 .1))))))
 
 trial-here-component-at-requires : (t : ℕ) → trial-here-lts.Need-component-at-requires (trial-here-claims t) (trial-here-at t) trial-here.Post
-trial-here-component-at-requires t c κs = (c .before .before .before .before .before .before .before .pre .1 .0, c .before .before .before .before .before .before .before .pre .1 .1 .1 .0)
-
-trial-here-scope-of-requires : (t : ℕ) → trial-here-lts.Need-scope-of-requires (trial-here-claims t) (trial-here-at t) trial-here.Post
-trial-here-scope-of-requires t c κs = search needs
+trial-here-component-at-requires t c κs = (c .before .before .before .before .before .before .before .before .before .before .pre .1 .0, c .before .before .before .before .before .before .before .before .before .before .pre .1 .1 .1 .0)
 
 trial-here-trial-of-requires : (t : ℕ) → trial-here-lts.Need-trial-of-requires (trial-here-claims t) (trial-here-at t) trial-here.Post
-trial-here-trial-of-requires t c κs = (c .before .before .before .before .before .before .before .before .before .pre .1 .0, (c .before .before .before .before .before .before .before .before .before .pre .1 .1 .0, (component-range _ _ _ (c .before .before .before .before .before .before .before .before .before .pre .1 .1 .0) (c .before .before .before .before .before .before .before .before .before .pre .1 .1 .1 .0) (c .before .component-at .ensures), c .before .before .before .before .before .before .before .before .before .pre .1 .1 .1 .1 .0)))
+trial-here-trial-of-requires t c κs =
+    let h = c .before .before .before .before .before .before .before .before .before .before .before .pre in
+    (h .1 .0, (h .1 .1 .0, (component-range _ _ _ (h .1 .1 .0) (h .1 .1 .1 .0) (c .component-at .ensures), (h .1 .1 .1 .1 .1 .0, (h .1 .1 .1 .1 .1 .1 .0, h .1 .1 .1 .1 .1 .1 .1)))))
 
 trial-here-returns : (t : ℕ) → trial-here-lts.Need-returns (trial-here-claims t) (trial-here-at t) trial-here.Post
-trial-here-returns t c = here-tried _ _ _ _ _ _ _ _ (c .before .before .before .before .before .before .alone-holds .ensures) (c .before .before .before .before .before .if1 .taken) (c .before .before .before .before .children-hold .ensures) (c .before .before .before .if2 .taken) (c .before .before .component-at .ensures) (c .before .scope-of .ensures) (c .trial-of .ensures)
+trial-here-returns t c =
+    let h = c .before .before .before .before .before .before .before .before .before .before .before .before .pre .1 .1 .1 .1 .1 .1 in
+    here-tried _ _ _ (h .0) (h .1)
+    (c .before .before .before .before .before .alone-holds .ensures)
+    (c .before .before .before .children-hold .ensures)
+    (c .before .before .before .before .if1 .taken)
+    (c .before .before .if2 .taken)
+    (c .before .component-at .ensures) (c .trial-of .ensures)
 
 trial-here-returns-2 : (t : ℕ) → trial-here-lts.Need-returns-2 (trial-here-claims t) (trial-here-at t) trial-here.Post
-trial-here-returns-2 t c = here-childless _ _ _ _ _ _ _ _ (c .before .before .before .alone-holds .ensures) (c .before .before .if1 .taken) (c .before .children-hold .ensures) (c .if2 .left)
+trial-here-returns-2 t c =
+    let h = c .before .before .before .before .before .before .before .before .before .before .pre .1 .1 .1 .1 .1 .1 in
+    here-childless _ _ _ (h .0) (h .1) (c .before .before .before .alone-holds .ensures) (c .before .children-hold .ensures) (c .if2 .left)
 
 trial-here-returns-3 : (t : ℕ) → trial-here-lts.Need-returns-3 (trial-here-claims t) (trial-here-at t) trial-here.Post
-trial-here-returns-3 t c = here-not _ _ _ _ _ _ _ _ (c .before .alone-holds .ensures) (c .if1 .left)
+trial-here-returns-3 t c =
+    let h = c .before .before .before .before .before .before .before .before .pre .1 .1 .1 .1 .1 .1 in
+    here-not _ _ _ (h .0) (h .1) (c .before .alone-holds .ensures) (c .if1 .left)
 
 pub +children-hold+component-holds+trial-here-spec : {M : Type 1} → statement M
 +children-hold+component-holds+trial-here-spec =
@@ -271,6 +328,8 @@ pub +children-hold+component-holds+trial-here-spec : {M : Type 1} → statement 
     children-hold.Post
     children-hold-Inv-loop
     children-hold-μ-loop
+    (children-hold-add-inside t)
+    (children-hold-next-row-requires t)
     (children-hold-loop-holds t)
     (children-hold-add-next t)
     (children-hold-component-at-requires t)
@@ -293,17 +352,7 @@ pub +children-hold+component-holds+trial-here-spec : {M : Type 1} → statement 
     (component-holds-some-component-named-requires t)
     (component-holds-returns t)
     (component-holds-search-holds t)
-    (component-holds-next-item-requires t)
-    (component-holds-enum-known-next t)
-    (component-holds-add-number t)
-    (component-holds-search-less t)
-    (component-holds-search-again t)
-    (component-holds-enum-known-e t)
-    (component-holds-add-inside t)
-    (component-holds-sub-value t)
-    (component-holds-part-value-start t)
-    (component-holds-part-value-end t)
-    (component-holds-value-requires t)
+    (component-holds-returns-2 t)
     (component-holds-trial-here-requires t)
     (component-holds-first-tried-requires t)
     (component-holds-loop-holds t)
@@ -312,11 +361,9 @@ pub +children-hold+component-holds+trial-here-spec : {M : Type 1} → statement 
     (component-holds-add-k t)
     (component-holds-loop-less t)
     (component-holds-loop-again t)
-    (component-holds-skip-component-requires t)
-    (component-holds-search-less-2 t)
-    (component-holds-search-again-2 t)
-    (component-holds-enum-told t)
-    (component-holds-returns-2 t)
+    (component-holds-next-row-requires t)
+    (component-holds-search-less t)
+    (component-holds-search-again t)
     (component-holds-returns-3 t))
     λ t. trial-here-lts.spec (trial-here-claims t)
     (trial-here-at t)
@@ -325,7 +372,6 @@ pub +children-hold+component-holds+trial-here-spec : {M : Type 1} → statement 
     (trial-here-add-children-hold t)
     (trial-here-children-hold-requires t)
     (trial-here-component-at-requires t)
-    (trial-here-scope-of-requires t)
     (trial-here-trial-of-requires t)
     (trial-here-returns t)
     (trial-here-returns-2 t)

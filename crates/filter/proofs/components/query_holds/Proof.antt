@@ -1,14 +1,19 @@
--- The tree of a file is what stands side by side from its first place on, and a good query has a component record 0.
-use Rattle.filter.proofs.Tests.{query-as, first-record, first-place}
+-- What stands outside every component are the rows up to that of row 0's next, and a good query has a component record 0.
+use Rattle.filter.proofs.Tests.{first-record, query-as}
+use Rattle.filter.proofs.RangesLaws.{file-room, file-given, file-among}
 use Rattle.filter.proofs.components.query_holds.Statement.{statement}
 use Rattle.filter.proofs.components.query_holds.Tie as tie
 
+next-row-requires : tie.Need-next-row-requires
+next-row-requires c κs = file-room (c .before .before .before .before .before .pre .1 .1 .1 .0)
+
 component-holds-requires : tie.Need-component-holds-requires
 component-holds-requires c κs =
-    (c .before .before .pre .0, (c .before .before .pre .1 .0, (first-record (c .before .before .pre .0), (c .before .before .pre .1 .1, first-place (c .before .before .args .s .now)))))
+    let h = c .before .before .before .before .before .before .pre in
+    (h .0, (h .1 .0, (first-record (h .0), (h .1 .1 .0, (file-given (h .1 .1 .1 .0) (h .1 .1 .1 .1), file-among (h .1 .1 .1 .0) (c .next-row .ensures))))))
 
 returns : tie.Need-returns
-returns c = query-as _ _ _ _ (c .component-holds .ensures)
+returns c = query-as (c .before .before .before .before .before .before .before .pre .1 .1 .1 .0) _ _ _ (c .before .next-row .ensures) (c .component-holds .ensures)
 
 pub query-holds-spec : {M : Type 1} → statement M
-query-holds-spec = tie.close (tie.spec component-holds-requires returns)
+query-holds-spec = tie.close (tie.spec next-row-requires component-holds-requires returns)

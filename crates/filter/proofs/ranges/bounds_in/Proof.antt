@@ -1,6 +1,6 @@
 -- Both ends decide where both are given, and the periods where not.
-use Rattle.filter.proofs.Places.{both-ends, no-end, no-start}
 use borrow.Author.Needs.{needs}
+use Rattle.filter.proofs.RangesLaws.{both-ends, no-end, no-start}
 use Rattle.filter.proofs.ranges.bounds_in.Statement.{statement}
 use Rattle.filter.proofs.ranges.bounds_in.Tie as tie
 

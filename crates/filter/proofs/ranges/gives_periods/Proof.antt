@@ -1,5 +1,5 @@
 -- Each arm is one clause of the definition.
-use Rattle.filter.specs.Places.{givesPeriods}
+use Rattle.filter.specs.Ranges.{givesPeriods}
 use borrow.Author.Needs.{needs}
 use Rattle.filter.proofs.ranges.gives_periods.Statement.{statement}
 use Rattle.filter.proofs.ranges.gives_periods.Tie as tie

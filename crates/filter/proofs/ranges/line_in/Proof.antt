@@ -1,6 +1,6 @@
 -- A line without periods touches no range; any other goes by those of its value.
-use Rattle.filter.proofs.Places.{line-overlaps, line-gives-none}
 use borrow.Author.Needs.{needs}
+use Rattle.filter.proofs.RangesLaws.{line-overlaps, line-gives-none}
 use Rattle.filter.proofs.ranges.line_in.Statement.{statement}
 use Rattle.filter.proofs.ranges.line_in.Tie as tie
 

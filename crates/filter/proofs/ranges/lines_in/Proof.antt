@@ -1,68 +1,99 @@
 -- No line so far touches the range, so the lines that are left decide.
-use Rattle.filter.specs.Places.{linesIn}
-use Rattle.filter.proofs.Places.{period-lines}
 use Prim.Native.Nat.{_-_}
-use lib.ListN.{length}
-use Rattle.nesting.proofs.Components.{property-at, inner-at, no-item-at}
-use Rattle.property_tests.proofs.PropertyTests.{Seeking, seeking-start, seeking-next, seeking-found, seeking-inner, seeking-end}
+use Rattle.filter.specs.Ranges.{linesIn}
+use Rattle.structure.proofs.ItemsLaws.{property-at, inner-at, no-item-at}
+use Rattle.property_tests.proofs.PropertyTests.{Seeking, row-ends, seeking-start, seeking-small, seeking-line, seeking-next, seeking-found, seeking-inner, seeking-end}
 use native.Mathlib.Omega.{arith}
 use borrow.Author.Needs.{needs}
+use Rattle.filter.proofs.RangesLaws.{period-lines}
 use Rattle.filter.proofs.ranges.lines_in.Statement.{statement}
 use Rattle.filter.proofs.ranges.lines_in.Tie as tie
 
 abbrev Inv-loop : tie.InvT-loop
-Inv-loop s from c a b at₀ at = Seeking (linesIn c a b) s from at
+Inv-loop s index rows k c a b i₀ row₀ stop end i row = Seeking (linesIn c a b) s rows k i row stop end
 
 abbrev μ-loop : tie.MeasureT-loop
-μ-loop s from c a b at₀ at = length s - at
+μ-loop s index rows k c a b i₀ row₀ stop end i row = stop - i
+
+first-line-requires : tie.Need-first-line-requires Inv-loop μ-loop
+first-line-requires c κs = c .before .before .before .pre .1 .1 .room
+
+add-row : tie.Need-add-row Inv-loop μ-loop
+add-row c = omega (arith, c .before .before .before .before .pre .1 .1 .few)
+
+line-behind-requires : tie.Need-line-behind-requires Inv-loop μ-loop
+line-behind-requires c κs = c .before .before .before .before .pre .1 .1 .room
+
+sub-stop : tie.Need-sub-stop Inv-loop μ-loop
+sub-stop c = row-ends (c .before .before .before .before .before .pre .1 .1) (c .line-behind .ensures)
+
+next-row-requires : tie.Need-next-row-requires Inv-loop μ-loop
+next-row-requires c κs = c .before .before .before .before .before .pre .1 .1 .room
 
 loop-holds : tie.Need-loop-holds Inv-loop μ-loop
-loop-holds c = seeking-start _ _ _
+loop-holds c = seeking-start _ (c .before .before .before .before .before .before .pre .1 .1) (c .before .before .first-line .ensures) (c .before .line-behind .ensures) (c .next-row .ensures)
 
-next-item-requires : tie.Need-next-item-requires Inv-loop μ-loop
-next-item-requires c κs = search needs
-
-enum-known-e : tie.Need-enum-known-e Inv-loop μ-loop
-enum-known-e c = search needs
-
-sub-line-in : tie.Need-sub-line-in Inv-loop μ-loop
-sub-line-in c = let h = property-at _ _ (c .before .before .before .next-item .ensures) (c .before .e .given .1) in omega (arith, h .line .starts, h .line .ends, h .line .inside)
-
-part-line-in-start : tie.Need-part-line-in-start Inv-loop μ-loop
-part-line-in-start c = let h = property-at _ _ (c .before .before .before .next-item .ensures) (c .before .e .given .1) in omega (arith, h .line .starts, h .line .ends, h .line .inside)
-
-part-line-in-end : tie.Need-part-line-in-end Inv-loop μ-loop
-part-line-in-end c = let h = property-at _ _ (c .before .before .before .next-item .ensures) (c .before .e .given .1) in omega (arith, h .line .starts, h .line .ends, h .line .inside)
-
-line-in-requires : tie.Need-line-in-requires Inv-loop μ-loop
-line-in-requires c κs = c .before .before .before .before .before .before .before .pre
-
-returns : tie.Need-returns Inv-loop μ-loop
-returns c = seeking-found (period-lines _ _ _) (c .before .before .before .before .before .before .before .loop .inv) (property-at _ _ (c .before .before .before .before .before .before .next-item .ensures) (c .before .before .before .before .e .given .1)) (c .before .line-in .ensures) (c .if1 .taken)
-
-loop-less : tie.Need-loop-less Inv-loop μ-loop
-loop-less c = let h = property-at _ _ (c .before .before .before .before .before .before .next-item .ensures) (c .before .before .before .before .e .given .1) in omega (arith, h .line .goes-on, h .line .inside)
-
-loop-again : tie.Need-loop-again Inv-loop μ-loop
-loop-again c = seeking-next (period-lines _ _ _) (c .before .before .before .before .before .before .before .loop .inv) (property-at _ _ (c .before .before .before .before .before .before .next-item .ensures) (c .before .before .before .before .e .given .1)) (c .before .line-in .ensures) (c .if1 .left)
-
-enum-known-next : tie.Need-enum-known-next Inv-loop μ-loop
-enum-known-next c = search needs
-
-skip-component-requires : tie.Need-skip-component-requires Inv-loop μ-loop
-skip-component-requires c κs = let h = inner-at _ _ (c .before .before .before .next-item .ensures) (c .before .next .given .1) in (h .line .inside, omega arith)
-
-loop-less-2 : tie.Need-loop-less-2 Inv-loop μ-loop
-loop-less-2 c = let h = inner-at _ _ (c .before .before .before .before .next-item .ensures) (c .before .before .next .given .1) in omega (arith, h .line .goes-on, h .line .inside, c .skip-component .ensures .onward, c .skip-component .ensures .within)
-
-loop-again-2 : tie.Need-loop-again-2 Inv-loop μ-loop
-loop-again-2 c = seeking-inner (period-lines _ _ _) (c .before .before .before .before .before .loop .inv) (inner-at _ _ (c .before .before .before .before .next-item .ensures) (c .before .before .next .given .1)) (c .skip-component .ensures)
+item-at-requires : tie.Need-item-at-requires Inv-loop μ-loop
+item-at-requires c κs = ((c .loop .inv .left .few, c .loop .inv .left .room), omega (arith, seeking-small (c .loop .inv), c .loop .inv .left .inside))
 
 enum-told : tie.Need-enum-told Inv-loop μ-loop
 enum-told c = search needs
 
+line-at-requires : tie.Need-line-at-requires Inv-loop μ-loop
+line-at-requires c κs =
+    seeking-line
+    (c .before .before .before .loop .inv)
+    (c .before .before .before .before .before .before .before .before .before .before .pre .1 .0)
+    (property-at (c .before .before .before .loop .inv .left) (c .before .before .item-at .ensures) (c .enum-told .given .1))
+
+line-in-requires : tie.Need-line-in-requires Inv-loop μ-loop
+line-in-requires c κs = c .before .before .before .before .before .before .before .before .before .before .before .pre .0
+
+returns : tie.Need-returns Inv-loop μ-loop
+returns c =
+    seeking-found (period-lines _ _ _)
+    (c .before .before .before .before .before .before .loop .inv)
+    (property-at (c .before .before .before .before .before .before .loop .inv .left) (c .before .before .before .before .before .item-at .ensures) (c .before .before .before .enum-told .given .1))
+    (c .before .before .line-at .ensures)
+    (c .before .line-in .ensures) (c .if1 .taken)
+
+add-i : tie.Need-add-i Inv-loop μ-loop
+add-i c = omega (arith, seeking-small (c .before .before .before .before .before .before .loop .inv), c .before .before .before .before .before .before .loop .inv .left .inside)
+
+loop-less : tie.Need-loop-less Inv-loop μ-loop
+loop-less c =
+    let h =
+    property-at
+    (c .before .before .before .before .before .before .loop .inv .left)
+    (c .before .before .before .before .before .item-at .ensures)
+    (c .before .before .before .enum-told .given .1)
+    in
+    omega (arith, h .onward)
+
+loop-again : tie.Need-loop-again Inv-loop μ-loop
+loop-again c =
+    seeking-next (period-lines _ _ _)
+    (c .before .before .before .before .before .before .loop .inv)
+    (property-at (c .before .before .before .before .before .before .loop .inv .left) (c .before .before .before .before .before .item-at .ensures) (c .before .before .before .enum-told .given .1))
+    (c .before .before .line-at .ensures)
+    (c .before .line-in .ensures) (c .if1 .left)
+
+enum-known-next : tie.Need-enum-known-next Inv-loop μ-loop
+enum-known-next c = search needs
+
+loop-less-2 : tie.Need-loop-less-2 Inv-loop μ-loop
+loop-less-2 c =
+    let h = inner-at (c .before .before .before .before .loop .inv .left) _ _ (c .before .before .before .item-at .ensures) (c .before .next .given .1) in
+    omega (arith, h .onward, h .within)
+
+loop-again-2 : tie.Need-loop-again-2 Inv-loop μ-loop
+loop-again-2 c = seeking-inner (period-lines _ _ _) (c .before .before .before .before .loop .inv) (inner-at (c .before .before .before .before .loop .inv .left) _ _ (c .before .before .before .item-at .ensures) (c .before .next .given .1))
+
+enum-told-2 : tie.Need-enum-told-2 Inv-loop μ-loop
+enum-told-2 c = search needs
+
 returns-2 : tie.Need-returns-2 Inv-loop μ-loop
-returns-2 c = seeking-end (period-lines _ _ _) (c .before .before .before .loop .inv) (no-item-at (c .before .before .next-item .ensures) (c .enum-told .given .1))
+returns-2 c = seeking-end (period-lines _ _ _) (c .before .before .before .loop .inv) (no-item-at (c .before .before .before .loop .inv .left) (c .before .before .item-at .ensures) (c .enum-told2 .given .1))
 
 pub lines-in-spec : {M : Type 1} → statement M
 lines-in-spec =
@@ -70,19 +101,22 @@ lines-in-spec =
     (tie.spec
     Inv-loop
     μ-loop
+    first-line-requires
+    add-row
+    line-behind-requires
+    sub-stop
+    next-row-requires
     loop-holds
-    next-item-requires
-    enum-known-e
-    sub-line-in
-    part-line-in-start
-    part-line-in-end
+    item-at-requires
+    enum-told
+    line-at-requires
     line-in-requires
     returns
+    add-i
     loop-less
     loop-again
     enum-known-next
-    skip-component-requires
     loop-less-2
     loop-again-2
-    enum-told
+    enum-told-2
     returns-2)

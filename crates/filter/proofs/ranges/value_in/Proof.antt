@@ -2,9 +2,9 @@
 use Prim.Native.Nat.{_-_}
 use lib.ListN.{length}
 use Rattle.calendar.proofs.Listed.{next-period-at, no-period-at}
-use Rattle.filter.proofs.Places.{Overlapping, overlapping-start, overlapping-next, overlapping-found, overlapping-end}
 use native.Mathlib.Omega.{arith}
 use borrow.Author.Needs.{needs}
+use Rattle.filter.proofs.RangesLaws.{Overlapping, overlapping-start, overlapping-next, overlapping-found, overlapping-end}
 use Rattle.filter.proofs.ranges.value_in.Statement.{statement}
 use Rattle.filter.proofs.ranges.value_in.Tie as tie
 
@@ -27,13 +27,21 @@ overlaps-requires : tie.Need-overlaps-requires Inv-loop μ-loop
 overlaps-requires c κs = search needs
 
 returns : tie.Need-returns Inv-loop μ-loop
-returns c = overlapping-found (c .before .before .before .before .before .before .loop .inv) (next-period-at _ _ (c .before .before .before .before .before .next-period .ensures) (c .before .before .before .p .given .1)) (c .before .overlaps .ensures) (c .if1 .taken)
+returns c =
+    overlapping-found
+    (c .before .before .before .before .before .before .loop .inv)
+    (next-period-at _ _ (c .before .before .before .before .before .next-period .ensures) (c .before .before .before .p .given .1))
+    (c .before .overlaps .ensures) (c .if1 .taken)
 
 loop-less : tie.Need-loop-less Inv-loop μ-loop
 loop-less c = let h = next-period-at _ _ (c .before .before .before .before .before .next-period .ensures) (c .before .before .before .p .given .1) in omega (arith, h .onward, h .within)
 
 loop-again : tie.Need-loop-again Inv-loop μ-loop
-loop-again c = overlapping-next (c .before .before .before .before .before .before .loop .inv) (next-period-at _ _ (c .before .before .before .before .before .next-period .ensures) (c .before .before .before .p .given .1)) (c .before .overlaps .ensures) (c .if1 .left)
+loop-again c =
+    overlapping-next
+    (c .before .before .before .before .before .before .loop .inv)
+    (next-period-at _ _ (c .before .before .before .before .before .next-period .ensures) (c .before .before .before .p .given .1))
+    (c .before .overlaps .ensures) (c .if1 .left)
 
 enum-told : tie.Need-enum-told Inv-loop μ-loop
 enum-told c = search needs

@@ -1,7 +1,7 @@
 -- Each arm is one clause of the definition.
-use Rattle.filter.proofs.TrialsLaws.{instances-small, instances-on, once-on}
 use Rattle.filter.specs.Trials.{trialGoesOn}
 use borrow.Author.Needs.{needs}
+use Rattle.filter.proofs.TrialsLaws.{instances-small, instances-on, once-on}
 use Rattle.filter.proofs.trials.goes_on.Statement.{statement}
 use Rattle.filter.proofs.trials.goes_on.Tie as tie
 

@@ -1,7 +1,7 @@
 -- Each arm is one clause of the definition.
-use Rattle.filter.proofs.TrialsLaws.{instances-small, instances-pass, once-passes}
 use Rattle.filter.specs.Trials.{trialPasses}
 use borrow.Author.Needs.{needs}
+use Rattle.filter.proofs.TrialsLaws.{instances-small, instances-pass, once-passes}
 use Rattle.filter.proofs.trials.passes.Statement.{statement}
 use Rattle.filter.proofs.trials.passes.Tie as tie
 

@@ -1,11 +1,11 @@
 -- Without a range the one trial passes; with one, its two ends are those of the record.
-use Rattle.filter.proofs.TrialsLaws.{range-none, range-some}
 use borrow.Author.Needs.{needs}
+use Rattle.filter.proofs.TrialsLaws.{range-good, range-none, range-some}
 use Rattle.filter.proofs.trials.trial_of.Statement.{statement}
 use Rattle.filter.proofs.trials.trial_of.Tie as tie
 
 returns : tie.Need-returns
-returns c = range-none _ _ _ _ _ _ _ (c .if1 .taken)
+returns c = range-none _ _ _ _ _ (c .if1 .taken)
 
 sub-i : tie.Need-sub-i
 sub-i c = search needs
@@ -17,10 +17,12 @@ range-end-requires : tie.Need-range-end-requires
 range-end-requires c κs = search needs
 
 trial-in-requires : tie.Need-trial-in-requires
-trial-in-requires c κs = search needs
+trial-in-requires c κs =
+    let h = c .before .before .before .before .before .before .before .before .pre in
+    (h .1 .1 .1 .0, (h .1 .1 .1 .1 .0, (h .1 .1 .1 .1 .1, range-good _ _ _ (h .1 .0) (h .1 .1 .0) (c .before .before .if1 .left) (c .before .range-start .ensures) (c .range-end .ensures))))
 
 returns-2 : tie.Need-returns-2
-returns-2 c = range-some _ _ _ _ _ _ _ (c .before .before .before .if1 .left) (c .before .before .range-start .ensures) (c .before .range-end .ensures) (c .trial-in .ensures)
+returns-2 c = range-some _ _ _ _ _ (c .before .before .before .if1 .left) (c .before .before .range-start .ensures) (c .before .range-end .ensures) (c .trial-in .ensures)
 
 pub trial-of-spec : {M : Type 1} → statement M
 trial-of-spec =

@@ -8,7 +8,9 @@ parameter-at-requires : tie.Need-parameter-at-requires
 parameter-at-requires c κs = search needs
 
 parameter-holds-requires : tie.Need-parameter-holds-requires
-parameter-holds-requires c κs = (c .before .before .before .before .before .pre .0, (parameter-name _ _ _ (c .before .before .before .before .before .pre .1 .0) (c .before .before .before .before .before .pre .1 .1) (c .before .before .parameter-at .ensures), parameter-text _ _ _ (c .before .before .before .before .before .pre .1 .0) (c .before .before .before .before .before .pre .1 .1) (c .before .before .parameter-at .ensures)))
+parameter-holds-requires c κs =
+    let h = c .before .before .before .before .before .pre in
+    (h .0, (parameter-name _ _ _ (h .1 .0) (h .1 .1) (c .before .before .parameter-at .ensures), parameter-text _ _ _ (h .1 .0) (h .1 .1) (c .before .before .parameter-at .ensures)))
 
 returns : tie.Need-returns
 returns c = parameter-asked _ _ _ _ _ (c .before .before .before .parameter-at .ensures) (c .before .if1 .taken) (c .parameter-holds .ensures)

@@ -1,44 +1,66 @@
--- No value so far holds up, so those that are left decide.
-use Prim.Native.Nat.{_-_}
-use Rattle.line.specs.Reading.{valuesOf}
-use Rattle.property_tests.proofs.PropertyTests.{Trying, trying-start, trying-next, trying-found, trying-end}
+-- No value so far holds up, so those from here on decide.
+use Rattle.property_tests.proofs.PropertyTests.{Trying, trying-start, trying-next, trying-found, trying-end, value-rises, value-inside}
+use Prim.Native.Nat.{_-_, _+_}
+use lib.ListN.{length}
 use native.Mathlib.Omega.{arith}
 use borrow.Author.Needs.{needs}
 use Rattle.property_tests.proofs.parameters.some_value.Statement.{statement}
 use Rattle.property_tests.proofs.parameters.some_value.Tie as tie
 
 abbrev Inv-loop : tie.InvT-loop
-Inv-loop query q r p n k₀ k = Trying query q r (valuesOf p) k
+Inv-loop r text p values from₀ from = Trying r text p values from
 
 abbrev μ-loop : tie.MeasureT-loop
-μ-loop query q r p n k₀ k = n - k
+μ-loop r text p values from₀ from = length values + 1 - from
 
-value-count-requires : tie.Need-value-count-requires Inv-loop μ-loop
-value-count-requires c κs = search needs
+after-requires : tie.Need-after-requires Inv-loop μ-loop
+after-requires c κs = search needs
 
 loop-holds : tie.Need-loop-holds Inv-loop μ-loop
-loop-holds c = trying-start _ _ _ _
+loop-holds c = trying-start _ _ _ _ (c .after .ensures)
 
-parameter-value-requires : tie.Need-parameter-value-requires Inv-loop μ-loop
-parameter-value-requires c κs = search needs
+find-requires : tie.Need-find-requires Inv-loop μ-loop
+find-requires c κs = search needs
 
-text-holds-requires : tie.Need-text-holds-requires Inv-loop μ-loop
-text-holds-requires c κs = search needs
+sub-quotes-off : tie.Need-sub-quotes-off Inv-loop μ-loop
+sub-quotes-off c = value-rises _ _ (c .before .loop .inv) (c .find .ensures)
+
+part-quotes-off-start : tie.Need-part-quotes-off-start Inv-loop μ-loop
+part-quotes-off-start c = omega (arith, value-rises _ _ (c .before .loop .inv) (c .find .ensures), value-inside _ _ (c .before .loop .inv) (c .find .ensures))
+
+part-quotes-off-end : tie.Need-part-quotes-off-end Inv-loop μ-loop
+part-quotes-off-end c = omega (arith, value-rises _ _ (c .before .loop .inv) (c .find .ensures), value-inside _ _ (c .before .loop .inv) (c .find .ensures))
+
+quotes-off-requires : tie.Need-quotes-off-requires Inv-loop μ-loop
+quotes-off-requires c κs = search needs
+
+text-passes-requires : tie.Need-text-passes-requires Inv-loop μ-loop
+text-passes-requires c κs = search needs
 
 returns : tie.Need-returns Inv-loop μ-loop
-returns c = trying-found _ _ _ (c .before .before .before .before .loop .inv) (omega (arith, c .before .before .before .loop-test .taken, c .before .before .before .before .before .value-count .ensures)) (c .before .before .parameter-value .ensures) (c .before .text-holds .ensures) (c .if1 .taken)
-
-add-k : tie.Need-add-k Inv-loop μ-loop
-add-k c = omega arith
-
-loop-less : tie.Need-loop-less Inv-loop μ-loop
-loop-less c = omega arith
-
-loop-again : tie.Need-loop-again Inv-loop μ-loop
-loop-again c = trying-next _ _ _ (c .before .before .before .before .loop .inv) (omega (arith, c .before .before .before .loop-test .taken, c .before .before .before .before .before .value-count .ensures)) (c .before .before .parameter-value .ensures) (c .before .text-holds .ensures) (c .if1 .left)
+returns c = trying-found _ _ (c .before .before .before .before .before .loop .inv) (c .before .before .before .before .find .ensures) (c .before .before .quotes-off .ensures) (c .before .text-passes .ensures) (c .if1 .taken)
 
 returns-2 : tie.Need-returns-2 Inv-loop μ-loop
-returns-2 c = trying-end _ _ _ (c .before .loop .inv) (omega (arith, c .loop-test .left, c .before .before .value-count .ensures))
+returns-2 c =
+    trying-end _ _
+    (c .before .before .before .before .before .before .loop .inv)
+    (c .before .before .before .before .before .find .ensures)
+    (c .before .before .before .quotes-off .ensures)
+    (c .before .before .text-passes .ensures) (c .before .if1 .left) (c .if2 .taken)
+
+add-from : tie.Need-add-from Inv-loop μ-loop
+add-from c = omega arith
+
+loop-less : tie.Need-loop-less Inv-loop μ-loop
+loop-less c = omega (arith, value-rises _ _ (c .before .before .before .before .before .before .loop .inv) (c .before .before .before .before .before .find .ensures))
+
+loop-again : tie.Need-loop-again Inv-loop μ-loop
+loop-again c =
+    trying-next _ _
+    (c .before .before .before .before .before .before .loop .inv)
+    (c .before .before .before .before .before .find .ensures)
+    (c .before .before .before .quotes-off .ensures)
+    (c .before .before .text-passes .ensures) (c .before .if1 .left) (c .if2 .left)
 
 pub some-value-spec : {M : Type 1} → statement M
 some-value-spec =
@@ -46,12 +68,16 @@ some-value-spec =
     (tie.spec
     Inv-loop
     μ-loop
-    value-count-requires
+    after-requires
     loop-holds
-    parameter-value-requires
-    text-holds-requires
+    find-requires
+    sub-quotes-off
+    part-quotes-off-start
+    part-quotes-off-end
+    quotes-off-requires
+    text-passes-requires
     returns
-    add-k
+    returns-2
+    add-from
     loop-less
-    loop-again
-    returns-2)
+    loop-again)

@@ -1,12 +1,16 @@
--- Laws of the time range of one component, read from its place.
-use Prim.Native.Nat.{ℕ, zero, suc, _≤_, _<_}
-use mathlib.Core.Path.{_≡_, refl, sym, ap, _∙_}
-use mathlib.Core.Bool.{Bool, true, false, _||_, or-false}
-use mathlib.Core.List.{List, [], _∷_}
+-- Laws of the time range of one component: the periods of its lines, its ends, and what its row tells.
+use Prim.Native.Nat.{ℕ, zero, suc, _+_, _-_, _*_, _≤_, _<_}
+use mathlib.Core.Path.{_≡_, refl, sym, ap, _∙_, subst}
+use mathlib.Core.Bool.{Bool, true, false, cond, not, _||_, or-false}
+use mathlib.Core.List.{List}
 use native.Mathlib.Omega.{arith}
+use lib.ListN.{getD, length}
+use borrow.Author.Tests.{not-true}
 use Rattle.periods.proofs.BusyTypes.{periodsOf-typed, periodsOf-append}
 use Rattle.time.specs.Limits.{lastSecond}
 use Rattle.ascii.proofs.Bools.{clash}
+use Rattle.query.specs.Records.{rangeStart, rangeEnd}
+use Rattle.query.specs.declared.Sections.{Sections}
 use Rattle.query.specs.Counting.{someBelow}
 use Rattle.query.proofs.Counting.{none-at}
 use Rattle.line.specs.Grammar.{ContentLine}
@@ -17,27 +21,33 @@ use Rattle.periods.specs.declared.Period.{Period}
 use Rattle.property.specs.Properties.{propertyValueOf}
 use Rattle.property.specs.declared.Scope.{Scope}
 use Rattle.property.specs.declared.PropertyValue.{PropertyValue}
-use Rattle.periods.specs.declared.BusyType.{BusyType}
-use Rattle.nesting.specs.Components.{Numbered, Items, Component, itemsOf, propertiesIn}
-use Rattle.nesting.specs.Passing.{linesFrom}
-use Rattle.property_tests.specs.PropertyTests.{propertiesAt}
+use Rattle.delimiters.specs.Innermost.{isEvent, isFreeBusy}
+use Rattle.nesting.specs.Components.{Numbered, propertiesIn, Component}
+use Rattle.index.specs.Index.{lineBytes}
+use Rattle.structure.specs.Rows.{kindOf, numberedLine, RowOf, componentBy, FileRows}
+use Rattle.structure.proofs.RowsLaws.{rows-rise, inner-components, file-next, file-top-at}
 use Rattle.property_tests.proofs.PropertyTests.{SomeOf}
-use Rattle.periods.specs.BusyTypes.{BusyPeriod, typed, periodsOf}
+use Rattle.periods.specs.BusyTypes.{periodsOf}
+use Rattle.events.specs.EntryRows.{eventAt, blockAt}
 use Rattle.events.specs.declared.Event.{Event}
+use Rattle.events.specs.declared.EventRead.{EventRead}
 use Rattle.events.specs.declared.Block.{Block}
 use Rattle.events.specs.declared.BlockRead.{BlockRead}
 use Rattle.events.specs.declared.Bound.{Bound}
-use Rattle.calendar.specs.Meaning.{periodsBy, blockPeriods}
+use Rattle.calendar.specs.Meaning.{scopeOf, componentScope, eventOf, blockOf, periodsBy, blockPeriods}
 use Rattle.calendar.specs.Periods.{periodsFrom, NextPeriod, NoPeriod}
 use Rattle.calendar.proofs.Listed.{periods-all}
-use Rattle.calendar.proofs.Steps.{periods-number}
+use Rattle.calendar.proofs.Sizes.{eventOf-small}
 use Rattle.events.specs.Sizes.{EventSmall}
 use Rattle.recurrence.specs.TimeRange.{overlaps, instanceIn, EventIn, betweenIn, periodsOverlap, boundsIn, blockIn, Decides}
-use Rattle.recurrence.proofs.Candidates.{few-before, in-range-starts}
-use Rattle.recurrence.proofs.TimeRange.{periods-append}
+use Rattle.recurrence.specs.Candidates.{FirstCandidate, startsBefore}
+use Rattle.recurrence.proofs.Candidates.{few-before, in-range-starts, search-ends}
+use Rattle.recurrence.proofs.TimeRange.{decided-once, periods-append}
 use Rattle.recurrence.specs.Instances.{instancesAtMost}
-use Rattle.filter.specs.Tests.{blockRangeIn}
-use Rattle.filter.specs.Places.{givesPeriods, lineIn, linesIn, blockLinesIn}
+use Rattle.contents.specs.EntryRows.{EntryRows}
+use Rattle.filter.specs.Tests.{eventIn, blockRangeIn, componentIn, rangeHolds}
+use Rattle.filter.specs.Ranges.{givesPeriods, lineIn, linesIn, Given, Here, RowSmall, EndsOutside, RowOutside, RuledOut, Among}
+use Rattle.filter.proofs.Tests.{Beside, beside-here}
 
 -- ---- the periods of a value: none before `at` overlaps the range
 
@@ -138,14 +148,18 @@ module _ (c : Context) (a b : ℕ) where
     unfolding blockIn linesIn
     no-start p e = e ∙ none-first (k .end) ∙ sym (ap (λ (w : Bound). boundsIn a b w (k .end) (blockPeriods c xs)) p)
 
-  module _ (xs : List Numbered) {r : BlockRead} where
-    pub block-of : (y : BlockRead) (k : Block) {t : Bool} → r ≡ y → r ≡ BlockRead.Of k → t ≡ blockIn k (blockPeriods c xs) a b → t ≡ blockLinesIn c y xs a b
-    unfolding blockLinesIn
-    block-of y k e q z = z ∙ ap (λ (w : BlockRead). blockLinesIn c w xs a b) (sym q ∙ e)
+-- the ends of a block, against the range
+module _ (x : Block) (a b : ℕ) where
+  pub between-outside : (y z : ℕ) {r : Bool} → x .start ≡ Bound.At y → x .end ≡ Bound.At z → r ≡ betweenIn a b y z → not r ≡ true → EndsOutside x a b
+  unfolding blockIn boundsIn
+  between-outside y z p q e n =
+      record {
+        outside = λ ps.
+            ap (λ (w : Bound). boundsIn a b w (x .end) ps) p ∙ ap (λ (w : Bound). boundsIn a b (Bound.At y) w ps) q ∙ sym e ∙ not-true _ n;
+      }
 
-    pub block-broken : (y : BlockRead) → r ≡ y → r ≡ BlockRead.Broken → false ≡ blockLinesIn c y xs a b
-    unfolding blockLinesIn
-    block-broken y e q = ap (λ (w : BlockRead). blockLinesIn c w xs a b) (sym q ∙ e)
+  pub no-outside : false ≡ true → EndsOutside x a b
+  no-outside e = clash e refl
 
 -- ---- an event
 
@@ -170,11 +184,92 @@ some-decides {e} a b h p = go (someBelow instancesAtMost (instanceIn e a b)) ref
     go true q = record { holds = λ z. some-at e a b instancesAtMost q; fails = λ z i. clash refl z }
     go false q = record { holds = λ z. clash z refl; fails = λ z i. clash (i .passes) (none-at (instanceIn e a b) instancesAtMost (i .number) (few (i .number) (i .passes)) q) }
 
--- ---- a block of the tree, by its place
+-- an event without an instance from the first candidate on is in no range
+pub none-from : {e : Event} {a b k : ℕ} {r : Bool} → EventSmall e → b ≤ lastSecond → FirstCandidate e a k → r ≡ startsBefore e b k → not r ≡ true
+    → someBelow instancesAtMost (instanceIn e a b) ≡ false
+none-from {e} {a} {b} {k} h p f q n =
+    sym (decided-once false _ (search-ends k (f .none-before b) (sym q ∙ not-true _ n)) (some-decides a b h p))
 
-pub range-at : (c : Context) (k : Component) (s : List ℕ) (at i a b : ℕ) → k .items ≡ itemsOf 0 (linesFrom s at i) → (y : BlockRead)
-    → blockRangeIn c k y a b ≡ blockLinesIn c y (propertiesAt s at) a b
-unfolding blockRangeIn blockLinesIn propertiesAt
-range-at c k s at i a b e (BlockRead.Of x) =
-    ap (λ (ps : List BusyPeriod). blockIn x ps a b) (ap (λ (w : Items). blockPeriods c (propertiesIn w)) e ∙ periods-number c s at 0 i 1)
-range-at c k s at i a b e BlockRead.Broken = refl
+-- ---- what a component is, by its row
+
+module _ (v : List ℕ) where
+  kind-scope : {P : Type 0} → (kindOf v ≡ 1 → scopeOf v ≡ Scope.Event → P) → (kindOf v ≡ 2 → scopeOf v ≡ Scope.FreeBusy → P)
+      → (kindOf v ≡ 0 → scopeOf v ≡ Scope.Other → P) → P
+  unfolding kindOf scopeOf
+  kind-scope {P} f g h = go (isEvent v) (isFreeBusy v) f g h
+    where
+      go : (x y : Bool)
+          → (_≡_ {A = ℕ} (cond x 1 (cond y 2 0)) 1 → cond x Scope.Event (cond y Scope.FreeBusy Scope.Other) ≡ Scope.Event → P)
+          → (_≡_ {A = ℕ} (cond x 1 (cond y 2 0)) 2 → cond x Scope.Event (cond y Scope.FreeBusy Scope.Other) ≡ Scope.FreeBusy → P)
+          → (_≡_ {A = ℕ} (cond x 1 (cond y 2 0)) 0 → cond x Scope.Event (cond y Scope.FreeBusy Scope.Other) ≡ Scope.Other → P)
+          → P
+      go true y f g h = f refl refl
+      go false true f g h = g refl refl
+      go false false f g h = h refl refl
+
+-- a component's row tells what it is
+pub by-kind : {P : Type 0} {s rows : List ℕ} {k : ℕ} → RowOf s rows k
+    → (getD rows (4 * k + 3) 0 ≡ 1 → componentScope (componentBy s rows k) ≡ Scope.Event → P)
+    → (getD rows (4 * k + 3) 0 ≡ 2 → componentScope (componentBy s rows k) ≡ Scope.FreeBusy → P)
+    → (getD rows (4 * k + 3) 0 ≡ 0 → componentScope (componentBy s rows k) ≡ Scope.Other → P) → P
+unfolding componentScope componentBy numberedLine lineOf
+by-kind {P} {s} {rows} {k} r f g h =
+    kind-scope (valueOf (lineBytes s (getD rows (4 * k) 0 - 1))) (λ x y. f (r .kind ∙ x) y) (λ x y. g (r .kind ∙ x) y) (λ x y. h (r .kind ∙ x) y)
+
+module _ {c : Context} {s index rows column : List ℕ} (g : Given c s index rows column) {k : ℕ} (h : Here s rows k) where
+  -- its row is one of the file's
+  pub row-number : k < getD rows 2 0
+  row-number = omega (arith, rows-rise (h .row .inner .items), h .within)
+
+  pub event-of : getD rows (4 * k + 3) 0 ≡ 1 → eventOf c (componentBy s rows k) ≡ EventRead.Of (eventAt column k)
+  event-of e = g .entries .events k row-number e
+
+  pub block-of : getD rows (4 * k + 3) 0 ≡ 2 → blockOf c (componentBy s rows k) ≡ BlockRead.Of (blockAt column k)
+  block-of e = g .entries .blocks k row-number e
+
+  pub row-small : RowSmall rows column k
+  row-small =
+      record {
+        row-room = h .row .room;
+        entry-room = omega (arith, h .row .few, g .entries .room);
+        event-small = λ e. eventOf-small c (componentBy s rows k) (eventAt column k) (event-of e);
+      }
+
+  -- what one look at the row rules out is not in the range
+  pub outside-fails : (a b : ℕ) → RowOutside rows column k a b → componentIn c (componentScope (componentBy s rows k)) (componentBy s rows k) a b ≡ false
+  unfolding componentIn eventIn blockRangeIn
+  outside-fails a b o =
+      let x = componentBy s rows k in
+      by-kind (h .row)
+      (λ e y. ap (λ (w : Scope). componentIn c w x a b) y ∙ ap (λ (w : EventRead). eventIn w a b) (event-of e) ∙ o .no-instance e)
+      (λ e y.
+      ap (λ (w : Scope). componentIn c w x a b) y
+      ∙ ap (λ (w : BlockRead). blockRangeIn c x w a b) (block-of e)
+      ∙ o .no-block e .outside (blockPeriods c (propertiesIn (x .items))))
+      (λ e y. ap (λ (w : Scope). componentIn c w x a b) y)
+
+  pub ruled-out-fails : (p : List ℕ) (q : Sections) (r : ℕ) → RuledOut p q r rows column k → rangeHolds c p q r (componentBy s rows k) ≡ false
+  unfolding rangeHolds
+  ruled-out-fails p q zero o = absurd (omega (arith, o .some))
+  ruled-out-fails p q (suc r) o =
+      let n : suc r - 1 ≡ r = omega arith in
+      outside-fails (rangeStart p q r) (rangeEnd p q r) (subst (λ (i : ℕ). RowOutside rows column k (rangeStart p q i) (rangeEnd p q i)) n (o .outside))
+
+-- ---- which rows are the file's
+
+-- the components in that of a row
+pub inner-among : {s rows : List ℕ} {k n : ℕ} → Here s rows k → n ≡ getD rows (4 * k + 2) 0 → Among s rows (k + 1) n
+inner-among h q = rw q (record { components = inner-components (h .row); within = h .within })
+
+pub beside-file : {f : List Component → Bool} {s rows : List ℕ} {first m k : ℕ} → Beside f s rows first m k → k < m → m ≤ getD rows 2 0 → Here s rows k
+beside-file r h w = let x = beside-here r h in record { row = x .row; within = omega (arith, x .within) }
+
+module _ {s index rows : List ℕ} (h : FileRows s index rows) where
+  pub file-room : 4 * 0 + 4 ≤ length rows
+  file-room = file-next h .row .room
+
+  pub file-given : {c : Context} {column : List ℕ} → EntryRows c s rows column (getD rows 2 0) → Given c s index rows column
+  file-given e = record { indexed = h .indexed; entries = e }
+
+  pub file-among : {n : ℕ} → n ≡ getD rows 2 0 → Among s rows 0 n
+  file-among q = rw q (record { components = file-top-at h; within = omega arith })
