@@ -1,7 +1,3 @@
-pub mod Steps
-pub mod Loops
-pub mod Meanings
-pub mod Reading
-pub mod Checking
-pub mod Listed
-pub mod Sizes
+pub mod Meaning
+pub mod Checks
+pub mod Periods

@@ -1,4 +1,3 @@
 pub mod Meaning
 pub mod Checks
-pub mod Places
 pub mod Periods

@@ -1,14 +1,14 @@
-// Is a calendar good, or which refusal does it earn at which line?
-// Lines and nesting first, then values, then rules: the lowest refusal is told.
+// The refusal that a calendar earns, by what was found of its structure, its values and its rules.
+// The lowest is told: structure first, then values, then rules.
 use crate::Fault;
-use crate::contents;
-use crate::places;
-use crate::places::Below;
+use crate::RuleCheck;
+use crate::ValueCheck;
 use nesting::Structure;
-use values::times::Context;
 ghost use mathlib.Core.Path.{_≡_};
-ghost use Rattle.values.specs.Times.{ContextGood};
-ghost use Rattle.calendar.specs.Meaning.{contentsOf, meaningOf, faultOf, structureFault, structureRefusal};
+ghost use mathlib.Core.List.{[]};
+ghost use Rattle.calendar.specs.Checks.{ruleElse};
+ghost use Rattle.calendar.specs.Meaning.{byRules, byValues, faultOf, structureRefusal};
+ghost use Rattle.calendar.specs.declared.RuleCheck.{RuleCheck};
 
 // Refusals 6 and 7, by what reading the structure answered.
 pub fn structure_fault(structure: Structure) -> Fault
@@ -21,36 +21,26 @@ pub fn structure_fault(structure: Structure) -> Fault
     }
 }
 
-// Refusals 6 and 7.
-pub fn check_structure(s: &[u8]) -> Fault
-    ensures { λ r. ⌜ r ≡ structureFault (now (s .entry)) ⌝ }
+// The component of this line is broken: the first that is.
+pub fn broken_else(before: RuleCheck, number: usize) -> RuleCheck
+    ensures { λ r. ⌜ r ≡ ruleElse before (RuleCheck.Broken number) ⌝ }
 {
-    structure_fault(nesting::check_structure(s))
-}
-
-// Refusals 8, 9 and 10.
-fn check_contents(s: &[u8], c: Context) -> Fault
-    requires { ⌜ ContextGood c ⌝ }
-    ensures { λ r. ⌜ r ≡ faultOf (contentsOf c (now (s .entry))) ⌝ }
-{
-    match places::items_below(s) {
-        Below::At(at, number) => {
-            let k = contents::check_from(s, at, number, c);
-            let values = k.values;
-            let rules = k.rules;
-            contents::fault_by(values, rules)
-        }
-        Below::None => Fault::None,
+    match before {
+        RuleCheck::Good => RuleCheck::Broken(number),
+        RuleCheck::Broken(n) => RuleCheck::Broken(n),
     }
 }
 
-// Refusals 6 to 10, of the unfolded bytes.
-pub fn check_calendar(s: &[u8], c: Context) -> Fault
-    requires { ⌜ ContextGood c ⌝ }
-    ensures { λ r. ⌜ r ≡ faultOf (meaningOf c (now (s .entry))) ⌝ }
+// The refusal for what was found: a value goes before a rule.
+pub fn fault_by(values: ValueCheck, rules: RuleCheck) -> Fault
+    ensures { λ r. ⌜ r ≡ faultOf (byValues values (byRules rules [])) ⌝ }
 {
-    match check_structure(s) {
-        Fault::At(n, i) => Fault::At(n, i),
-        Fault::None => check_contents(s, c),
+    match values {
+        ValueCheck::Unsupported(n) => Fault::At(8, n),
+        ValueCheck::Bad(n) => Fault::At(9, n),
+        ValueCheck::Good => match rules {
+            RuleCheck::Good => Fault::None,
+            RuleCheck::Broken(n) => Fault::At(10, n),
+        },
     }
 }

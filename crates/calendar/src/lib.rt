@@ -1,10 +1,7 @@
 // The meaning of a calendar: its events and free-busy blocks, or the first fault with its line.
 // Each function equals one definition of specs/.
-pub mod component;
-pub mod contents;
 pub mod faults;
 pub mod period_list;
-pub mod places;
 
 // The first line with a fault of its value, or none.
 pub enum ValueCheck {

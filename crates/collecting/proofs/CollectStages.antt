@@ -46,7 +46,7 @@ use Rattle.contents.specs.Contents.{ContentsAre}
 use Rattle.contents.specs.declared.ContentsRead.{ContentsRead}
 use Rattle.contents.proofs.Contents.{structure-found}
 use Rattle.tables.specs.Building.{Built}
-use Rattle.tables.proofs.Built.{built-stored}
+use Rattle.tables.proofs.Building.{built-stored}
 use Rattle.collecting.specs.declared.Collected.{Collected}
 use Rattle.collecting.specs.CalendarTerms.{stampGood, pieceRows}
 use Rattle.collecting.specs.CollectStages.{callRead, Refuses, Tabled, ContentsTabled, CalendarTabled, CollectedAs, laterRows, laterPeriods, AllSound, Typed, unlessFault, fewestPeriods}

@@ -16,7 +16,7 @@ use Rattle.property.specs.declared.PropertyValue.{PropertyValue}
 use Rattle.property.specs.declared.Scope.{Scope}
 use Rattle.periods.specs.BusyTypes.{BusyPeriod}
 use Rattle.nesting.specs.Components.{Numbered, Component, propertiesIn}
-use Rattle.nesting.specs.Passing.{treeIn}
+use Rattle.nesting.specs.Files.{treeIn}
 use Rattle.nesting.specs.declared.Structure.{Structure}
 use Rattle.index.specs.Index.{lineBytes}
 use Rattle.structure.specs.Rows.{kindOf, numberedLine, RowOf, componentBy, componentsBy, BelowAt, FileRows}
@@ -32,14 +32,14 @@ use Rattle.events.specs.declared.BlockRead.{BlockRead}
 use Rattle.events.specs.Sizes.{EventSmall}
 use Rattle.events.proofs.EntryRows.{event-put, block-put, event-kept, block-kept}
 use Rattle.calendar.specs.Checks.{ruleElse}
-use Rattle.calendar.specs.Places.{faultElse}
+use Rattle.calendar.specs.Checks.{faultElse}
 use Rattle.calendar.specs.Meaning.{Meaning, scopeOf, componentScope, faultOr, faultIn, valueFault, eventOf, blockOf, eventBroken, blockBroken, isBroken, brokenOr, ruleFault, blockPeriods, eventEntry, blockEntry, entryOf, entriesOf, componentsOf, fileLines, byRules, byValues, contentsOf, faultOf, structureFault, structureRefusal}
-use Rattle.calendar.proofs.Meanings.{structure-refusal, no-refusal}
+use Rattle.calendar.proofs.Meaning.{structure-refusal, no-refusal}
 use Rattle.calendar.specs.declared.ValueCheck.{ValueCheck}
 use Rattle.calendar.specs.declared.RuleCheck.{RuleCheck}
 use Rattle.calendar.specs.declared.Fault.{Fault}
-use Rattle.calendar.proofs.Sizes.{eventOf-small}
-use Rattle.calendar.proofs.Steps.{faultIn-else}
+use Rattle.calendar.proofs.Meaning.{eventOf-small}
+use Rattle.calendar.proofs.Checks.{faultIn-else}
 use Rattle.pieces.specs.BusyPeriods.{eventPeriods, entryPeriods, busyPeriods}
 use Rattle.pieces.specs.Pieces.{piecesOf, busyPieces}
 use Rattle.pieces.specs.Columns.{Stored, Room}
@@ -49,7 +49,7 @@ use Rattle.contents.specs.Lines.{together, linesFault, LinesGood}
 use Rattle.contents.specs.Contents.{componentFault, EntryStands, EntryGood, EntryBroken, EntryIs, entry-good, entry-broken, entry-unsupported, entry-bad, ContentsAre}
 use Rattle.contents.specs.declared.EntryRead.{EntryRead}
 use Rattle.contents.specs.declared.ContentsRead.{ContentsRead}
-use Rattle.contents.proofs.Storing.{Left, left-start, left-then, left-none}
+use Rattle.contents.proofs.LinesStoring.{Left, left-start, left-then, left-none}
 
 -- ---- what a component is
 

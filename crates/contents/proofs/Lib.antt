@@ -1,3 +1,3 @@
-pub mod Storing
+pub mod LinesStoring
 pub mod LinesLaws
 pub mod Contents

@@ -27,7 +27,7 @@ use Rattle.contents.specs.Lines.{BlockLinesGood, BlockLinesAre, block-go
 use Rattle.contents.specs.declared.lines.LineKind.{LineKind}
 use Rattle.contents.specs.declared.lines.LinesRead.{LinesRead}
 use Rattle.contents.specs.declared.blocks.BlockLinesRead.{BlockLinesRead}
-use Rattle.contents.proofs.Storing.{Left, left-start, left-then, left-same, left-none}
+use Rattle.contents.proofs.LinesStoring.{Left, left-start, left-then, left-same, left-none}
 
 -- ---- a line by its kind
 

@@ -7,7 +7,7 @@ use blocks::BlockLinesRead;
 use calendar::Fault;
 use calendar::RuleCheck;
 use calendar::ValueCheck;
-use calendar::contents;
+use calendar::faults;
 use events::BlockRead;
 use events::EventRead;
 use events::rules;
@@ -154,7 +154,7 @@ fn answer(values: ValueCheck, rules: RuleCheck, count: usize) -> ContentsRead
     ensures { λ r. ⌜ (r .fault ≡ faultOf (byValues values (byRules rules []))) × (r .count ≡ count) ⌝ }
 {
     ContentsRead {
-        fault: contents::fault_by(values, rules),
+        fault: faults::fault_by(values, rules),
         count,
     }
 }
@@ -189,7 +189,7 @@ pub fn read_contents(
                 k = rows::next_row(rows, k);
             }
             EntryRead::Broken => {
-                rules = contents::broken_else(rules, rows::first_line(rows, k));
+                rules = faults::broken_else(rules, rows::first_line(rows, k));
                 k = rows::next_row(rows, k);
             }
             EntryRead::Unsupported(i) => return answer(ValueCheck::Unsupported(i), rules, n),

@@ -14,7 +14,7 @@ use Rattle.query_check.specs.QueryRules.{WellFormedQuery}
 use Rattle.query_check.specs.WellFormed.{queryGood}
 use Rattle.query_check.proofs.WellFormed.{query-records}
 use Rattle.query_check.proofs.QueryRules.{queryGood-iff}
-use Rattle.nesting.specs.Passing.{treeIn}
+use Rattle.nesting.specs.Files.{treeIn}
 use Rattle.refusals.specs.Refusals.{NoneApplies, lowest, sizeRows}
 use Rattle.refusals.specs.Offsets.{offsetGood, contextOf}
 use Rattle.refusals.specs.Stages.{earlyFault}

@@ -27,7 +27,7 @@ use Rattle.values.specs.Times.{atSecond, timeBy, readTime, formOf, timeOf}
 use Rattle.property.specs.Properties.{isUnsupported, timesOr, eventProperty, propertyOf, timeIn, startBy, unlessZoned, valueAs, propertyValueOf}
 use Rattle.nesting.specs.Components.{delimitedFrom, itemsOf, treeOf, componentsIn, propertiesIn, itemsBelow}
 use Rattle.nesting.specs.Nesting.{afterBegin, afterEnd, afterProperty, walk, outcome, nestingOf}
-use Rattle.nesting.specs.Passing.{treeIn}
+use Rattle.nesting.specs.Files.{treeIn}
 use Rattle.property_tests.specs.PropertyTests.{propertiesHold}
 use Rattle.events.specs.Events.{endingBy, repeatBy, eventMade, eventWith, eventFrom, eventBy}
 use Rattle.events.specs.ComponentProperties.{noProperties, timeGiven, durationGiven, ruleGiven, statusGiven, transparencyGiven, withProperty, withProperties}

@@ -8,7 +8,7 @@ use lib.IntN.{ℤ}
 use lib.ListN.{length, take, drop}
 use Rattle.text.specs.Unfolding.{unfolded, Unfolded}
 use Rattle.text.proofs.Unfolding.{unfolded-front}
-use Rattle.nesting.specs.Passing.{treeIn}
+use Rattle.nesting.specs.Files.{treeIn}
 use Rattle.values.specs.declared.times.Context.{Context}
 use Rattle.nesting.specs.declared.Structure.{Structure}
 use Rattle.structure.specs.Reading.{StructureRead}

@@ -24,7 +24,7 @@ use Rattle.report.proofs.Bytes.{report-short, equal-bytes, empty-periods}
 use Rattle.events.specs.Events.{block}
 use Rattle.calendar.specs.Meaning.{entriesOf, componentsOf, faultOf}
 use Rattle.calendar.specs.declared.Fault.{Fault}
-use Rattle.calendar.proofs.Sizes.{entries-small}
+use Rattle.calendar.proofs.Meaning.{entries-small}
 use Rattle.pieces.specs.BusyPeriods.{entryPeriods, busyPeriods}
 use Rattle.pieces.specs.Covered.{ofType, coveredBy, covered, Covers}
 use Rattle.pieces.specs.Pieces.{busyPieces}

@@ -4,7 +4,7 @@ use mathlib.Core.Path.{_≡_}
 use mathlib.Core.Bool.{Bool, true}
 use mathlib.Core.Logic.{_↔_}
 use Rattle.text.specs.Unfolding.{unfolded}
-use Rattle.nesting.specs.Passing.{treeIn}
+use Rattle.nesting.specs.Files.{treeIn}
 use Rattle.query_check.specs.QueryRules.{WellFormedQuery}
 use Rattle.filter.specs.FilterRules.{QueryPasses}
 use Rattle.refusals.specs.Refusals.{NoneApplies, Lowest}

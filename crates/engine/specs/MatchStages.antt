@@ -3,7 +3,7 @@ use Prim.Native.Nat.{ℕ}
 use mathlib.Core.Path.{_≡_}
 use mathlib.Core.List.{List, []}
 use Rattle.text.specs.Unfolding.{unfolded}
-use Rattle.nesting.specs.Passing.{treeIn}
+use Rattle.nesting.specs.Files.{treeIn}
 use Rattle.values.specs.declared.times.Context.{Context}
 use Rattle.query.specs.Sections.{sectionsOf}
 use Rattle.query.specs.declared.Sections.{Sections}

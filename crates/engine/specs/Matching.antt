@@ -5,7 +5,7 @@ use mathlib.Core.Bool.{Bool, false, not}
 use mathlib.Core.List.{List, [], _∷_}
 use lib.IntN.{ℤ}
 use Rattle.text.specs.Unfolding.{unfolded}
-use Rattle.nesting.specs.Passing.{treeIn}
+use Rattle.nesting.specs.Files.{treeIn}
 use Rattle.values.specs.declared.times.Context.{Context}
 use Rattle.query.specs.Sections.{sectionsOf}
 use Rattle.query.specs.declared.SectionsRead.{SectionsRead}

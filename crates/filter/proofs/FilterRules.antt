@@ -33,7 +33,7 @@ use Rattle.events.specs.declared.Bound.{Bound}
 use Rattle.events.specs.declared.Block.{Block}
 use Rattle.events.specs.declared.BlockRead.{BlockRead}
 use Rattle.calendar.specs.Meaning.{componentScope, eventOf, blockOf, blockPeriods}
-use Rattle.calendar.proofs.Sizes.{eventOf-small}
+use Rattle.calendar.proofs.Meaning.{eventOf-small}
 use Rattle.recurrence.specs.TimeRange.{EventIn, betweenIn, periodsOverlap, boundsIn, blockIn, Decides}
 use Rattle.recurrence.proofs.Blocks.{periods-iff}
 use Rattle.recurrence.proofs.Candidates.{search-finds}

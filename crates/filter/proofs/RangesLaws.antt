@@ -36,8 +36,8 @@ use Rattle.events.specs.declared.BlockRead.{BlockRead}
 use Rattle.events.specs.declared.Bound.{Bound}
 use Rattle.calendar.specs.Meaning.{scopeOf, componentScope, eventOf, blockOf, periodsBy, blockPeriods}
 use Rattle.calendar.specs.Periods.{periodsFrom, NextPeriod, NoPeriod}
-use Rattle.calendar.proofs.Listed.{periods-all}
-use Rattle.calendar.proofs.Sizes.{eventOf-small}
+use Rattle.calendar.proofs.Periods.{periods-all}
+use Rattle.calendar.proofs.Meaning.{eventOf-small}
 use Rattle.events.specs.Sizes.{EventSmall}
 use Rattle.recurrence.specs.TimeRange.{overlaps, instanceIn, EventIn, betweenIn, periodsOverlap, boundsIn, blockIn, Decides}
 use Rattle.recurrence.specs.Candidates.{FirstCandidate, startsBefore}

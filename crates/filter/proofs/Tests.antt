@@ -18,7 +18,7 @@ use Rattle.query_check.specs.WellFormed.{recordsGood}
 use Rattle.query_check.proofs.QueryRules.{records-say}
 use Rattle.values.specs.declared.times.Context.{Context}
 use Rattle.nesting.specs.Components.{Component}
-use Rattle.nesting.specs.Passing.{treeIn}
+use Rattle.nesting.specs.Files.{treeIn}
 use Rattle.structure.specs.Rows.{FileRows, componentBy, componentsBy, numberedLine, ComponentsAt, RowOf}
 use Rattle.structure.proofs.RowsLaws.{file-top, NextComponent, components-next, components-none}
 use Rattle.line.specs.Reading.{valueOf, lineOf}

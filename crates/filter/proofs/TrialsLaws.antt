@@ -26,7 +26,7 @@ use Rattle.events.specs.declared.Block.{Block}
 use Rattle.events.specs.declared.BlockRead.{BlockRead}
 use Rattle.events.specs.Sizes.{EventSmall}
 use Rattle.calendar.specs.Meaning.{componentScope, eventOf, blockPeriods}
-use Rattle.calendar.proofs.Sizes.{eventOf-small}
+use Rattle.calendar.proofs.Meaning.{eventOf-small}
 use Rattle.recurrence.specs.TimeRange.{instanceIn, blockIn}
 use Rattle.recurrence.specs.Candidates.{FirstCandidate, startsBefore}
 use Rattle.recurrence.specs.Instances.{instancesAtMost}

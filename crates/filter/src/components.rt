@@ -13,7 +13,7 @@ ghost use Prim.Native.Nat.{_+_, _-_, _*_, _≤_, _<_};
 ghost use lib.ListN.{getD};
 ghost use Rattle.ascii.specs.Names.{sameName};
 ghost use Rattle.values.specs.Times.{ContextGood};
-ghost use Rattle.nesting.specs.Passing.{treeIn};
+ghost use Rattle.nesting.specs.Files.{treeIn};
 ghost use Rattle.index.specs.Index.{Indexed};
 ghost use Rattle.structure.specs.Rows.{ComponentsAt, RowOf, FileRows, componentBy, componentsBy};
 ghost use Rattle.query.specs.Fits.{Fits};

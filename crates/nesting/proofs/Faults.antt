@@ -21,7 +21,7 @@ use Rattle.nesting.specs.Nesting.{Walk, start, inside, closed, broken, a
 use Rattle.nesting.specs.WellNested.{numberedFrom}
 use Rattle.nesting.specs.Faults.{GoesOn, BreaksAt, StopsAt, FaultAt, breaks, stops}
 use Rattle.nesting.specs.declared.Nesting.the-variants.{Good, BadLine}
-use Rattle.nesting.proofs.Walking.{walk-numbered, stays-broken, step-end}
+use Rattle.nesting.proofs.NestingLaws.{walk-numbered, stays-broken, step-end}
 
 -- ---- what is open has names
 

@@ -1,8 +1,4 @@
-pub mod Walking
+pub mod NestingLaws
 pub mod WellNested
 pub mod Faults
-pub mod Innermost
-pub mod Passing
-pub mod Components
-pub mod Leaving
 pub mod Examples

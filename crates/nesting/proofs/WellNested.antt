@@ -7,7 +7,7 @@ use mathlib.Core.Logic.{_↔_}
 use mathlib.Core.List.{List, [], _∷_, _++_, append-assoc, map}
 use Rattle.text.specs.Lines.{contentLines}
 use Rattle.line.specs.Reading.{lineOf}
-use Rattle.nesting.specs.Passing.{nestingIn, treeIn}
+use Rattle.nesting.specs.Files.{nestingIn, treeIn}
 use native.Mathlib.Omega.{arith}
 use lib.ListN.{length, length-append}
 use Rattle.ascii.specs.Names.{sameName}
@@ -20,7 +20,7 @@ use Rattle.nesting.specs.Nesting.{Walk, start, inside, closed, broken, a
 use Rattle.nesting.specs.Components.{Numbered, begins, ends, other, Items, none, property, component, endOf, itemsOf, treeOf, renderedItems}
 use Rattle.nesting.specs.WellNested.{numberedFrom, componentCount, AllowedAt, NestedAt, nothing, with-property, with-component, WellNested, calendar}
 use Rattle.nesting.specs.declared.Nesting.the-variants.{Good}
-use Rattle.nesting.proofs.Walking.{stepped, walked, delimiters, walk-numbered, delimiters-numbered, may-begin-allowed, step-begin, step-end, step-property, broken-step, closed-last}
+use Rattle.nesting.proofs.NestingLaws.{stepped, walked, delimiters, walk-numbered, delimiters-numbered, may-begin-allowed, step-begin, step-end, step-property, broken-step, closed-last}
 
 -- ---- from a tree to its lines: the tree is read back, and the walk passes it
 

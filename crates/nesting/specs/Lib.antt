@@ -2,4 +2,4 @@ pub mod Nesting
 pub mod Components
 pub mod WellNested
 pub mod Faults
-pub mod Passing
+pub mod Files

@@ -43,7 +43,7 @@ use Rattle.events.specs.declared.BlockRead.{BlockRead}
 use Rattle.calendar.specs.Meaning.{propertyValuesIn, faultOr, faultIn, periodsBy, blockPeriods, scopeOf, componentScope, valueFault, blockOf, isBroken, brokenOr, ruleFault, entryOf, entriesOf, componentsOf, calendar, meaningOf}
 use Rattle.calendar.specs.declared.ValueCheck.{ValueCheck}
 use Rattle.calendar.specs.declared.RuleCheck.{RuleCheck}
-use Rattle.calendar.proofs.Meanings.{not-refused}
+use Rattle.calendar.proofs.Meaning.{not-refused}
 use Rattle.pieces.specs.Covered.{ofType}
 use Rattle.pieces.proofs.Pieces.{ofType-append}
 use Rattle.readback.specs.Reading.{reportPeriods, reportMeaning}

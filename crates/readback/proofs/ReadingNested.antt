@@ -12,7 +12,6 @@ use Rattle.delimiters.specs.Innermost.{isCalendar}
 use Rattle.delimiters.specs.declared.Delimiter.the-variants.{Property}
 use Rattle.nesting.specs.Nesting.{nestingOf}
 use Rattle.nesting.specs.Components.{Numbered, Items, none, property, component, Component, treeOf, componentsIn, propertiesIn, itemsBelow, renderedItems}
-use Rattle.nesting.specs.Passing.{numbered}
 use Rattle.nesting.specs.WellNested.{numberedFrom, componentCount, AllowedAt, NestedAt, nothing, with-property, with-component, WellNested, calendar}
 use Rattle.nesting.specs.declared.Nesting.{Nesting}
 use Rattle.nesting.proofs.WellNested.{tree-good, tree-same}
@@ -21,6 +20,10 @@ use Rattle.calendar.specs.Meaning.{fileLines, componentsOf}
 use Rattle.report.specs.Bytes.{Report, reportBytes}
 use Rattle.readback.specs.Reading.{reportPeriods}
 use Rattle.readback.proofs.ReadingLines.{periodLine, blockContent, calendarBegin, versionLine, productLine, blockBegin, blockEnd, calendarEnd, reportContent, report-lines-read}
+
+-- a content line with its number
+abbrev numbered : ℕ → ContentLine → Numbered
+numbered i x = record { number = i; line = x }
 
 -- ---- lines that are all properties, side by side
 

@@ -21,11 +21,11 @@ use Rattle.delimiters.specs.declared.NestingStep.{NestingStep}
 use Rattle.nesting.specs.Nesting.{Walk, start, inside, closed, broken, afterDelimiter, afterBegin, afterEnd, afterProperty, afterWrong, walk, outcome, nestingOf}
 use Rattle.nesting.specs.Components.{none, itemsOf, delimitedFrom}
 use Rattle.nesting.specs.WellNested.{numberedFrom}
-use Rattle.nesting.specs.Passing.{nestingFrom, nestingIn, structureBy}
+use Rattle.nesting.specs.Files.{nestingFrom, nestingIn, structureBy}
 use Rattle.nesting.specs.declared.Nesting.{Nesting}
 use Rattle.nesting.specs.declared.Structure.{Structure}
-use Rattle.nesting.proofs.Innermost.{afterNestingStep, after-step, Room, opens-room}
-use Rattle.nesting.proofs.Walking.{walk-numbered, stays-broken, after-closed}
+use Rattle.nesting.proofs.NestingLaws.{afterNestingStep, after-step, Room, opens-room}
+use Rattle.nesting.proofs.NestingLaws.{walk-numbered, stays-broken, after-closed}
 use Rattle.index.specs.Index.{lineBytes, Entry, Lines, FilledBy}
 use Rattle.index.specs.declared.Filled.{Filled}
 use Rattle.structure.specs.Rows.{kindOf, linesAfter, delimitedBy, itemsBy, RowPut, RowAt, LineIs, ItemRows, nothing, with-property, with-component}

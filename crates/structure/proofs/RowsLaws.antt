@@ -21,7 +21,7 @@ use Rattle.delimiters.specs.declared.Delimiter.{Delimiter}
 use Rattle.delimiters.specs.declared.Delimiter.the-variants.{Begins, Ends, Property}
 use Rattle.nesting.specs.Components.{Numbered, begins, other, delimitedAs, delimitedFrom, Items, none, property, component, itemsOf, endOf, treeOf, itemsBelow, Component, componentsIn}
 use Rattle.nesting.specs.WellNested.{AllowedAt, NestedAt, WellNested, calendar}
-use Rattle.nesting.specs.Passing.{treeIn}
+use Rattle.nesting.specs.Files.{treeIn}
 use Rattle.nesting.proofs.WellNested.{file-nested}
 use Rattle.index.specs.Index.{lineBytes}
 use Rattle.structure.specs.Rows.{kindOf, linesAfter, delimitedBy, itemsBy, numberedLine, RowPut, RowAt, LineIs, ItemRows, nothing, with-property, with-component}

@@ -6,7 +6,7 @@ use lib.ListN.{length, getD}
 use Rattle.line.specs.WellFormed.{lineCheck}
 use Rattle.delimiters.specs.declared.Delimiter.the-variants.{Ends}
 use Rattle.nesting.specs.Nesting.{inside, outside}
-use Rattle.nesting.specs.Passing.{nestingFrom, nestingIn, structureBy}
+use Rattle.nesting.specs.Files.{nestingFrom, nestingIn, structureBy}
 use Rattle.nesting.specs.declared.Nesting.the-variants.{BadLine}
 use Rattle.nesting.specs.declared.Structure.{Structure}
 use Rattle.index.specs.Index.{Lines}

@@ -14,7 +14,7 @@ use Rattle.delimiters.specs.declared.Delimiter.{Delimiter}
 use Rattle.delimiters.specs.declared.Delimiter.the-variants.{Begins, Ends, Property}
 use Rattle.nesting.specs.Components.{Numbered, Delimited, delimitedFrom, Items, none, endOf, itemsOf, Component, componentsIn}
 use Rattle.nesting.specs.WellNested.{NestedAt}
-use Rattle.nesting.specs.Passing.{nestingIn}
+use Rattle.nesting.specs.Files.{nestingIn}
 use Rattle.nesting.specs.declared.Nesting.the-variants.{Good}
 use Rattle.index.specs.Index.{lineBytes, Indexed}
 

@@ -2,7 +2,7 @@
 use Prim.Native.Nat.{_-_}
 use lib.ListN.{length}
 use Rattle.line.proofs.Splitting.{item-rises, item-inside}
-use Rattle.calendar.proofs.Listed.{Leaving, leaving-start, leaving-bad, leaving-found, leaving-end, period-onward}
+use Rattle.calendar.proofs.Periods.{Leaving, leaving-start, leaving-bad, leaving-found, leaving-end, period-onward}
 use native.Mathlib.Omega.{arith}
 use borrow.Author.Needs.{needs}
 use Rattle.calendar.proofs.period_list.next_period.Statement.{statement}

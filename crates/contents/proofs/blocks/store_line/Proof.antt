@@ -1,5 +1,5 @@
 -- `contents::blocks::store_line` meets its contract: a line that gives periods stores those of its value, any other none.
-use Rattle.contents.proofs.Storing.{line-stored, line-left}
+use Rattle.contents.proofs.LinesStoring.{line-stored, line-left}
 use borrow.Author.Needs.{needs}
 use Rattle.contents.proofs.blocks.store_line.Statement.{statement}
 use Rattle.contents.proofs.blocks.store_line.Tie as tie

@@ -2,10 +2,10 @@
 use mathlib.Core.Path.{sym, _∙_}
 use Prim.Native.Nat.{_-_}
 use lib.ListN.{length}
-use Rattle.calendar.proofs.Listed.{next-period-at, no-period-at}
+use Rattle.calendar.proofs.Periods.{next-period-at, no-period-at}
 use Rattle.pieces.specs.Pieces.{piecesOf}
 use Rattle.contents.specs.Lines.{valuePeriods}
-use Rattle.contents.proofs.Storing.{Left, left-full, pieces-from, value-start, value-next, value-end}
+use Rattle.contents.proofs.LinesStoring.{Left, left-full, pieces-from, value-start, value-next, value-end}
 use native.Mathlib.Omega.{arith}
 use borrow.Author.Needs.{needs}
 use Rattle.contents.proofs.blocks.store_value.Statement.{statement}

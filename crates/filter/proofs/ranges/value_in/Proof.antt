@@ -1,7 +1,7 @@
 -- No period so far touches the range, so those that are left decide.
 use Prim.Native.Nat.{_-_}
 use lib.ListN.{length}
-use Rattle.calendar.proofs.Listed.{next-period-at, no-period-at}
+use Rattle.calendar.proofs.Periods.{next-period-at, no-period-at}
 use native.Mathlib.Omega.{arith}
 use borrow.Author.Needs.{needs}
 use Rattle.filter.proofs.RangesLaws.{Overlapping, overlapping-start, overlapping-next, overlapping-found, overlapping-end}
