@@ -134,7 +134,8 @@ pub fn read_block_lines(
             Item::Property => {
                 let next = i + 1;
                 let line = index::line_at(s, index, i);
-                let value = property::property_value_named(c, Scope::FreeBusy, line);
+                let length = index::name_length(index, i);
+                let value = property::property_value_named(c, Scope::FreeBusy, line, length);
                 match lines::kind_of(value) {
                     LineKind::Unread => {
                         i = next;

@@ -74,6 +74,7 @@ pub fn read_event_lines(s: &[u8], index: &[u32], rows: &[u32], k: usize, c: Cont
                     c,
                     Scope::Event,
                     index::line_at(s, index, i),
+                    index::name_length(index, i),
                 );
                 match kind_of(value) {
                     LineKind::Unread => {

@@ -14,7 +14,8 @@ use structure::rows;
 use values::times::Context;
 ghost use mathlib.Core.Path.{_≡_};
 ghost use mathlib.Core.Bool.{true};
-ghost use Rattle.line.specs.Reading.{lineOf};
+ghost use lib.ListN.{length};
+ghost use Rattle.line.specs.Reading.{nameOf, lineOf};
 ghost use Rattle.nesting.specs.Components.{propertiesIn};
 ghost use Rattle.values.specs.Times.{ContextGood};
 ghost use Rattle.index.specs.Index.{Indexed};
@@ -60,12 +61,13 @@ fn gives_periods(value: PropertyValue) -> bool
     }
 }
 
-// Does some period of a line overlap the range?
-fn line_in(line: &[u8], c: Context, a: u64, b: u64) -> bool
+// Does some period of a line, whose name is n bytes long, overlap the range?
+fn line_in(line: &[u8], n: usize, c: Context, a: u64, b: u64) -> bool
     requires { ⌜ ContextGood c ⌝ }
+    requires { ⌜ n ≡ length (nameOf (now line)) ⌝ }
     ensures { λ r. ⌜ r ≡ lineIn c a b (lineOf (now (line .entry))) ⌝ }
 {
-    if gives_periods(property::property_value_of(c, Scope::FreeBusy, line)) {
+    if gives_periods(property::property_value_of(c, Scope::FreeBusy, line, n)) {
         value_in(read::value(line), a, b)
     } else {
         false
@@ -86,7 +88,8 @@ fn lines_in(s: &[u8], index: &[u32], rows: &[u32], k: usize, c: Context, a: u64,
     loop {
         match items::item_at(rows, i, row, stop, end) {
             Item::Property => {
-                if line_in(index::line_at(s, index, i), c, a, b) {
+                let n = index::name_length(index, i);
+                if line_in(index::line_at(s, index, i), n, c, a, b) {
                     return true;
                 }
                 i += 1;

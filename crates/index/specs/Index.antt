@@ -1,11 +1,12 @@
--- The index of lines: where each line of a file starts, and behind the last where the file ends. Lines are counted from 0.
-use Prim.Native.Nat.{ℕ, _+_, _-_, _*_, _≤_, _<_}
+-- The index of lines: where each line of a file starts and how long its name is, and behind the last where the file ends. Lines are counted from 0.
+use Prim.Native.Nat.{ℕ, _+_, _-_, _*_, _/_, _%_, _≤_, _<_}
 use mathlib.Core.Path.{_≡_}
 use mathlib.Core.Bool.{true}
 use mathlib.Core.List.{List, []}
 use lib.ListN.{length, drop, getD}
 use Rattle.text.specs.Lines.{line, cut, part, contentLines}
 use Rattle.line.specs.Scanner.{isWellFormed}
+use Rattle.line.specs.Reading.{nameOf}
 use Rattle.line.specs.WellFormed.{lineCheck}
 use Rattle.line.specs.declared.check.LineCheck.the-variants.{Good, BadLine}
 use Rattle.index.specs.declared.Filled.{Filled}
@@ -22,9 +23,17 @@ pub record Between (s : List ℕ) (i a b : ℕ) : Type 0 where
   pub cut-there : cut (drop a s) ≡ line (part s a (b - 2)) (cut (drop b s))
   pub place : contentLines (drop a s) ≡ drop i (contentLines s)
 
+-- what an entry says: where the line starts, and how long its name is
+unfoldable pub startIn : ℕ → ℕ
+startIn v = v % 131072
+
+unfoldable pub nameIn : ℕ → ℕ
+nameIn v = v / 131072
+
 -- the index knows line i
 pub record Entry (s index : List ℕ) (i : ℕ) : Type 0 where
-  pub between : Between s i (getD index i 0) (getD index (i + 1) 0)
+  pub between : Between s i (startIn (getD index i 0)) (startIn (getD index (i + 1) 0))
+  pub named : nameIn (getD index i 0) ≡ length (nameOf (lineBytes s i))
 
 -- the index knows every line, and each is well formed
 pub record Indexed (s index : List ℕ) : Type 0 where

@@ -1,10 +1,12 @@
-// The index of lines: where each line of a file starts, found once and kept in lent memory.
-// Whoever wants a line later asks by its number; nobody searches a line end again.
+// The index of lines: where each line of a file starts and how long its name is, found once and kept in lent memory.
+// Whoever wants a line later asks by its number; nobody searches a line end again, nor the end of a name.
 use line::check::Next;
 ghost use mathlib.Core.Path.{_≡_};
 ghost use Prim.Native.Nat.{_+_, _*_, _≤_, _<_};
-ghost use lib.ListN.{length};
-ghost use Rattle.index.specs.Index.{FilledBy, Entry, lineBytes};
+ghost use lib.ListN.{length, getD};
+ghost use Rattle.ascii.specs.Names.{sameName};
+ghost use Rattle.line.specs.Reading.{nameOf};
+ghost use Rattle.index.specs.Index.{FilledBy, Entry, lineBytes, nameIn};
 
 // What filling the index tells.
 pub enum Filled {
@@ -20,24 +22,27 @@ fn wide(x: u32) -> usize
     x as usize
 }
 
-// Entry i is where line i starts, counted from 0; behind the last line stands the length. A line has four bytes or more with its CR LF.
+// Entry i is where line i starts, counted from 0, and the length of its name in units of 131,072; behind the last line stands the length of the file.
+// A line has four bytes or more with its CR LF.
 pub fn fill_index(index: &mut [u32], s: &[u8]) -> Filled
     requires { ⌜ length (now s) < 4 * length (now index) ⌝ }
     requires { ⌜ length (now s) ≤ 65536 ⌝ }
     ensures { λ r. ⌜ FilledBy (now (s .entry)) (now (index .exit)) r ⌝ }
 {
-    index[0] = 0;
     let mut at = 0;
     let mut n = 0;
     loop {
         match line::check::next_good(s, at) {
-            Next::Line(e) => {
+            Next::Line(e, name) => {
+                index[n] = (at + name * 131072) as u32;
                 at = e + 2;
                 n += 1;
-                index[n] = at as u32;
             }
             Next::Bad => return Filled::BadLine(n + 1),
-            Next::End => return Filled::Lines(n),
+            Next::End => {
+                index[n] = at as u32;
+                return Filled::Lines(n);
+            }
         }
     }
 }
@@ -47,7 +52,28 @@ pub fn line_at<'a>(s: &'a [u8], index: &[u32], i: usize) -> &'a [u8]
     requires { ⌜ Entry (now s) (now index) i ⌝ }
     ensures { λ r. ⌜ now r ≡ lineBytes (now (s .entry)) i ⌝ }
 {
-    let a = wide(index[i]);
-    let b = wide(index[i + 1]);
+    let a = wide(index[i]) % 131072;
+    let b = wide(index[i + 1]) % 131072;
     &s[a..b - 2]
+}
+
+// The length of the name of line i.
+pub fn name_length(index: &[u32], i: usize) -> usize
+    requires { ⌜ i < length (now index) ⌝ }
+    ensures { λ r. ⌜ r ≡ nameIn (getD (now (index .entry)) i 0) ⌝ }
+{
+    wide(index[i]) / 131072
+}
+
+// Has line i the name, ASCII case disregarded? Mostly the lengths tell, and no byte is looked at.
+pub fn is_called(s: &[u8], index: &[u32], i: usize, name: &[u8]) -> bool
+    requires { ⌜ Entry (now s) (now index) i ⌝ }
+    ensures { λ r. ⌜ r ≡ sameName (nameOf (lineBytes (now (s .entry)) i)) (now (name .entry)) ⌝ }
+{
+    let n = name_length(index, i);
+    if n != name.len() {
+        return false;
+    }
+    let line = line_at(s, index, i);
+    ascii::same_name(&line[..n], name)
 }

@@ -3,6 +3,7 @@ pub mod Grammar
 pub mod Splitting
 pub mod ReadingParameters
 pub mod Reading
+pub mod NameLength
 pub mod WellFormed
 pub mod Rendering
 pub mod File

@@ -7,7 +7,7 @@ use mathlib.Core.List.{List, [], _∷_, _++_, append-assoc, append-nil, map}
 use mathlib.Core.Logic.{_↔_, _⊎_, inl, inr, ⊎-elim}
 use native.Mathlib.Omega.{arith}
 use lib.Dec.{eqb, ltb}
-use lib.ListN.{length, take, drop, getD}
+use lib.ListN.{length, take, drop, getD, length-take}
 use lib.Seq.{length-take-le, take-take, take-all, getD-take}
 use borrow.Author.Tests.{eqb-true, ltb-true, ltb-false}
 use Rattle.ascii.specs.Bytes.{isNameByte, isLetter, isDigit, upper}
@@ -205,7 +205,7 @@ module _ (q : Bool) (b : ℕ) (s : List ℕ) where
       rw (firstOutside-keep true 58 q b s e) (firstOutside-cut true 59 q b (take (firstOutside true 58 (quotedAfter true q b) s) s) f)
 
   -- at either of the two the name ends
-  nameEnd-cut : endsName q b ≡ true → nameEnd q (b ∷ s) ≡ 0
+  pub nameEnd-cut : endsName q b ≡ true → nameEnd q (b ∷ s) ≡ 0
   nameEnd-cut h = go (eqb b 58) refl
     where
       go : (t : Bool) → eqb b 58 ≡ t → nameEnd q (b ∷ s) ≡ 0
@@ -213,7 +213,7 @@ module _ (q : Bool) (b : ℕ) (s : List ℕ) where
       go false e = nameEnd-semicolon (ap (λ (t : Bool). t && not q) e) (rw e at h)
 
   -- at any other byte it goes on
-  nameEnd-keep : endsName q b ≡ false → nameEnd q (b ∷ s) ≡ suc (nameEnd (quotedAfter true q b) s)
+  pub nameEnd-keep : endsName q b ≡ false → nameEnd q (b ∷ s) ≡ suc (nameEnd (quotedAfter true q b) s)
   unfolding nameEnd
   nameEnd-keep h =
       rw
@@ -249,6 +249,18 @@ name-is l =
 
 pub name-found : (l : List ℕ) (i : ℕ) → i ≡ nameEnd false l → take i l ≡ nameOf l
 name-found l i e = ap (λ (n : ℕ). take n l) e ∙ name-is l
+
+pub nameEnd-length : (l : List ℕ) → length (nameOf l) ≡ nameEnd false l
+unfolding nameEnd nameOf headOf before
+nameEnd-length l =
+    let h : List ℕ = take (firstOutside true 58 false l) l in length-take-le (firstOutside true 59 false h) h (firstOutside-le true 59 false h)
+
+-- so many bytes of the line are its name
+pub name-take : (l : List ℕ) (n : ℕ) → n ≡ length (nameOf l) → take n l ≡ nameOf l
+name-take l n e = name-found l n (e ∙ nameEnd-length l)
+
+pub name-fits : (l : List ℕ) → length (nameOf l) ≤ length l
+name-fits l = omega (arith, length-take (nameEnd false l) l, ap length (name-is l))
 
 -- where it ends with the line, the line is the name
 pub name-whole : (l : List ℕ) (i : ℕ) → length l ≤ i → i ≡ nameEnd false l → l ≡ nameOf l

@@ -7,7 +7,7 @@ use mathlib.Core.List.{List, [], _∷_, _++_}
 use native.Mathlib.Omega.{arith}
 use lib.Dec.{ltb, eqb, leb}
 use lib.ListN.{length, drop, getD}
-use borrow.Author.Tests.{le-leb, lt-leb, lt-ltb, not-false, ltb-true, ltb-false, eqb-true, ne-eqb}
+use borrow.Author.Tests.{le-leb, lt-leb, not-false, ltb-true, ltb-false, eqb-true, ne-eqb}
 use Rattle.ascii.specs.Bytes.{isNameByte, isControl, isLetter, isDigit}
 use Rattle.ascii.specs.Names.{isName, every}
 use Rattle.ascii.proofs.Lists.{drop-next, drop-end}
@@ -166,47 +166,9 @@ pub leads-name : (l : List ℕ) (a i : ℕ) (t : Bool) → a < length l → t �
     → Leads l ParameterName (a + 1) ParameterName i → Leads l ParameterStart a ParameterName i
 leads-name l a i t h e p w = leads-after l ParameterStart ParameterName ParameterName a i h (sym (starts-parameter-name _ (sym e ∙ not-false t p))) w
 
--- the state after i name bytes
-abbrev pub named : ℕ → State
-named i = cond (ltb 0 i) Name Start
-
-named-step : (t : Bool) (b : ℕ) → isNameByte b ≡ true → step (cond t Name Start) b ≡ Name
-named-step true b e = name-stays b e
-named-step false b e = starts-name b e
-
-pub named-next : (l : List ℕ) (i : ℕ) → i < length l → isNameByte (getD l i 0) ≡ true
-    → scan (named (i + 1)) (drop (i + 1) l) ≡ scan (named i) (drop i l)
-named-next l i h e =
-    ap (λ (t : Bool). scan (cond t Name Start) (drop (i + 1) l)) (lt-ltb 0 (i + 1) (omega arith))
-    ∙ ap (λ (q : State). scan q (drop (i + 1) l)) (sym (named-step (ltb 0 i) _ e))
-    ∙ scan-next (named i) l i h
-
--- where no name byte follows, there is a name if there was a byte
-name-or-none : (t : Bool) (s : List ℕ) → scan Start s ≡ false → (t && scan Name s) ≡ scan (cond t Name Start) s
-name-or-none true s e = refl
-name-or-none false s e = sym e
-
-no-name : (b : ℕ) → isNameByte b ≡ false → step Start b ≡ Wrong
+pub no-name : (b : ℕ) → isNameByte b ≡ false → step Start b ≡ Wrong
 unfolding step
 no-name b e = rw e
-
-pub named-stop : (l : List ℕ) (i : ℕ) → i < length l → isNameByte (getD l i 0) ≡ false
-    → (ltb 0 i && scan Name (drop i l)) ≡ scan (named i) (drop i l)
-named-stop l i h e =
-    name-or-none (ltb 0 i) (drop i l)
-    (sym (scan-next Start l i h) ∙ ap (λ (q : State). scan q (drop (i + 1) l)) (no-name _ e) ∙ wrong-stays (drop (i + 1) l))
-
-pub named-end : (l : List ℕ) (i : ℕ) → length l ≤ i → (ltb 0 i && scan Name (drop i l)) ≡ scan (named i) (drop i l)
-unfolding isEnding
-named-end l i h = name-or-none (ltb 0 i) (drop i l) (scan-end Start l i h)
-
--- a line that begins with no name byte, and one whose name has been read
-pub wellFormed-nameless : (l : List ℕ) (n : ℕ) → length l ≤ 1024 → (ltb 0 n && scan Name (drop n l)) ≡ scan Start l → n ≡ 0 → isWellFormed l ≡ false
-wellFormed-nameless l n h e z = sym (wellFormed-start l h) ∙ sym e ∙ ap (λ (k : ℕ). ltb 0 k && scan Name (drop n l)) z
-
-pub wellFormed-named : (l : List ℕ) (n : ℕ) → length l ≤ 1024 → (ltb 0 n && scan Name (drop n l)) ≡ scan Start l → (n ≡ 0 → ⊥)
-    → scan Name (drop n l) ≡ isWellFormed l
-wellFormed-named l n h e k = sym (ap (λ (t : Bool). t && scan Name (drop n l)) (lt-ltb 0 n (omega (arith, k)))) ∙ e ∙ wellFormed-start l h
 
 -- a colon behind the name leads to the value
 pub colon-next : (l : List ℕ) (i : ℕ) → i < length l → getD l i 0 ≡ 58 → scan Value (drop (i + 1) l) ≡ scan Name (drop i l)

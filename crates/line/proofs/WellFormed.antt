@@ -10,9 +10,10 @@ use borrow.Author.Tests.{not-true}
 use Rattle.ascii.proofs.Bools.{and-left, and-right, and-both, clash}
 use Rattle.text.specs.Lines.{CutLines, end, unended, line, cut, part, LineAt, UnendedAt, NothingAt, linesOf, allLines, contentLines, everyLine}
 use Rattle.line.specs.Scanner.{isWellFormed}
-use Rattle.line.specs.WellFormed.{lineCheckFrom, lineCheck, AllGood, linesThen, beginsBadly, FirstBad, GoodLineAt, BadLineAt, NextAt, Checked}
+use Rattle.line.specs.WellFormed.{lineCheckFrom, lineCheck, AllGood, linesThen, beginsBadly, FirstBad, wellFormedName, GoodLineAt, NamedLineAt, BadLineAt, NextAt, Checked}
 use Rattle.line.specs.declared.check.LineCheck.the-variants.{Good, BadLine}
 use Rattle.line.specs.declared.check.Next.{Next}
+use Rattle.line.proofs.NameLength.{named-well, unnamed-badly}
 
 -- ---- one piece
 
@@ -32,13 +33,14 @@ begins-badly n end e = clash e refl
 begins-badly n (unended t) e = refl
 begins-badly n (line l p) e = lineCheck-badly n l p (not-true (isWellFormed l) e)
 
-pub next-line : {s : List ℕ} {from : ℕ} (e : ℕ) {t : Bool} → LineAt s from e → t ≡ isWellFormed (part s from e) → t ≡ true → NextAt s from (Next.Line e)
+pub next-line : {s : List ℕ} {from : ℕ} (e n : ℕ) → LineAt s from e → n ≡ wellFormedName (part s from e) → (n ≡ 0 → ⊥) → NextAt s from (Next.Line e n)
 unfolding NextAt
-next-line e h q w = record { line = h; good = sym q ∙ w }
+next-line {s} {from} e n h q w =
+    let k = named-well (part s from e) n q w in record { good = record { line = h; good = k .0 }; name = k .1 }
 
-pub next-badly : {s : List ℕ} {from : ℕ} (e : ℕ) {t : Bool} → LineAt s from e → t ≡ isWellFormed (part s from e) → t ≡ false → NextAt s from Next.Bad
+pub next-badly : {s : List ℕ} {from : ℕ} (e n : ℕ) → LineAt s from e → n ≡ wellFormedName (part s from e) → n ≡ 0 → NextAt s from Next.Bad
 unfolding NextAt beginsBadly
-next-badly e h q w = record { bad = ap beginsBadly (h .cuts) ∙ ap not (sym q ∙ w) }
+next-badly {s} {from} e n h q w = record { bad = ap beginsBadly (h .cuts) ∙ ap not (unnamed-badly (part s from e) (sym q ∙ w)) }
 
 pub next-unended : {s : List ℕ} {from : ℕ} → UnendedAt s from → NextAt s from Next.Bad
 unfolding NextAt beginsBadly
@@ -49,9 +51,12 @@ unfolding NextAt
 next-none h = h
 
 -- what a caller learns from each answer
-pub good-line : {s : List ℕ} {from : ℕ} {r : Next} (e : ℕ) → NextAt s from r → r ≡ Next.Line e → GoodLineAt s from e
+pub named-line : {s : List ℕ} {from : ℕ} {r : Next} (e n : ℕ) → NextAt s from r → r ≡ Next.Line e n → NamedLineAt s from e n
 unfolding NextAt
-good-line {s} {from} e h q = subst (NextAt s from) q h
+named-line {s} {from} e n h q = subst (NextAt s from) q h
+
+pub good-line : {s : List ℕ} {from : ℕ} {r : Next} (e : ℕ) {n : ℕ} → NextAt s from r → r ≡ Next.Line e n → GoodLineAt s from e
+good-line e {n} h q = named-line e n h q .good
 
 pub bad-line : {s : List ℕ} {from : ℕ} {r : Next} → NextAt s from r → r ≡ Next.Bad → BadLineAt s from
 unfolding NextAt

@@ -1,6 +1,6 @@
 -- The scanner of a content line: a state for what was read last, and the state after one more byte.
 -- `isWellFormed` is the test that the code makes; it holds exactly of the lines of the grammar.
-use Prim.Native.Nat.{ℕ}
+use Prim.Native.Nat.{ℕ, suc}
 use mathlib.Core.Bool.{Bool, true, false, cond, _&&_}
 use mathlib.Core.List.{List, [], _∷_}
 use lib.Dec.{eqb, leb}
@@ -44,3 +44,8 @@ scan s (b ∷ l) = scan (step s b) l
 
 unfoldable pub isWellFormed : List ℕ → Bool
 isWellFormed l = leb (length l) 1024 && scan Start l
+
+-- how many name bytes a line begins with
+unfoldable pub nameBytes : List ℕ → ℕ
+nameBytes [] = 0
+nameBytes (b ∷ l) = cond (isNameByte b) (suc (nameBytes l)) 0

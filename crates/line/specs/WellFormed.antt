@@ -1,14 +1,19 @@
 -- Are all lines of a file well formed (document 01, Lines)? If not, which is the first that is not, counted from 1?
 use Prim.Native.Nat.{ℕ, _+_, _≤_}
 use mathlib.Core.Path.{_≡_}
-use mathlib.Core.Bool.{Bool, true, false, not}
+use mathlib.Core.Bool.{Bool, true, false, cond, not}
 use mathlib.Core.List.{List, [], _∷_}
 use lib.ListN.{length, drop}
 use Rattle.text.specs.Lines.{CutLines, end, unended, line, cut, part, LineAt, NothingAt, linesOf, contentLines, everyLine}
 use Rattle.line.specs.Scanner.{isWellFormed}
+use Rattle.line.specs.Reading.{nameOf}
 use Rattle.line.specs.declared.check.LineCheck.{LineCheck}
 use Rattle.line.specs.declared.check.LineCheck.the-variants.{Good, BadLine}
 use Rattle.line.specs.declared.check.Next.{Next}
+
+-- the length of the name of a well formed line; 0, where the line is badly formed
+unfoldable pub wellFormedName : List ℕ → ℕ
+wellFormedName l = cond (isWellFormed l) (length (nameOf l)) 0
 
 -- piece by piece, the first with number n; what no CR LF ends is badly formed
 unfoldable pub lineCheckFrom : ℕ → CutLines → LineCheck
@@ -52,13 +57,18 @@ pub record GoodLineAt (s : List ℕ) (from e : ℕ) : Type 0 where
   pub line : LineAt s from e
   pub good : isWellFormed (part s from e) ≡ true
 
+-- and its name is n bytes long
+pub record NamedLineAt (s : List ℕ) (from e n : ℕ) : Type 0 where
+  pub good : GoodLineAt s from e
+  pub name : n ≡ length (nameOf (part s from e))
+
 -- the line at `from` is badly formed
 pub record BadLineAt (s : List ℕ) (from : ℕ) : Type 0 where
   pub bad : beginsBadly (cut (drop from s)) ≡ true
 
 -- what a look at the line at `from` answers
 unfoldable pub NextAt : List ℕ → ℕ → Next → Type 0
-NextAt s from (Next.Line e) = GoodLineAt s from e
+NextAt s from (Next.Line e n) = NamedLineAt s from e n
 NextAt s from Next.Bad = BadLineAt s from
 NextAt s from Next.End = NothingAt s from
 

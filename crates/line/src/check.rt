@@ -13,25 +13,22 @@ pub enum LineCheck {
 
 // The line at a place.
 pub enum Next {
-    // It is well formed, and its CR LF stands here.
-    Line(usize),
+    // It is well formed: where its CR LF stands, and the length of its name.
+    Line(usize, usize),
     // It is badly formed.
     Bad,
     // There is none.
     End,
 }
 
-// Where the line that starts at this place ends, if it is well formed.
+// Where the line that starts at this place ends and how long its name is, if it is well formed.
 pub fn next_good(s: &[u8], from: usize) -> Next
     ensures { λ r. ⌜ NextAt (now (s .entry)) from r ⌝ }
 {
     match text::line_end(s, from) {
         LineEnd::At(e) => {
-            if scan::is_well_formed(&s[from..e]) {
-                Next::Line(e)
-            } else {
-                Next::Bad
-            }
+            let n = scan::well_formed_name(&s[from..e]);
+            if n == 0 { Next::Bad } else { Next::Line(e, n) }
         }
         LineEnd::Unended => Next::Bad,
         LineEnd::None => Next::End,
@@ -47,7 +44,7 @@ pub fn check_lines_from(s: &[u8], from: usize, first: usize) -> LineCheck
     let mut number = first;
     loop {
         match next_good(s, at) {
-            Next::Line(e) => {
+            Next::Line(e, _) => {
                 at = e + 2;
                 number += 1;
             }

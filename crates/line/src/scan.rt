@@ -3,11 +3,12 @@
 ghost use Prim.Native.Nat.{_+_, _≤_, _<_};
 ghost use mathlib.Core.Path.{_≡_};
 ghost use mathlib.Core.Bool.{cond, not, _&&_};
-ghost use lib.Dec.{eqb, ltb};
+ghost use lib.Dec.{eqb};
 ghost use lib.ListN.{length, drop};
 ghost use Rattle.ascii.specs.Bytes.{isNameByte, isControl};
 ghost use Rattle.line.specs.Grammar.{isQuotable, isUnquoted};
-ghost use Rattle.line.specs.Scanner.{step, afterValue, isEnding, scan, isWellFormed};
+ghost use Rattle.line.specs.Scanner.{step, afterValue, isEnding, scan, nameBytes};
+ghost use Rattle.line.specs.WellFormed.{wellFormedName};
 
 // What was read last of a line.
 pub enum State {
@@ -29,29 +30,20 @@ struct Place {
     state: State,
 }
 
-// At most 1,024 bytes, and the scanner ends in the value.
-// Most lines are a name, a colon and a value: no state is needed for those.
-pub fn is_well_formed(line: &[u8]) -> bool
-    ensures { λ r. ⌜ r ≡ isWellFormed (now (line .entry)) ⌝ }
+// The length of the name of a well formed line: at most 1,024 bytes, and the scanner ends in the value. Of any other line 0.
+pub fn well_formed_name(line: &[u8]) -> usize
+    ensures { λ r. ⌜ r ≡ wellFormedName (now (line .entry)) ⌝ }
 {
     if 1024 < line.len() {
-        return false;
+        return 0;
     }
     let n = name_length(line);
-    if n == 0 {
-        return false;
-    }
-    if n < line.len() {
-        if line[n] == 58 {
-            return is_value(line, n + 1);
-        }
-    }
-    is_rest(line, n)
+    if is_behind_name(line, n) { n } else { 0 }
 }
 
 // How many name bytes the line begins with.
 fn name_length(line: &[u8]) -> usize
-    ensures { λ r. ⌜ (ltb 0 r && scan State.Name (drop r (now (line .entry)))) ≡ scan State.Start (now (line .entry)) ⌝ }
+    ensures { λ r. ⌜ r ≡ nameBytes (now (line .entry)) ⌝ }
 {
     let mut i = 0;
     while i < line.len() {
@@ -61,6 +53,18 @@ fn name_length(line: &[u8]) -> usize
         i += 1;
     }
     i
+}
+
+// May this stand behind a name? Most lines are a name, a colon and a value: no state is needed for those.
+fn is_behind_name(line: &[u8], from: usize) -> bool
+    ensures { λ r. ⌜ r ≡ scan State.Name (drop from (now (line .entry))) ⌝ }
+{
+    if from < line.len() {
+        if line[from] == 58 {
+            return is_value(line, from + 1);
+        }
+    }
+    is_rest(line, from)
 }
 
 // What follows the name, as far as the colon, and then the value. The scanner steps from one separator to the next;

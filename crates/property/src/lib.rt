@@ -17,9 +17,9 @@ ghost use mathlib.Core.Path.{_≡_};
 ghost use mathlib.Core.Bool.{cond, false};
 ghost use mathlib.Core.List.{List, []};
 ghost use Prim.Native.Nat.{ℕ, _≤_};
-ghost use lib.ListN.{getD};
+ghost use lib.ListN.{length, getD};
 ghost use Rattle.ascii.specs.Bytes.{upper};
-ghost use Rattle.line.specs.Reading.{valueOf, lineOf};
+ghost use Rattle.line.specs.Reading.{nameOf, valueOf, lineOf};
 ghost use Rattle.values.specs.Times.{readTime, timeOf, ContextGood};
 ghost use Rattle.values.specs.Period.{periodItems, allPeriods};
 ghost use Rattle.property.specs.Properties.{propertyOf, timeIn, startBy, endBy, unlessZoned};
@@ -381,27 +381,27 @@ fn plain_property(
     }
 }
 
-// What a line says by its name, whatever its first byte.
-pub fn property_value_named(c: Context, scope: Scope, line: &[u8]) -> PropertyValue
+// What a line says by its name, which is n bytes long, whatever its first byte.
+pub fn property_value_named(c: Context, scope: Scope, line: &[u8], n: usize) -> PropertyValue
     requires { ⌜ ContextGood c ⌝ }
+    requires { ⌜ n ≡ length (nameOf (now line)) ⌝ }
     ensures { λ r. ⌜ r ≡ propertyValueOf c scope (lineOf (now (line .entry))) ⌝ }
 {
-    let name = line::read::name(line);
-    let n = name.len();
-    let property = property_of(scope, name);
+    let property = property_of(scope, &line[..n]);
     if line::read::is_plain(line, n) {
         return plain_property(property, c, scope, line, &line[n + 1..]);
     }
     value_if_read(property, c, scope, line)
 }
 
-// What a line says, directly in the component. Only its first byte is asked here, so that this much can stand in the loops over lines.
-pub fn property_value_of(c: Context, scope: Scope, line: &[u8]) -> PropertyValue
+// What a line, whose name is n bytes long, says directly in the component. Only its first byte is asked here, so that this much can stand in the loops over lines.
+pub fn property_value_of(c: Context, scope: Scope, line: &[u8], n: usize) -> PropertyValue
     requires { ⌜ ContextGood c ⌝ }
+    requires { ⌜ n ≡ length (nameOf (now line)) ⌝ }
     ensures { λ r. ⌜ r ≡ propertyValueOf c scope (lineOf (now (line .entry))) ⌝ }
 {
     if !may_be_read(scope, first_upper(line)) {
         return PropertyValue::Nothing;
     }
-    property_value_named(c, scope, line)
+    property_value_named(c, scope, line, n)
 }

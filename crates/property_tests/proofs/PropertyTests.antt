@@ -336,17 +336,17 @@ module _ (s : List ℕ) (q : Sections) where
           ap (λ (t : Bool). t && textHolds s q (r .text) (r .collation) (r .flag) (valueOf l) && parametersHold s q i (lineOf l))
           (z ∙ ap (sameName (nameOf l)) y)
 
-      module _ {v : List ℕ} {b : Bool} (e : a ≡ true) (u : v ≡ valueOf l) (p : b ≡ textPasses (r .text) w (r .collation) (r .flag) v) where
+      module _ {m v : List ℕ} {b : Bool} (e : a ≡ true) (d : m ≡ l) (u : v ≡ valueOf m) (p : b ≡ textPasses (r .text) w (r .collation) (r .flag) v) where
         text-as : (b && parametersHold s q i (lineOf l)) ≡ lineHolds s q i r (lineOf l)
         text-as =
             ap (λ (t : Bool). t && parametersHold s q i (lineOf l))
-            (p ∙ ap (textPasses (r .text) w (r .collation) (r .flag)) u ∙ text-given s q (r .text) (r .collation) (r .flag) (valueOf l) x)
+            (p ∙ ap (textPasses (r .text) w (r .collation) (r .flag)) (u ∙ ap valueOf d) ∙ text-given s q (r .text) (r .collation) (r .flag) (valueOf l) x)
             ∙ ap (λ (t : Bool). t && textHolds s q (r .text) (r .collation) (r .flag) (valueOf l) && parametersHold s q i (lineOf l)) (sym e)
             ∙ line-as
 
         -- its value holds up, and its parameters decide
-        pub line-valued : {c : Bool} → b ≡ true → c ≡ parametersHold s q i (lineOf l) → c ≡ lineHolds s q i r (lineOf l)
-        line-valued h k = k ∙ ap (λ (t : Bool). t && parametersHold s q i (lineOf l)) (sym h) ∙ text-as
+        pub line-valued : {c : Bool} → b ≡ true → c ≡ parametersHold s q i (lineOf m) → c ≡ lineHolds s q i r (lineOf l)
+        line-valued h k = k ∙ ap (λ (y : List ℕ). parametersHold s q i (lineOf y)) d ∙ ap (λ (t : Bool). t && parametersHold s q i (lineOf l)) (sym h) ∙ text-as
 
         pub line-failed : b ≡ false → false ≡ lineHolds s q i r (lineOf l)
         line-failed h = ap (λ (t : Bool). t && parametersHold s q i (lineOf l)) (sym h) ∙ text-as

@@ -15,7 +15,7 @@ ghost use mathlib.Core.Bool.{true};
 ghost use Prim.Native.Nat.{_<_};
 ghost use Rattle.line.specs.Reading.{lineOf};
 ghost use Rattle.nesting.specs.Components.{propertiesIn};
-ghost use Rattle.index.specs.Index.{Indexed};
+ghost use Rattle.index.specs.Index.{lineBytes, Entry, Indexed};
 ghost use Rattle.structure.specs.Rows.{RowOf, componentBy};
 ghost use Rattle.query.specs.Fits.{Fits};
 ghost use Rattle.query.specs.Records.{textOf, propertyAt};
@@ -35,7 +35,7 @@ fn some_named(name: &[u8], s: &[u8], index: &[u32], rows: &[u32], k: usize) -> b
     loop {
         match items::item_at(rows, i, row, stop, end) {
             Item::Property => {
-                if read::is_called(index::line_at(s, index, i), name) {
+                if index::is_called(s, index, i, name) {
                     return true;
                 }
                 i += 1;
@@ -49,7 +49,7 @@ fn some_named(name: &[u8], s: &[u8], index: &[u32], rows: &[u32], k: usize) -> b
     }
 }
 
-// Has a line the name, does its value hold up, and does it pass every parameter test? The texts of the record were looked up before.
+// Has line n the name, does its value hold up, and does it pass every parameter test? The texts of the record were looked up before.
 fn line_holds(
     query: &[u8],
     q: Sections,
@@ -57,17 +57,21 @@ fn line_holds(
     r: PropertyRecord,
     name: &[u8],
     text: &[u8],
-    line: &[u8],
+    s: &[u8],
+    index: &[u32],
+    n: usize,
 ) -> bool
     requires { ⌜ Fits (now query) q ⌝ }
     requires { ⌜ recordsGood (now query) q ≡ true ⌝ }
     requires { ⌜ now name ≡ textOf (now query) q (r .name) ⌝ }
     requires { ⌜ now text ≡ textOr (now query) q (r .text) ⌝ }
-    ensures { λ t. ⌜ t ≡ lineHolds (now (query .entry)) q i r (lineOf (now (line .entry))) ⌝ }
+    requires { ⌜ Entry (now s) (now index) n ⌝ }
+    ensures { λ t. ⌜ t ≡ lineHolds (now (query .entry)) q i r (lineOf (lineBytes (now (s .entry)) n)) ⌝ }
 {
-    if !read::is_called(line, name) {
+    if !index::is_called(s, index, n, name) {
         return false;
     }
+    let line = index::line_at(s, index, n);
     let v = read::value(line);
     if texts::text_passes(r.text, text, r.collation, r.flag, v) {
         return parameters::parameters_hold(query, q, i, line);
@@ -103,7 +107,7 @@ fn some_line(
     loop {
         match items::item_at(rows, i, row, stop, end) {
             Item::Property => {
-                if line_holds(query, q, j, r, name, text, index::line_at(s, index, i)) {
+                if line_holds(query, q, j, r, name, text, s, index, i) {
                     return true;
                 }
                 i += 1;

@@ -66,7 +66,7 @@ fn show_parameters(l: &[u8]) {
 }
 
 fn show_line(l: &[u8]) {
-    if line::scan::is_well_formed(l) {
+    if 0 < line::scan::well_formed_name(l) {
         print(b" [");
         print(line::read::name(l));
         show_parameters(l);

@@ -1,5 +1,5 @@
--- `index::line_at` meets its contract: what stands between two entries is the line.
-use Rattle.index.proofs.Index.{entry-room, entry-read}
+-- `index::line_at` meets its contract: what stands between the places of two entries is the line.
+use Rattle.index.proofs.Index.{entry-room, entry-places, entry-read}
 use native.Mathlib.Omega.{arith}
 use borrow.Author.Needs.{needs}
 use Rattle.index.proofs.line_at.Statement.{statement}
@@ -27,16 +27,16 @@ wide-requires-2 : tie.Need-wide-requires-2
 wide-requires-2 c κs = search needs
 
 sub-result : tie.Need-sub-result
-sub-result c = search needs
+sub-result c = let h = entry-places (c .before .before .before .before .before .before .pre) (c .before .before .wide .ensures) (c .wide2 .ensures) in omega (arith, h .order)
 
 sub-result-2 : tie.Need-sub-result-2
-sub-result-2 c = search needs
+sub-result-2 c = let h = entry-places (c .before .before .before .before .before .before .pre) (c .before .before .wide .ensures) (c .wide2 .ensures) in omega (arith, h .order)
 
 part-result-start : tie.Need-part-result-start
-part-result-start c = search needs
+part-result-start c = let h = entry-places (c .before .before .before .before .before .before .pre) (c .before .before .wide .ensures) (c .wide2 .ensures) in omega (arith, h .order)
 
 part-result-end : tie.Need-part-result-end
-part-result-end c = search needs
+part-result-end c = let h = entry-places (c .before .before .before .before .before .before .pre) (c .before .before .wide .ensures) (c .wide2 .ensures) in omega (arith, h .inside)
 
 returns : tie.Need-returns
 returns c = entry-read (c .before .before .before .before .before .before .before .pre) (c .before .before .before .wide .ensures) (c .before .wide2 .ensures)

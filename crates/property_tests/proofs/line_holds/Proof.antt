@@ -6,10 +6,18 @@ use Rattle.property_tests.proofs.line_holds.Statement.{statement}
 use Rattle.property_tests.proofs.line_holds.Tie as tie
 
 is-called-requires : tie.Need-is-called-requires
-is-called-requires c κs = search needs
+is-called-requires c κs = c .before .before .before .before .before .pre .1 .1 .1 .1
 
 returns : tie.Need-returns
-returns c = line-other _ _ _ _ _ (c .before .before .before .before .before .before .pre .1 .1 .0) (c .before .before .before .before .before .before .pre .1 .1 .1) (c .before .is-called .ensures) (not-true _ (c .if1 .taken))
+returns c =
+    line-other _ _ _ _ _
+    (c .before .before .before .before .before .before .before .pre .1 .1 .0)
+    (c .before .before .before .before .before .before .before .pre .1 .1 .1 .0)
+    (c .before .is-called .ensures)
+    (not-true _ (c .if1 .taken))
+
+line-at-requires : tie.Need-line-at-requires
+line-at-requires c κs = c .before .before .before .before .before .before .before .pre .1 .1 .1 .1
 
 value-requires : tie.Need-value-requires
 value-requires c κs = search needs
@@ -23,10 +31,11 @@ parameters-hold-requires c κs = search needs
 returns-2 : tie.Need-returns-2
 returns-2 c =
     line-valued _ _ _ _ _
-    (c .before .before .before .before .before .before .before .before .before .before .pre .1 .1 .0)
-    (c .before .before .before .before .before .before .before .before .before .before .pre .1 .1 .1)
-    (c .before .before .before .before .before .is-called .ensures)
-    (not-false _ (c .before .before .before .before .if1 .left))
+    (c .before .before .before .before .before .before .before .before .before .before .before .before .pre .1 .1 .0)
+    (c .before .before .before .before .before .before .before .before .before .before .before .before .pre .1 .1 .1 .0)
+    (c .before .before .before .before .before .before .is-called .ensures)
+    (not-false _ (c .before .before .before .before .before .if1 .left))
+    (c .before .before .before .before .line-at .ensures)
     (c .before .before .before .value .ensures)
     (c .before .before .text-passes .ensures) (c .before .if2 .taken)
     (c .parameters-hold .ensures)
@@ -34,10 +43,11 @@ returns-2 c =
 returns-3 : tie.Need-returns-3
 returns-3 c =
     line-failed _ _ _ _ _
-    (c .before .before .before .before .before .before .before .before .before .pre .1 .1 .0)
-    (c .before .before .before .before .before .before .before .before .before .pre .1 .1 .1)
-    (c .before .before .before .before .is-called .ensures)
-    (not-false _ (c .before .before .before .if1 .left))
+    (c .before .before .before .before .before .before .before .before .before .before .before .pre .1 .1 .0)
+    (c .before .before .before .before .before .before .before .before .before .before .before .pre .1 .1 .1 .0)
+    (c .before .before .before .before .before .is-called .ensures)
+    (not-false _ (c .before .before .before .before .if1 .left))
+    (c .before .before .before .line-at .ensures)
     (c .before .before .value .ensures)
     (c .before .text-passes .ensures) (c .if2 .left)
 
@@ -47,6 +57,7 @@ line-holds-spec =
     (tie.spec
     is-called-requires
     returns
+    line-at-requires
     value-requires
     text-passes-requires
     parameters-hold-requires

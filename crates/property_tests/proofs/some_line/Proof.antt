@@ -4,6 +4,7 @@ use Rattle.property_tests.proofs.PropertyTests.{holding-lines}
 use Rattle.structure.proofs.ItemsLaws.{property-at, inner-at, no-item-at}
 use Rattle.property_tests.proofs.PropertyTests.{Seeking, row-ends, seeking-start, seeking-small, seeking-line, seeking-next, seeking-found, seeking-inner, seeking-end}
 use Prim.Native.Nat.{_-_}
+use mathlib.Core.Path.{refl}
 use native.Mathlib.Omega.{arith}
 use borrow.Author.Needs.{needs}
 use Rattle.property_tests.proofs.some_line.Statement.{statement}
@@ -39,45 +40,35 @@ item-at-requires c κs = ((c .loop .inv .left .few, c .loop .inv .left .room), o
 enum-told : tie.Need-enum-told Inv-loop μ-loop
 enum-told c = search needs
 
-line-at-requires : tie.Need-line-at-requires Inv-loop μ-loop
-line-at-requires c κs =
-    seeking-line
-    (c .before .before .before .loop .inv)
-    (c .before .before .before .before .before .before .before .before .before .before .before .before .before .pre .1 .1 .1 .1 .0)
-    (property-at (c .before .before .before .loop .inv .left) (c .before .before .item-at .ensures) (c .enum-told .given .1))
-
 line-holds-requires : tie.Need-line-holds-requires Inv-loop μ-loop
 line-holds-requires c κs =
-    let h = c .before .before .before .before .before .before .before .before .before .before .before .before .before .before .pre in
-    (h .0, (h .1 .0, (h .1 .1 .0, h .1 .1 .1 .0)))
+    let h = c .before .before .before .before .before .before .before .before .before .before .before .before .before .pre in
+    let y =
+    seeking-line
+    (c .before .before .before .loop .inv)
+    (h .1 .1 .1 .1 .0)
+    (property-at (c .before .before .before .loop .inv .left) (c .before .before .item-at .ensures) (c .enum-told .given .1))
+    in
+    (h .0, (h .1 .0, (h .1 .1 .0, (h .1 .1 .1 .0, y))))
 
 returns : tie.Need-returns Inv-loop μ-loop
 returns c =
     seeking-found (holding-lines _ _ _ _)
-    (c .before .before .before .before .before .before .loop .inv)
-    (property-at (c .before .before .before .before .before .before .loop .inv .left) (c .before .before .before .before .before .item-at .ensures) (c .before .before .before .enum-told .given .1))
-    (c .before .before .line-at .ensures)
+    (c .before .before .before .before .before .loop .inv)
+    (property-at (c .before .before .before .before .before .loop .inv .left) (c .before .before .before .before .item-at .ensures) (c .before .before .enum-told .given .1)) refl
     (c .before .line-holds .ensures) (c .if1 .taken)
 
 add-i : tie.Need-add-i Inv-loop μ-loop
-add-i c = omega (arith, seeking-small (c .before .before .before .before .before .before .loop .inv), c .before .before .before .before .before .before .loop .inv .left .inside)
+add-i c = omega (arith, seeking-small (c .before .before .before .before .before .loop .inv), c .before .before .before .before .before .loop .inv .left .inside)
 
 loop-less : tie.Need-loop-less Inv-loop μ-loop
-loop-less c =
-    let h =
-    property-at
-    (c .before .before .before .before .before .before .loop .inv .left)
-    (c .before .before .before .before .before .item-at .ensures)
-    (c .before .before .before .enum-told .given .1)
-    in
-    omega (arith, h .onward)
+loop-less c = let h = property-at (c .before .before .before .before .before .loop .inv .left) (c .before .before .before .before .item-at .ensures) (c .before .before .enum-told .given .1) in omega (arith, h .onward)
 
 loop-again : tie.Need-loop-again Inv-loop μ-loop
 loop-again c =
     seeking-next (holding-lines _ _ _ _)
-    (c .before .before .before .before .before .before .loop .inv)
-    (property-at (c .before .before .before .before .before .before .loop .inv .left) (c .before .before .before .before .before .item-at .ensures) (c .before .before .before .enum-told .given .1))
-    (c .before .before .line-at .ensures)
+    (c .before .before .before .before .before .loop .inv)
+    (property-at (c .before .before .before .before .before .loop .inv .left) (c .before .before .before .before .item-at .ensures) (c .before .before .enum-told .given .1)) refl
     (c .before .line-holds .ensures) (c .if1 .left)
 
 enum-known-next : tie.Need-enum-known-next Inv-loop μ-loop
@@ -112,7 +103,6 @@ some-line-spec =
     loop-holds
     item-at-requires
     enum-told
-    line-at-requires
     line-holds-requires
     returns
     add-i

@@ -5,6 +5,7 @@ use Rattle.structure.specs.Rows.{componentBy}
 use Rattle.structure.proofs.ItemsLaws.{item-asked, property-at, inner-at, no-item-at}
 use Rattle.contents.specs.Lines.{block-unsupported, block-bad}
 use Rattle.contents.proofs.LinesLaws.{ReadingBlock, block-start, block-inner, block-done, block-unread, block-read, reading-unsupported, reading-bad, line-entry}
+use Rattle.index.proofs.Index.{entry-here, entry-name}
 use mathlib.Core.Path.{sym, _∙_}
 use native.Mathlib.Omega.{arith}
 use borrow.Author.Needs.{needs}
@@ -60,8 +61,19 @@ line-at-requires c κs =
     (c .before .before .before .before .before .before .before .before .before .before .before .before .pre .1 .1 .1 .0)
     (property-at (c .before .before .before .loop .inv .lines .items) (c .before .before .item-at .ensures) (c .enum-told .given .1))
 
+name-length-requires : tie.Need-name-length-requires Inv-loop μ-loop
+name-length-requires c κs =
+    entry-here
+    (line-entry (c .before .before .before .before .before .before .before .before .before .before .before .before .before .pre .1 .1 .1 .0) (property-at (c .before .before .before .before .loop .inv .lines .items) (c .before .before .before .item-at .ensures) (c .before .enum-told .given .1)))
+
 property-value-named-requires : tie.Need-property-value-named-requires Inv-loop μ-loop
-property-value-named-requires c κs = c .before .before .before .before .before .before .before .before .before .before .before .before .before .pre .1 .1 .0
+property-value-named-requires c κs =
+    let y =
+    line-entry
+    (c .before .before .before .before .before .before .before .before .before .before .before .before .before .before .pre .1 .1 .1 .0)
+    (property-at (c .before .before .before .before .before .loop .inv .lines .items) (c .before .before .before .before .item-at .ensures) (c .before .before .enum-told .given .1))
+    in
+    (c .before .before .before .before .before .before .before .before .before .before .before .before .before .before .pre .1 .1 .0, entry-name y (c .name-length .ensures) (c .before .line-at .ensures))
 
 kind-of-requires : tie.Need-kind-of-requires Inv-loop μ-loop
 kind-of-requires c κs = search needs
@@ -72,14 +84,14 @@ enum-told-2 c = search needs
 loop-less : tie.Need-loop-less Inv-loop μ-loop
 loop-less c =
     omega
-    (arith, property-at (c .before .before .before .before .before .before .before .before .loop .inv .lines .items) (c .before .before .before .before .before .before .before .item-at .ensures) (c .before .before .before .before .before .enum-told .given .1) .onward)
+    (arith, property-at (c .before .before .before .before .before .before .before .before .before .loop .inv .lines .items) (c .before .before .before .before .before .before .before .before .item-at .ensures) (c .before .before .before .before .before .before .enum-told .given .1) .onward)
 
 loop-again : tie.Need-loop-again Inv-loop μ-loop
 loop-again c =
     block-unread
-    (c .before .before .before .before .before .before .before .before .loop .inv)
-    (property-at (c .before .before .before .before .before .before .before .before .loop .inv .lines .items) (c .before .before .before .before .before .before .before .item-at .ensures) (c .before .before .before .before .before .enum-told .given .1))
-    (c .before .before .before .before .line-at .ensures)
+    (c .before .before .before .before .before .before .before .before .before .loop .inv)
+    (property-at (c .before .before .before .before .before .before .before .before .before .loop .inv .lines .items) (c .before .before .before .before .before .before .before .before .item-at .ensures) (c .before .before .before .before .before .before .enum-told .given .1))
+    (c .before .before .before .before .before .line-at .ensures)
     (c .before .before .before .property-value-named .ensures)
     (c .before .before .kind-of .ensures)
     (c .enum-told2 .given .1)
@@ -88,23 +100,23 @@ enum-told-3 : tie.Need-enum-told-3 Inv-loop μ-loop
 enum-told-3 c = search needs
 
 same-length : tie.Need-same-length Inv-loop μ-loop
-same-length c = c .before .before .before .before .before .before .before .before .loop .inv .still .long ∙ sym (c .before .before .before .before .before .before .before .before .before .before .before .before .before .before .before .before .before .pre .0)
+same-length c = c .before .before .before .before .before .before .before .before .before .loop .inv .still .long ∙ sym (c .before .before .before .before .before .before .before .before .before .before .before .before .before .before .before .before .before .before .pre .0)
 
 returns : tie.Need-returns Inv-loop μ-loop
 returns c =
     block-unsupported
-    (reading-unsupported (c .before .before .before .before .before .before .before .before .loop .inv .lines) (property-at (c .before .before .before .before .before .before .before .before .loop .inv .lines .items) (c .before .before .before .before .before .before .before .item-at .ensures) (c .before .before .before .before .before .enum-told .given .1)) (c .before .before .before .before .line-at .ensures) (c .before .before .before .property-value-named .ensures) (c .before .before .kind-of .ensures) (c .enum-told3 .given .1))
+    (reading-unsupported (c .before .before .before .before .before .before .before .before .before .loop .inv .lines) (property-at (c .before .before .before .before .before .before .before .before .before .loop .inv .lines .items) (c .before .before .before .before .before .before .before .before .item-at .ensures) (c .before .before .before .before .before .before .enum-told .given .1)) (c .before .before .before .before .before .line-at .ensures) (c .before .before .before .property-value-named .ensures) (c .before .before .kind-of .ensures) (c .enum-told3 .given .1))
 
 enum-told-4 : tie.Need-enum-told-4 Inv-loop μ-loop
 enum-told-4 c = search needs
 
 same-length-2 : tie.Need-same-length-2 Inv-loop μ-loop
-same-length-2 c = c .before .before .before .before .before .before .before .before .loop .inv .still .long ∙ sym (c .before .before .before .before .before .before .before .before .before .before .before .before .before .before .before .before .before .pre .0)
+same-length-2 c = c .before .before .before .before .before .before .before .before .before .loop .inv .still .long ∙ sym (c .before .before .before .before .before .before .before .before .before .before .before .before .before .before .before .before .before .before .pre .0)
 
 returns-2 : tie.Need-returns-2 Inv-loop μ-loop
 returns-2 c =
     block-bad
-    (reading-bad (c .before .before .before .before .before .before .before .before .loop .inv .lines) (property-at (c .before .before .before .before .before .before .before .before .loop .inv .lines .items) (c .before .before .before .before .before .before .before .item-at .ensures) (c .before .before .before .before .before .enum-told .given .1)) (c .before .before .before .before .line-at .ensures) (c .before .before .before .property-value-named .ensures) (c .before .before .kind-of .ensures) (c .enum-told4 .given .1))
+    (reading-bad (c .before .before .before .before .before .before .before .before .before .loop .inv .lines) (property-at (c .before .before .before .before .before .before .before .before .before .loop .inv .lines .items) (c .before .before .before .before .before .before .before .before .item-at .ensures) (c .before .before .before .before .before .before .enum-told .given .1)) (c .before .before .before .before .before .line-at .ensures) (c .before .before .before .property-value-named .ensures) (c .before .before .kind-of .ensures) (c .enum-told4 .given .1))
 
 enum-told-5 : tie.Need-enum-told-5 Inv-loop μ-loop
 enum-told-5 c = search needs
@@ -113,19 +125,19 @@ with-property-requires : tie.Need-with-property-requires Inv-loop μ-loop
 with-property-requires c κs = search needs
 
 store-line-requires : tie.Need-store-line-requires Inv-loop μ-loop
-store-line-requires c κs = (c .before .before .before .before .before .before .before .before .before .before .loop .inv .still .long, (c .before .before .before .before .before .before .before .before .before .before .loop .inv .still .few, c .before .before .before .before .before .before .before .before .before .before .before .before .before .before .before .before .before .before .before .pre .1 .1 .1 .1 .1))
+store-line-requires c κs = (c .before .before .before .before .before .before .before .before .before .before .before .loop .inv .still .long, (c .before .before .before .before .before .before .before .before .before .before .before .loop .inv .still .few, c .before .before .before .before .before .before .before .before .before .before .before .before .before .before .before .before .before .before .before .before .pre .1 .1 .1 .1 .1))
 
 loop-less-2 : tie.Need-loop-less-2 Inv-loop μ-loop
 loop-less-2 c =
     omega
-    (arith, property-at (c .before .before .before .before .before .before .before .before .before .before .before .before .before .loop .inv .lines .items) (c .before .before .before .before .before .before .before .before .before .before .before .before .item-at .ensures) (c .before .before .before .before .before .before .before .before .before .before .enum-told .given .1) .onward)
+    (arith, property-at (c .before .before .before .before .before .before .before .before .before .before .before .before .before .before .loop .inv .lines .items) (c .before .before .before .before .before .before .before .before .before .before .before .before .before .item-at .ensures) (c .before .before .before .before .before .before .before .before .before .before .before .enum-told .given .1) .onward)
 
 loop-again-2 : tie.Need-loop-again-2 Inv-loop μ-loop
 loop-again-2 c =
     block-read
-    (c .before .before .before .before .before .before .before .before .before .before .before .before .before .loop .inv)
-    (property-at (c .before .before .before .before .before .before .before .before .before .before .before .before .before .loop .inv .lines .items) (c .before .before .before .before .before .before .before .before .before .before .before .before .item-at .ensures) (c .before .before .before .before .before .before .before .before .before .before .enum-told .given .1))
-    (c .before .before .before .before .before .before .before .before .before .line-at .ensures)
+    (c .before .before .before .before .before .before .before .before .before .before .before .before .before .before .loop .inv)
+    (property-at (c .before .before .before .before .before .before .before .before .before .before .before .before .before .before .loop .inv .lines .items) (c .before .before .before .before .before .before .before .before .before .before .before .before .before .item-at .ensures) (c .before .before .before .before .before .before .before .before .before .before .before .enum-told .given .1))
+    (c .before .before .before .before .before .before .before .before .before .before .line-at .ensures)
     (c .before .before .before .before .before .before .before .before .property-value-named .ensures)
     (c .before .before .before .before .before .before .before .kind-of .ensures)
     (c .before .before .before .before .before .enum-told5 .given .1)
@@ -167,6 +179,7 @@ read-block-lines-spec =
     enum-told
     add-next
     line-at-requires
+    name-length-requires
     property-value-named-requires
     kind-of-requires
     enum-told-2

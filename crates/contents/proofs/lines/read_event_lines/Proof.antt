@@ -6,6 +6,7 @@ use Rattle.structure.specs.Rows.{componentBy}
 use Rattle.structure.proofs.ItemsLaws.{item-asked, property-at, inner-at, no-item-at}
 use Rattle.contents.specs.Lines.{good, unsupported, bad}
 use Rattle.contents.proofs.LinesLaws.{ReadingLines, reading-start, reading-inner, reading-done, reading-unsupported, reading-bad, reading-unread, reading-read, line-entry}
+use Rattle.index.proofs.Index.{entry-here, entry-name}
 use native.Mathlib.Omega.{arith}
 use borrow.Author.Needs.{needs}
 use Rattle.contents.proofs.lines.read_event_lines.Statement.{statement}
@@ -58,8 +59,19 @@ line-at-requires c κs =
     (c .before .before .before .before .before .before .before .before .before .before .before .pre .1 .0)
     (property-at (c .before .before .before .loop .inv .items) (c .before .before .item-at .ensures) (c .enum-told .given .1))
 
+name-length-requires : tie.Need-name-length-requires Inv-loop μ-loop
+name-length-requires c κs =
+    entry-here
+    (line-entry (c .before .before .before .before .before .before .before .before .before .before .before .before .pre .1 .0) (property-at (c .before .before .before .before .loop .inv .items) (c .before .before .before .item-at .ensures) (c .before .enum-told .given .1)))
+
 property-value-of-requires : tie.Need-property-value-of-requires Inv-loop μ-loop
-property-value-of-requires c κs = c .before .before .before .before .before .before .before .before .before .before .before .before .pre .0
+property-value-of-requires c κs =
+    let y =
+    line-entry
+    (c .before .before .before .before .before .before .before .before .before .before .before .before .before .pre .1 .0)
+    (property-at (c .before .before .before .before .before .loop .inv .items) (c .before .before .before .before .item-at .ensures) (c .before .before .enum-told .given .1))
+    in
+    (c .before .before .before .before .before .before .before .before .before .before .before .before .before .pre .0, entry-name y (c .name-length .ensures) (c .before .line-at .ensures))
 
 kind-of-requires : tie.Need-kind-of-requires Inv-loop μ-loop
 kind-of-requires c κs = search needs
@@ -70,14 +82,14 @@ enum-told-2 c = search needs
 loop-less : tie.Need-loop-less Inv-loop μ-loop
 loop-less c =
     omega
-    (arith, property-at (c .before .before .before .before .before .before .before .before .loop .inv .items) (c .before .before .before .before .before .before .before .item-at .ensures) (c .before .before .before .before .before .enum-told .given .1) .onward)
+    (arith, property-at (c .before .before .before .before .before .before .before .before .before .loop .inv .items) (c .before .before .before .before .before .before .before .before .item-at .ensures) (c .before .before .before .before .before .before .enum-told .given .1) .onward)
 
 loop-again : tie.Need-loop-again Inv-loop μ-loop
 loop-again c =
     reading-unread
-    (c .before .before .before .before .before .before .before .before .loop .inv)
-    (property-at (c .before .before .before .before .before .before .before .before .loop .inv .items) (c .before .before .before .before .before .before .before .item-at .ensures) (c .before .before .before .before .before .enum-told .given .1))
-    (c .before .before .before .before .line-at .ensures)
+    (c .before .before .before .before .before .before .before .before .before .loop .inv)
+    (property-at (c .before .before .before .before .before .before .before .before .before .loop .inv .items) (c .before .before .before .before .before .before .before .before .item-at .ensures) (c .before .before .before .before .before .before .enum-told .given .1))
+    (c .before .before .before .before .before .line-at .ensures)
     (c .before .before .before .property-value-of .ensures)
     (c .before .before .kind-of .ensures)
     (c .enum-told2 .given .1)
@@ -88,7 +100,7 @@ enum-told-3 c = search needs
 returns : tie.Need-returns Inv-loop μ-loop
 returns c =
     unsupported
-    (reading-unsupported (c .before .before .before .before .before .before .before .before .loop .inv) (property-at (c .before .before .before .before .before .before .before .before .loop .inv .items) (c .before .before .before .before .before .before .before .item-at .ensures) (c .before .before .before .before .before .enum-told .given .1)) (c .before .before .before .before .line-at .ensures) (c .before .before .before .property-value-of .ensures) (c .before .before .kind-of .ensures) (c .enum-told3 .given .1))
+    (reading-unsupported (c .before .before .before .before .before .before .before .before .before .loop .inv) (property-at (c .before .before .before .before .before .before .before .before .before .loop .inv .items) (c .before .before .before .before .before .before .before .before .item-at .ensures) (c .before .before .before .before .before .before .enum-told .given .1)) (c .before .before .before .before .before .line-at .ensures) (c .before .before .before .property-value-of .ensures) (c .before .before .kind-of .ensures) (c .enum-told3 .given .1))
 
 enum-told-4 : tie.Need-enum-told-4 Inv-loop μ-loop
 enum-told-4 c = search needs
@@ -96,7 +108,7 @@ enum-told-4 c = search needs
 returns-2 : tie.Need-returns-2 Inv-loop μ-loop
 returns-2 c =
     bad
-    (reading-bad (c .before .before .before .before .before .before .before .before .loop .inv) (property-at (c .before .before .before .before .before .before .before .before .loop .inv .items) (c .before .before .before .before .before .before .before .item-at .ensures) (c .before .before .before .before .before .enum-told .given .1)) (c .before .before .before .before .line-at .ensures) (c .before .before .before .property-value-of .ensures) (c .before .before .kind-of .ensures) (c .enum-told4 .given .1))
+    (reading-bad (c .before .before .before .before .before .before .before .before .before .loop .inv) (property-at (c .before .before .before .before .before .before .before .before .before .loop .inv .items) (c .before .before .before .before .before .before .before .before .item-at .ensures) (c .before .before .before .before .before .before .enum-told .given .1)) (c .before .before .before .before .before .line-at .ensures) (c .before .before .before .property-value-of .ensures) (c .before .before .kind-of .ensures) (c .enum-told4 .given .1))
 
 enum-told-5 : tie.Need-enum-told-5 Inv-loop μ-loop
 enum-told-5 c = search needs
@@ -107,14 +119,14 @@ with-property-requires c κs = search needs
 loop-less-2 : tie.Need-loop-less-2 Inv-loop μ-loop
 loop-less-2 c =
     omega
-    (arith, property-at (c .before .before .before .before .before .before .before .before .before .loop .inv .items) (c .before .before .before .before .before .before .before .before .item-at .ensures) (c .before .before .before .before .before .before .enum-told .given .1) .onward)
+    (arith, property-at (c .before .before .before .before .before .before .before .before .before .before .loop .inv .items) (c .before .before .before .before .before .before .before .before .before .item-at .ensures) (c .before .before .before .before .before .before .before .enum-told .given .1) .onward)
 
 loop-again-2 : tie.Need-loop-again-2 Inv-loop μ-loop
 loop-again-2 c =
     reading-read
-    (c .before .before .before .before .before .before .before .before .before .loop .inv)
-    (property-at (c .before .before .before .before .before .before .before .before .before .loop .inv .items) (c .before .before .before .before .before .before .before .before .item-at .ensures) (c .before .before .before .before .before .before .enum-told .given .1))
-    (c .before .before .before .before .before .line-at .ensures)
+    (c .before .before .before .before .before .before .before .before .before .before .loop .inv)
+    (property-at (c .before .before .before .before .before .before .before .before .before .before .loop .inv .items) (c .before .before .before .before .before .before .before .before .before .item-at .ensures) (c .before .before .before .before .before .before .before .enum-told .given .1))
+    (c .before .before .before .before .before .before .line-at .ensures)
     (c .before .before .before .before .property-value-of .ensures)
     (c .before .before .before .kind-of .ensures)
     (c .before .enum-told5 .given .1)
@@ -152,6 +164,7 @@ read-event-lines-spec =
     enum-told
     add-next
     line-at-requires
+    name-length-requires
     property-value-of-requires
     kind-of-requires
     enum-told-2

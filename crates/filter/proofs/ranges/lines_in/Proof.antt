@@ -3,9 +3,10 @@ use Prim.Native.Nat.{_-_}
 use Rattle.filter.specs.Ranges.{linesIn}
 use Rattle.structure.proofs.ItemsLaws.{property-at, inner-at, no-item-at}
 use Rattle.property_tests.proofs.PropertyTests.{Seeking, row-ends, seeking-start, seeking-small, seeking-line, seeking-next, seeking-found, seeking-inner, seeking-end}
+use Rattle.filter.proofs.RangesLaws.{period-lines}
+use Rattle.index.proofs.Index.{entry-here, entry-name}
 use native.Mathlib.Omega.{arith}
 use borrow.Author.Needs.{needs}
-use Rattle.filter.proofs.RangesLaws.{period-lines}
 use Rattle.filter.proofs.ranges.lines_in.Statement.{statement}
 use Rattle.filter.proofs.ranges.lines_in.Tie as tie
 
@@ -39,42 +40,54 @@ item-at-requires c κs = ((c .loop .inv .left .few, c .loop .inv .left .room), o
 enum-told : tie.Need-enum-told Inv-loop μ-loop
 enum-told c = search needs
 
+name-length-requires : tie.Need-name-length-requires Inv-loop μ-loop
+name-length-requires c κs =
+    entry-here
+    (seeking-line (c .before .before .before .loop .inv) (c .before .before .before .before .before .before .before .before .before .before .pre .1 .0) (property-at (c .before .before .before .loop .inv .left) (c .before .before .item-at .ensures) (c .enum-told .given .1)))
+
 line-at-requires : tie.Need-line-at-requires Inv-loop μ-loop
 line-at-requires c κs =
     seeking-line
-    (c .before .before .before .loop .inv)
-    (c .before .before .before .before .before .before .before .before .before .before .pre .1 .0)
-    (property-at (c .before .before .before .loop .inv .left) (c .before .before .item-at .ensures) (c .enum-told .given .1))
+    (c .before .before .before .before .loop .inv)
+    (c .before .before .before .before .before .before .before .before .before .before .before .pre .1 .0)
+    (property-at (c .before .before .before .before .loop .inv .left) (c .before .before .before .item-at .ensures) (c .before .enum-told .given .1))
 
 line-in-requires : tie.Need-line-in-requires Inv-loop μ-loop
-line-in-requires c κs = c .before .before .before .before .before .before .before .before .before .before .before .pre .0
+line-in-requires c κs =
+    let y =
+    seeking-line
+    (c .before .before .before .before .before .loop .inv)
+    (c .before .before .before .before .before .before .before .before .before .before .before .before .pre .1 .0)
+    (property-at (c .before .before .before .before .before .loop .inv .left) (c .before .before .before .before .item-at .ensures) (c .before .before .enum-told .given .1))
+    in
+    (c .before .before .before .before .before .before .before .before .before .before .before .before .pre .0, entry-name y (c .before .name-length .ensures) (c .line-at .ensures))
 
 returns : tie.Need-returns Inv-loop μ-loop
 returns c =
     seeking-found (period-lines _ _ _)
-    (c .before .before .before .before .before .before .loop .inv)
-    (property-at (c .before .before .before .before .before .before .loop .inv .left) (c .before .before .before .before .before .item-at .ensures) (c .before .before .before .enum-told .given .1))
+    (c .before .before .before .before .before .before .before .loop .inv)
+    (property-at (c .before .before .before .before .before .before .before .loop .inv .left) (c .before .before .before .before .before .before .item-at .ensures) (c .before .before .before .before .enum-told .given .1))
     (c .before .before .line-at .ensures)
     (c .before .line-in .ensures) (c .if1 .taken)
 
 add-i : tie.Need-add-i Inv-loop μ-loop
-add-i c = omega (arith, seeking-small (c .before .before .before .before .before .before .loop .inv), c .before .before .before .before .before .before .loop .inv .left .inside)
+add-i c = omega (arith, seeking-small (c .before .before .before .before .before .before .before .loop .inv), c .before .before .before .before .before .before .before .loop .inv .left .inside)
 
 loop-less : tie.Need-loop-less Inv-loop μ-loop
 loop-less c =
     let h =
     property-at
-    (c .before .before .before .before .before .before .loop .inv .left)
-    (c .before .before .before .before .before .item-at .ensures)
-    (c .before .before .before .enum-told .given .1)
+    (c .before .before .before .before .before .before .before .loop .inv .left)
+    (c .before .before .before .before .before .before .item-at .ensures)
+    (c .before .before .before .before .enum-told .given .1)
     in
     omega (arith, h .onward)
 
 loop-again : tie.Need-loop-again Inv-loop μ-loop
 loop-again c =
     seeking-next (period-lines _ _ _)
-    (c .before .before .before .before .before .before .loop .inv)
-    (property-at (c .before .before .before .before .before .before .loop .inv .left) (c .before .before .before .before .before .item-at .ensures) (c .before .before .before .enum-told .given .1))
+    (c .before .before .before .before .before .before .before .loop .inv)
+    (property-at (c .before .before .before .before .before .before .before .loop .inv .left) (c .before .before .before .before .before .before .item-at .ensures) (c .before .before .before .before .enum-told .given .1))
     (c .before .before .line-at .ensures)
     (c .before .line-in .ensures) (c .if1 .left)
 
@@ -82,9 +95,7 @@ enum-known-next : tie.Need-enum-known-next Inv-loop μ-loop
 enum-known-next c = search needs
 
 loop-less-2 : tie.Need-loop-less-2 Inv-loop μ-loop
-loop-less-2 c =
-    let h = inner-at (c .before .before .before .before .loop .inv .left) _ _ (c .before .before .before .item-at .ensures) (c .before .next .given .1) in
-    omega (arith, h .onward, h .within)
+loop-less-2 c = let h = inner-at (c .before .before .before .before .loop .inv .left) _ _ (c .before .before .before .item-at .ensures) (c .before .next .given .1) in omega (arith, h .onward, h .within)
 
 loop-again-2 : tie.Need-loop-again-2 Inv-loop μ-loop
 loop-again-2 c = seeking-inner (period-lines _ _ _) (c .before .before .before .before .loop .inv) (inner-at (c .before .before .before .before .loop .inv .left) _ _ (c .before .before .before .item-at .ensures) (c .before .next .given .1))
@@ -109,6 +120,7 @@ lines-in-spec =
     loop-holds
     item-at-requires
     enum-told
+    name-length-requires
     line-at-requires
     line-in-requires
     returns

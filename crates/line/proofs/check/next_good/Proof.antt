@@ -12,17 +12,17 @@ line-end-requires c κs = search needs
 enum-known-e : tie.Need-enum-known-e
 enum-known-e c = search needs
 
-sub-is-well-formed : tie.Need-sub-is-well-formed
-sub-is-well-formed c = omega (arith, line-at _ (c .before .before .before .line-end .ensures) (c .before .e .given .1))
+sub-well-formed-name : tie.Need-sub-well-formed-name
+sub-well-formed-name c = omega (arith, line-at _ (c .before .before .before .line-end .ensures) (c .before .e .given .1))
 
-part-is-well-formed-start : tie.Need-part-is-well-formed-start
-part-is-well-formed-start c = omega (arith, line-at _ (c .before .before .before .line-end .ensures) (c .before .e .given .1))
+part-well-formed-name-start : tie.Need-part-well-formed-name-start
+part-well-formed-name-start c = omega (arith, line-at _ (c .before .before .before .line-end .ensures) (c .before .e .given .1))
 
-part-is-well-formed-end : tie.Need-part-is-well-formed-end
-part-is-well-formed-end c = omega (arith, line-at _ (c .before .before .before .line-end .ensures) (c .before .e .given .1))
+part-well-formed-name-end : tie.Need-part-well-formed-name-end
+part-well-formed-name-end c = omega (arith, line-at _ (c .before .before .before .line-end .ensures) (c .before .e .given .1))
 
-is-well-formed-requires : tie.Need-is-well-formed-requires
-is-well-formed-requires c κs = search needs
+well-formed-name-requires : tie.Need-well-formed-name-requires
+well-formed-name-requires c κs = search needs
 
 enum-told : tie.Need-enum-told
 enum-told c = search needs
@@ -31,10 +31,10 @@ enum-told-2 : tie.Need-enum-told-2
 enum-told-2 c = search needs
 
 returns : tie.Need-returns
-returns c = next-line _ (line-at _ (c .before .before .before .before .before .before .line-end .ensures) (c .before .before .before .before .e .given .1)) (c .before .is-well-formed .ensures) (c .if1 .taken)
+returns c = next-badly _ _ (line-at _ (c .before .before .before .before .before .before .line-end .ensures) (c .before .before .before .before .e .given .1)) (c .before .well-formed-name .ensures) (c .if1 .taken)
 
 returns-2 : tie.Need-returns-2
-returns-2 c = next-badly _ (line-at _ (c .before .before .before .before .before .before .line-end .ensures) (c .before .before .before .before .e .given .1)) (c .before .is-well-formed .ensures) (c .if1 .left)
+returns-2 c = next-line _ _ (line-at _ (c .before .before .before .before .before .before .line-end .ensures) (c .before .before .before .before .e .given .1)) (c .before .well-formed-name .ensures) (c .if1 .left)
 
 returns-3 : tie.Need-returns-3
 returns-3 c = next-unended (unended-at (c .before .before .line-end .ensures) (c .enum-told .given .1))
@@ -48,10 +48,10 @@ next-good-spec =
     (tie.spec
     line-end-requires
     enum-known-e
-    sub-is-well-formed
-    part-is-well-formed-start
-    part-is-well-formed-end
-    is-well-formed-requires
+    sub-well-formed-name
+    part-well-formed-name-start
+    part-well-formed-name-end
+    well-formed-name-requires
     enum-told
     enum-told-2
     returns
