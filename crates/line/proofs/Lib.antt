@@ -5,5 +5,6 @@ pub mod ReadingParameters
 pub mod Reading
 pub mod NameLength
 pub mod WellFormed
+pub mod Controls
 pub mod Rendering
 pub mod File

@@ -1,13 +1,13 @@
 -- Laws of the scanner: the step that each byte makes from each state, the loops of the code,
 -- which go from state to state, and that a well formed line stands in a file as it is.
-use Prim.Native.Nat.{ℕ, zero, suc, _+_, _-_, _≤_, _<_}
+use Prim.Native.Nat.{ℕ, _+_, _-_, _≤_, _<_}
 use mathlib.Core.Path.{_≡_, refl, sym, ap, _∙_, subst}
 use mathlib.Core.Bool.{Bool, true, false, cond, not, _&&_, _||_}
 use mathlib.Core.List.{List, [], _∷_, _++_}
 use native.Mathlib.Omega.{arith}
-use lib.Dec.{ltb, eqb, leb}
+use lib.Dec.{eqb, leb}
 use lib.ListN.{length, drop, getD}
-use borrow.Author.Tests.{le-leb, lt-leb, not-false, ltb-true, ltb-false, eqb-true, ne-eqb}
+use borrow.Author.Tests.{le-leb, lt-leb, not-false, eqb-true, ne-eqb}
 use Rattle.ascii.specs.Bytes.{isNameByte, isControl, isLetter, isDigit}
 use Rattle.ascii.specs.Names.{isName, every}
 use Rattle.ascii.proofs.Lists.{drop-next, drop-end}
@@ -204,71 +204,16 @@ step-value : (b : ℕ) → cond (isControl b) Wrong Value ≡ step Value b
 unfolding step
 step-value b = refl
 
-value-next : (bad : Bool) (l : List ℕ) (i : ℕ) → i < length l
+pub value-next : (bad : Bool) (l : List ℕ) (i : ℕ) → i < length l
     → (not (bad || isControl (getD l i 0)) && scan Value (drop (i + 1) l)) ≡ (not bad && scan Value (drop i l))
 value-next bad l i h =
     value-step bad (isControl (getD l i 0)) (drop (i + 1) l)
     ∙ ap (λ (q : State). not bad && scan q (drop (i + 1) l)) (step-value (getD l i 0))
     ∙ ap (λ (t : Bool). not bad && t) (scan-next Value l i h)
 
--- bad says whether a control stands from a to e
-abbrev pub Between : List ℕ → ℕ → ℕ → Bool → Type 0
-Between l a e bad = (not bad && scan Value (drop e l)) ≡ scan Value (drop a l)
-
-pub between-none : (l : List ℕ) (a : ℕ) → Between l a (a + 0) false
-between-none l a = let e : a + 0 ≡ a = omega arith in ap (λ (k : ℕ). scan Value (drop k l)) e
-
-pub between-next : (l : List ℕ) (a j : ℕ) (bad t : Bool) → a + j < length l → t ≡ isControl (getD l (a + j) 0) → Between l a (a + j) bad
-    → Between l a (a + (j + 1)) (bad || t)
-between-next l a j bad t h e x =
-    let k : a + (j + 1) ≡ a + j + 1 = omega arith in
-    ap (λ (m : ℕ). not (bad || t) && scan Value (drop m l)) k
-    ∙ ap (λ (u : Bool). not (bad || u) && scan Value (drop (a + j + 1) l)) e
-    ∙ value-next bad l (a + j) h
-    ∙ x
-
-pub between-all : (l : List ℕ) (a j n : ℕ) (bad : Bool) → j ≤ n → n ≤ j → Between l a (a + j) bad → Between l a (a + n) bad
-between-all l a j n bad p q x = let e : j ≡ n = omega arith in subst (λ (k : ℕ). Between l a (a + k) bad) e x
-
-pub between-byte : (l : List ℕ) (i : ℕ) (t : Bool) → i < length l → t ≡ isControl (getD l i 0) → Between l i (i + 1) t
-between-byte l i t h e = ap (λ (u : Bool). not u && scan Value (drop (i + 1) l)) e ∙ value-next false l i h
-
--- bytes without a control are read past; one with a control is the end of it
-pub between-known : (l : List ℕ) (a e : ℕ) (bad t : Bool) → Between l a e bad → bad ≡ t → Between l a e t
-between-known l a e bad t x p = ap (λ (u : Bool). not u && scan Value (drop e l)) (sym p) ∙ x
-
 pub value-end : (l : List ℕ) (i : ℕ) → length l ≤ i → true ≡ scan Value (drop i l)
 unfolding isEnding
 value-end l i h = sym (scan-end Value l i h)
-
--- bytes that may be a value have no control further on either
-value-after : (l : List ℕ) (i : ℕ) → scan Value (drop i l) ≡ true → scan Value (drop (i + 1) l) ≡ true
-value-after l i x = go (ltb i (length l)) refl
-  where
-    go : (t : Bool) → ltb i (length l) ≡ t → scan Value (drop (i + 1) l) ≡ true
-    go true e = and-right (not (isControl (getD l i 0))) _ (value-next false l i (ltb-true i (length l) e) ∙ x)
-    go false e = sym (value-end l (i + 1) (omega (arith, ltb-false i (length l) e)))
-
-value-later : (l : List ℕ) (a d : ℕ) → scan Value (drop a l) ≡ true → scan Value (drop (a + d) l) ≡ true
-value-later l a zero x = between-none l a ∙ x
-value-later l a (suc d) x =
-    let e : a + suc d ≡ a + d + 1 = omega arith in
-    ap (λ (k : ℕ). scan Value (drop k l)) e ∙ value-after l (a + d) (value-later l a d x)
-
-value-from : (l : List ℕ) (a i : ℕ) → a ≤ i → scan Value (drop a l) ≡ true → true ≡ scan Value (drop i l)
-value-from l a i h x = let e : a + (i - a) ≡ i = omega arith in sym (value-later l a (i - a) x) ∙ ap (λ (k : ℕ). scan Value (drop k l)) e
-
--- no control at the end of the line, nor in a value that starts there or later
-pub clean-end : (l : List ℕ) (a e i : ℕ) (bad : Bool) → Between l a e bad → bad ≡ false → length l ≤ e → a ≤ i
-    → true ≡ scan Value (drop i l)
-clean-end l a e i bad x p h k = value-from l a i k (sym (between-known l a e bad false x p) ∙ sym (value-end l e h))
-
--- two parts that are the whole line
-pub clean-parts : (l : List ℕ) (e a f i : ℕ) (p q : Bool) → Between l 0 e p → Between l a f q → not (p || q) ≡ true → a ≤ e → length l ≤ f
-    → true ≡ scan Value (drop i l)
-clean-parts l e a f i p q x y n h k =
-    let z = or-none p q n in
-    value-from l 0 i (omega arith) (sym (between-known l 0 e p false x (z .0)) ∙ sym (clean-end l a f e q y (z .1) k h))
 
 -- ---- a well formed line stands in a file as it is
 

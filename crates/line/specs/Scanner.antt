@@ -1,10 +1,11 @@
 -- The scanner of a content line: a state for what was read last, and the state after one more byte.
 -- `isWellFormed` is the test that the code makes; it holds exactly of the lines of the grammar.
-use Prim.Native.Nat.{ℕ, suc}
+use Prim.Native.Nat.{ℕ, suc, _<_}
 use mathlib.Core.Bool.{Bool, true, false, cond, _&&_}
+use mathlib.Core.Path.{_≡_}
 use mathlib.Core.List.{List, [], _∷_}
 use lib.Dec.{eqb, leb}
-use lib.ListN.{length}
+use lib.ListN.{length, getD}
 use Rattle.ascii.specs.Bytes.{isNameByte, isControl}
 use Rattle.line.specs.declared.scan.State.{State}
 use Rattle.line.specs.declared.scan.State.the-variants.{Start, Name, ParameterStart, ParameterName, ValueStart, Unquoted, Quoted, AfterQuoted, Value, Wrong}
@@ -49,3 +50,20 @@ isWellFormed l = leb (length l) 1024 && scan Start l
 unfoldable pub nameBytes : List ℕ → ℕ
 nameBytes [] = 0
 nameBytes (b ∷ l) = cond (isNameByte b) (suc (nameBytes l)) 0
+
+-- ---- controls
+
+-- no byte of a line is a control
+pub record Clear (l : List ℕ) : Type 0 where
+  pub none : (i : ℕ) → i < length l → isControl (getD l i 0) ≡ false
+
+-- some byte is
+pub record Unclear (l : List ℕ) : Type 0 where
+  pub place : ℕ
+  pub inside : place < length l
+  pub control : isControl (getD l place 0) ≡ true
+
+-- what looking for a control tells
+unfoldable pub ClearBy : List ℕ → Bool → Type 0
+ClearBy l true = Clear l
+ClearBy l false = Unclear l

@@ -1,9 +1,11 @@
 -- Are all lines of a file well formed (document 01, Lines)? If not, which is the first that is not, counted from 1?
-use Prim.Native.Nat.{ℕ, _+_, _≤_}
+use Prim.Native.Nat.{ℕ, _+_, _≤_, _<_}
 use mathlib.Core.Path.{_≡_}
 use mathlib.Core.Bool.{Bool, true, false, cond, not}
 use mathlib.Core.List.{List, [], _∷_}
-use lib.ListN.{length, drop}
+use lib.ListN.{length, drop, getD}
+use Rattle.ascii.specs.Bytes.{isControl}
+use Rattle.text.specs.Unfolding.{Nowhere}
 use Rattle.text.specs.Lines.{CutLines, end, unended, line, cut, part, LineAt, NothingAt, linesOf, contentLines, everyLine}
 use Rattle.line.specs.Scanner.{isWellFormed}
 use Rattle.line.specs.Reading.{nameOf}
@@ -65,6 +67,15 @@ pub record NamedLineAt (s : List ℕ) (from e n : ℕ) : Type 0 where
 -- the line at `from` is badly formed
 pub record BadLineAt (s : List ℕ) (from : ℕ) : Type 0 where
   pub bad : beginsBadly (cut (drop from s)) ≡ true
+
+-- a control stands at place i
+unfoldable pub controlAt : List ℕ → ℕ → Bool
+controlAt s i = isControl (getD s i 0)
+
+-- no control stands from `from` up to e, and at e one does, or the bytes end there
+pub record NextControl (s : List ℕ) (from e : ℕ) : Type 0 where
+  pub before : Nowhere controlAt s from e
+  pub there : e < length s → controlAt s e ≡ true
 
 -- what a look at the line at `from` answers
 unfoldable pub NextAt : List ℕ → ℕ → Next → Type 0

@@ -1,9 +1,12 @@
 // Is every line of a file well formed, and if not, which is the first that is not?
 // Lines are those between one CR LF and the next.
 use crate::scan;
-use text::LineEnd;
 ghost use mathlib.Core.Path.{_≡_};
-ghost use Rattle.line.specs.WellFormed.{lineCheck, Checked, NextAt};
+ghost use Prim.Native.Nat.{_+_, _≤_};
+ghost use lib.ListN.{length};
+ghost use Rattle.text.specs.Lines.{breakAt};
+ghost use Rattle.text.specs.Unfolding.{Nowhere};
+ghost use Rattle.line.specs.WellFormed.{lineCheck, Checked, controlAt, NextControl, NextAt};
 
 // The answer; lines are counted from 1.
 pub enum LineCheck {
@@ -21,18 +24,88 @@ pub enum Next {
     End,
 }
 
+// The lesser of two counts.
+fn lesser(a: u8, b: u8) -> u8
+    ensures { λ r. ⌜ r ≤ a ⌝ }
+    ensures { λ r. ⌜ r ≤ b ⌝ }
+{
+    if a < b { a } else { b }
+}
+
+// How many of the 64 places from this one on come before the first control? 64, where none does.
+// No early return and counts of one byte, so that the machine tests sixteen places at once.
+fn control_in(s: &[u8], i: usize) -> u8
+    requires { ⌜ i + 64 ≤ length (now s) ⌝ }
+    ensures { λ r. ⌜ Nowhere controlAt (now (s .entry)) i (i + r) ⌝ }
+{
+    let mut first: u8 = 64;
+    let mut k: u8 = 0;
+    while k < 64 {
+        let b = s[i + (k as usize)];
+        let here = if ascii::is_control(b) { k } else { 64 };
+        first = lesser(here, first);
+        k += 1;
+    }
+    first
+}
+
+// A place up to which no control stands: there one does, or fewer than 64 bytes are left.
+fn skip_clear(s: &[u8], from: usize) -> usize
+    requires { ⌜ from ≤ length (now s) ⌝ }
+    ensures { λ r. ⌜ Nowhere controlAt (now (s .entry)) from r ⌝ }
+{
+    let mut i = from;
+    while 64 <= s.len() - i {
+        let k = control_in(s, i);
+        if k < 64 {
+            return i + (k as usize);
+        }
+        i += 64;
+    }
+    i
+}
+
+// Where does the next control stand, at this place or after it? The length where none does.
+fn next_control(s: &[u8], from: usize) -> usize
+    requires { ⌜ from ≤ length (now s) ⌝ }
+    ensures { λ r. ⌜ NextControl (now (s .entry)) from r ⌝ }
+{
+    let mut i = skip_clear(s, from);
+    while i < s.len() {
+        if ascii::is_control(s[i]) {
+            return i;
+        }
+        i += 1;
+    }
+    i
+}
+
+// Does CR LF stand at this place?
+fn break_at(s: &[u8], i: usize) -> bool
+    ensures { λ r. ⌜ r ≡ breakAt (now (s .entry)) i ⌝ }
+{
+    if i < s.len() {
+        if 1 < s.len() - i {
+            return (s[i] == 13) & (s[i + 1] == 10);
+        }
+    }
+    false
+}
+
 // Where the line that starts at this place ends and how long its name is, if it is well formed.
+// A well formed line has no control, so the first one from its start on is the CR that ends it.
 pub fn next_good(s: &[u8], from: usize) -> Next
     ensures { λ r. ⌜ NextAt (now (s .entry)) from r ⌝ }
 {
-    match text::line_end(s, from) {
-        LineEnd::At(e) => {
-            let n = scan::well_formed_name(&s[from..e]);
-            if n == 0 { Next::Bad } else { Next::Line(e, n) }
-        }
-        LineEnd::Unended => Next::Bad,
-        LineEnd::None => Next::End,
+    if s.len() <= from {
+        return Next::End;
     }
+    let e = next_control(s, from);
+    if !break_at(s, e) {
+        return Next::Bad;
+    }
+    let n = scan::clear_name(&s[from..e]);
+    if n == 0 { Next::Bad } else { Next::Line(e, n) }
 }
 
 // The check of a file whose lines before this place are well formed; the line there has this number.

@@ -7,7 +7,7 @@ ghost use lib.Dec.{eqb};
 ghost use lib.ListN.{length, drop};
 ghost use Rattle.ascii.specs.Bytes.{isNameByte, isControl};
 ghost use Rattle.line.specs.Grammar.{isQuotable, isUnquoted};
-ghost use Rattle.line.specs.Scanner.{step, afterValue, isEnding, scan, nameBytes};
+ghost use Rattle.line.specs.Scanner.{Clear, ClearBy, step, afterValue, isEnding, scan, nameBytes};
 ghost use Rattle.line.specs.WellFormed.{wellFormedName};
 
 // What was read last of a line.
@@ -34,11 +34,33 @@ struct Place {
 pub fn well_formed_name(line: &[u8]) -> usize
     ensures { λ r. ⌜ r ≡ wellFormedName (now (line .entry)) ⌝ }
 {
+    if is_clear(line) { clear_name(line) } else { 0 }
+}
+
+// The same of a line without a control, which is all that a value asks.
+pub fn clear_name(line: &[u8]) -> usize
+    requires { ⌜ Clear (now line) ⌝ }
+    ensures { λ r. ⌜ r ≡ wellFormedName (now (line .entry)) ⌝ }
+{
     if 1024 < line.len() {
         return 0;
     }
     let n = name_length(line);
     if is_behind_name(line, n) { n } else { 0 }
+}
+
+// Has the line no control?
+fn is_clear(line: &[u8]) -> bool
+    ensures { λ r. ⌜ ClearBy (now (line .entry)) r ⌝ }
+{
+    let mut i = 0;
+    while i < line.len() {
+        if ascii::is_control(line[i]) {
+            return false;
+        }
+        i += 1;
+    }
+    true
 }
 
 // How many name bytes the line begins with.
@@ -57,19 +79,21 @@ fn name_length(line: &[u8]) -> usize
 
 // May this stand behind a name? Most lines are a name, a colon and a value: no state is needed for those.
 fn is_behind_name(line: &[u8], from: usize) -> bool
+    requires { ⌜ Clear (now line) ⌝ }
     ensures { λ r. ⌜ r ≡ scan State.Name (drop from (now (line .entry))) ⌝ }
 {
     if from < line.len() {
         if line[from] == 58 {
-            return is_value(line, from + 1);
+            return true;
         }
     }
     is_rest(line, from)
 }
 
-// What follows the name, as far as the colon, and then the value. The scanner steps from one separator to the next;
+// What follows the name, as far as the colon. The scanner steps from one separator to the next;
 // the usual bytes between two are passed by in loops of their own.
 fn is_rest(line: &[u8], from: usize) -> bool
+    requires { ⌜ Clear (now line) ⌝ }
     ensures { λ r. ⌜ r ≡ scan State.Name (drop from (now (line .entry))) ⌝ }
 {
     let mut state = State::Name;
@@ -78,7 +102,7 @@ fn is_rest(line: &[u8], from: usize) -> bool
         state = step(state, line[i]);
         i += 1;
         if is_ending(state) {
-            return is_value(line, i);
+            return true;
         }
         let place = pass_part(line, i, state);
         i = place.at;
@@ -222,71 +246,6 @@ fn is_quotable(b: u8) -> bool
         return b != 127;
     }
     !((b == 34) | ascii::is_control(b))
-}
-
-// No control. Before the value there is none either in most lines, so the last bytes of the line are looked at together,
-// even where the value is shorter than they are.
-fn is_value(line: &[u8], from: usize) -> bool
-    ensures { λ r. ⌜ r ≡ scan State.Value (drop from (now (line .entry))) ⌝ }
-{
-    let n = line.len();
-    if n < 16 {
-        return is_short_value(line, from);
-    }
-    let last = n - 16;
-    if has_control(line, last, 16) {
-        return is_value_by_byte(line, from);
-    }
-    let mut i = from;
-    while i < last {
-        if has_control(line, i, 16) {
-            return false;
-        }
-        i += 16;
-    }
-    true
-}
-
-// The same in a line of fewer than 16 bytes: its first 8 and its last 8 are all of it.
-fn is_short_value(line: &[u8], from: usize) -> bool
-    requires { ⌜ length (now line) < 16 ⌝ }
-    ensures { λ r. ⌜ r ≡ scan State.Value (drop from (now (line .entry))) ⌝ }
-{
-    let n = line.len();
-    if 8 <= n {
-        if !(has_control(line, 0, 8) | has_control(line, n - 8, 8)) {
-            return true;
-        }
-    }
-    is_value_by_byte(line, from)
-}
-
-// The same for the lines that are left: short ones, and those with a control.
-fn is_value_by_byte(line: &[u8], from: usize) -> bool
-    ensures { λ r. ⌜ r ≡ scan State.Value (drop from (now (line .entry))) ⌝ }
-{
-    let mut i = from;
-    while i < line.len() {
-        if ascii::is_control(line[i]) {
-            return false;
-        }
-        i += 1;
-    }
-    true
-}
-
-// Is one of the n bytes from `at` on a control? Every one is looked at, so that all can be at once.
-fn has_control(line: &[u8], at: usize, n: usize) -> bool
-    requires { ⌜ at + n ≤ length (now line) ⌝ }
-    ensures { λ r. ⌜ (not r && scan State.Value (drop (at + n) (now (line .entry)))) ≡ scan State.Value (drop at (now (line .entry))) ⌝ }
-{
-    let mut bad = false;
-    let mut j = 0;
-    while j < n {
-        bad = bad | ascii::is_control(line[at + j]);
-        j += 1;
-    }
-    bad
 }
 
 fn is_ending(state: State) -> bool

@@ -66,11 +66,11 @@ abbrev pub grown : List ℕ → CutLines → CutLines
 grown [] p = p
 grown (b ∷ l) p = grow b (grown l p)
 
-grown-line : (l t : List ℕ) (p : CutLines) → grown l (line t p) ≡ line (l ++ t) p
+pub grown-line : (l t : List ℕ) (p : CutLines) → grown l (line t p) ≡ line (l ++ t) p
 grown-line [] t p = refl
 grown-line (a ∷ l) t p = ap (grow a) (grown-line l t p)
 
-grown-end : (b : ℕ) (l : List ℕ) → grown (b ∷ l) end ≡ unended (b ∷ l)
+pub grown-end : (b : ℕ) (l : List ℕ) → grown (b ∷ l) end ≡ unended (b ∷ l)
 grown-end b [] = refl
 grown-end b (c ∷ l) = ap (grow b) (grown-end c l)
 

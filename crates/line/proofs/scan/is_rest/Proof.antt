@@ -1,7 +1,8 @@
--- `line::scan::is_rest` meets its contract: behind each step and the part passed after it, the state and the bytes left decide; in the value the bytes left alone, and at the end the state alone.
+-- `line::scan::is_rest` meets its contract: behind each step and the part passed after it, the state and the bytes left decide; in the value a clear line is good, and at the end the state decides.
 use Prim.Native.Nat.{_-_}
 use Rattle.line.specs.declared.scan.State.the-variants.{Name}
-use Rattle.line.proofs.Scanner.{leads-after, step-ending, scan-end}
+use Rattle.line.proofs.Controls.{clear-ending}
+use Rattle.line.proofs.Scanner.{leads-after, scan-end}
 use Rattle.line.specs.Scanner.{scan}
 use lib.ListN.{length, drop}
 use mathlib.Core.Path.{_≡_, refl, sym, _∙_}
@@ -31,11 +32,8 @@ add-i c = omega arith
 is-ending-requires : tie.Need-is-ending-requires Inv-loop μ-loop
 is-ending-requires c κs = search needs
 
-is-value-requires : tie.Need-is-value-requires Inv-loop μ-loop
-is-value-requires c κs = search needs
-
 returns : tie.Need-returns Inv-loop μ-loop
-returns c = c .is-value .ensures ∙ step-ending _ _ _ _ _ (c .before .before .before .before .before .loop-test .taken) (c .before .before .before .step .ensures) (c .before .before .is-ending .ensures) (c .before .if1 .taken) ∙ c .before .before .before .before .before .before .loop .inv
+returns c = clear-ending _ (c .before .before .before .before .before .before .before .pre) _ _ _ _ (c .before .before .before .before .loop-test .taken) (c .before .before .step .ensures) (c .before .is-ending .ensures) (c .if1 .taken) ∙ c .before .before .before .before .before .loop .inv
 
 pass-part-requires : tie.Need-pass-part-requires Inv-loop μ-loop
 pass-part-requires c κs = search needs
@@ -63,7 +61,6 @@ is-rest-spec =
     step-requires
     add-i
     is-ending-requires
-    is-value-requires
     returns
     pass-part-requires
     loop-less

@@ -1,24 +1,21 @@
--- `line::scan::well_formed_name` meets its contract: the name bytes are the name, where the scanner takes what stands behind them.
-use Rattle.line.proofs.NameLength.{name-of-long, name-behind, name-missed}
-use native.Mathlib.Omega.{arith}
+-- `line::scan::well_formed_name` meets its contract: a line with a control is badly formed.
+use Rattle.line.proofs.Controls.{is-clear, is-unclear, unclear-name}
+use borrow.Author.Needs.{needs}
 use Rattle.line.proofs.scan.well_formed_name.Statement.{statement}
 use Rattle.line.proofs.scan.well_formed_name.Tie as tie
 
+is-clear-requires : tie.Need-is-clear-requires
+is-clear-requires c κs = search needs
+
+clear-name-requires : tie.Need-clear-name-requires
+clear-name-requires c κs = is-clear _ (c .before .is-clear .ensures) (c .if1 .taken)
+
 returns : tie.Need-returns
-returns c = name-of-long (c .before .before .args .line .now) (omega arith)
-
-name-length-requires : tie.Need-name-length-requires
-name-length-requires c κs = omega arith
-
-is-behind-name-requires : tie.Need-is-behind-name-requires
-is-behind-name-requires c κs = omega arith
+returns c = search needs
 
 returns-2 : tie.Need-returns-2
-returns-2 c = name-behind (c .before .before .before .before .before .args .line .now) (omega arith) (c .before .before .name-length .ensures) (c .before .is-behind-name .ensures) (c .if2 .taken)
-
-returns-3 : tie.Need-returns-3
-returns-3 c = name-missed (c .before .before .before .before .before .args .line .now) (omega arith) (c .before .before .name-length .ensures) (c .before .is-behind-name .ensures) (c .if2 .left)
+returns-2 c = unclear-name _ (is-unclear _ (c .before .is-clear .ensures) (c .if1 .left))
 
 pub well-formed-name-spec : {M : Type 1} → statement M
 well-formed-name-spec =
-    tie.close (tie.spec returns name-length-requires is-behind-name-requires returns-2 returns-3)
+    tie.close (tie.spec is-clear-requires clear-name-requires returns returns-2)
