@@ -28,7 +28,7 @@ pub enum NestingStep {
 }
 
 // Mostly the first byte tells that a line is a property. Only that is asked here, so that it can stand in the loops over lines.
-pub fn delimiter_of(line: &[u8]) -> Delimiter
+fn delimiter_of(line: &[u8]) -> Delimiter
     ensures { λ r. ⌜ r ≡ delimiterOf (lineOf (now (line .entry))) ⌝ }
 {
     if 0 < line.len() {

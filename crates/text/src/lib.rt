@@ -211,7 +211,7 @@ fn skip_unbroken(s: &[u8], from: usize) -> usize
 }
 
 // Where does the line that starts at this place end?
-pub fn line_end(s: &[u8], from: usize) -> LineEnd
+fn line_end(s: &[u8], from: usize) -> LineEnd
     ensures { λ r. ⌜ EndsAt (now (s .entry)) from r ⌝ }
 {
     if s.len() <= from {
