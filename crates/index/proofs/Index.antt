@@ -19,7 +19,7 @@ use Rattle.line.specs.Reading.{nameOf}
 use Rattle.line.specs.WellFormed.{Checked, GoodLineAt, NamedLineAt, BadLineAt}
 use Rattle.line.specs.declared.scan.State.the-variants.{Start, Name, Wrong}
 use Rattle.line.proofs.Reading.{name-take, name-fits}
-use Rattle.line.proofs.NameLength.{name-short}
+use Rattle.line.proofs.ScannerNames.{name-short}
 use Rattle.line.proofs.WellFormed.{checked-start, checked-next, checked-bad, checked-end}
 use Rattle.index.specs.Index.{lineBytes, Between, startIn, nameIn, Entry, Lines, FilledBy}
 use Rattle.index.specs.declared.Filled.{Filled}

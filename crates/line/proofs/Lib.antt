@@ -3,8 +3,8 @@ pub mod Grammar
 pub mod Splitting
 pub mod ReadingParameters
 pub mod Reading
-pub mod NameLength
+pub mod ScannerNames
 pub mod WellFormed
-pub mod Controls
+pub mod WellFormedControls
 pub mod Rendering
 pub mod File

@@ -13,7 +13,7 @@ use Rattle.line.specs.Scanner.{isWellFormed}
 use Rattle.line.specs.WellFormed.{lineCheckFrom, lineCheck, AllGood, linesThen, beginsBadly, FirstBad, wellFormedName, GoodLineAt, NamedLineAt, BadLineAt, NextAt, Checked}
 use Rattle.line.specs.declared.check.LineCheck.the-variants.{Good, BadLine}
 use Rattle.line.specs.declared.check.Next.{Next}
-use Rattle.line.proofs.NameLength.{named-well, unnamed-badly}
+use Rattle.line.proofs.ScannerNames.{named-well, unnamed-badly}
 
 -- ---- one piece
 

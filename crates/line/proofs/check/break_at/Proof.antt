@@ -1,7 +1,7 @@
 -- `line::check::break_at` meets its contract: past the last byte but one no CR LF begins.
 use Rattle.text.specs.Unfolding.{isBreak}
 use Rattle.text.specs.Lines.{breakAt}
-use Rattle.line.proofs.Controls.{break-none}
+use Rattle.line.proofs.WellFormedControls.{break-none}
 use mathlib.Core.Path.{refl}
 use native.Mathlib.Omega.{arith}
 use borrow.Author.Needs.{needs}

@@ -4,7 +4,7 @@ use lib.ListN.{length}
 use Rattle.text.specs.Unfolding.{Nowhere}
 use Rattle.text.proofs.Unfolding.{nowhere-next}
 use Rattle.line.specs.WellFormed.{controlAt}
-use Rattle.line.proofs.Controls.{control-found, control-none}
+use Rattle.line.proofs.WellFormedControls.{control-found, control-none}
 use mathlib.Core.Path.{sym, _∙_}
 use native.Mathlib.Omega.{arith}
 use Rattle.line.proofs.check.next_control.Statement.{statement}

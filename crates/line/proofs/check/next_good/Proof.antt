@@ -1,7 +1,7 @@
 -- `line::check::next_good` meets its contract: the first control ends the line or makes it badly formed, and a line without one is tested.
 use borrow.Author.Tests.{not-true, not-false}
 use Rattle.line.proofs.WellFormed.{next-line, next-badly}
-use Rattle.line.proofs.Controls.{next-past, control-bad, control-line, part-clear}
+use Rattle.line.proofs.WellFormedControls.{next-past, control-bad, control-line, part-clear}
 use mathlib.Core.Path.{sym, _∙_}
 use borrow.Author.Needs.{needs}
 use Rattle.line.proofs.check.next_good.Statement.{statement}

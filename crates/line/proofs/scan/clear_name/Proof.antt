@@ -1,5 +1,5 @@
 -- `line::scan::clear_name` meets its contract: the name bytes are the name, where the scanner takes what stands behind them.
-use Rattle.line.proofs.NameLength.{name-of-long, name-behind, name-missed}
+use Rattle.line.proofs.ScannerNames.{name-of-long, name-behind, name-missed}
 use native.Mathlib.Omega.{arith}
 use borrow.Author.Needs.{needs}
 use Rattle.line.proofs.scan.clear_name.Statement.{statement}

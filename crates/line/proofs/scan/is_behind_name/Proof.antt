@@ -1,5 +1,5 @@
 -- `line::scan::is_behind_name` meets its contract: a colon behind the name leads the scanner to the value.
-use Rattle.line.proofs.Controls.{clear-colon}
+use Rattle.line.proofs.WellFormedControls.{clear-colon}
 use borrow.Author.Needs.{needs}
 use Rattle.line.proofs.scan.is_behind_name.Statement.{statement}
 use Rattle.line.proofs.scan.is_behind_name.Tie as tie

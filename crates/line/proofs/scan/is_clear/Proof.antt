@@ -4,7 +4,7 @@ use lib.ListN.{length}
 use Rattle.text.specs.Unfolding.{Nowhere}
 use Rattle.text.proofs.Unfolding.{nowhere-start, nowhere-next}
 use Rattle.line.specs.WellFormed.{controlAt}
-use Rattle.line.proofs.Controls.{clear-by, unclear-by, clear-all}
+use Rattle.line.proofs.WellFormedControls.{clear-by, unclear-by, clear-all}
 use mathlib.Core.Path.{sym, _∙_}
 use native.Mathlib.Omega.{arith}
 use Rattle.line.proofs.scan.is_clear.Statement.{statement}

@@ -1,7 +1,7 @@
 -- `line::scan::is_rest` meets its contract: behind each step and the part passed after it, the state and the bytes left decide; in the value a clear line is good, and at the end the state decides.
 use Prim.Native.Nat.{_-_}
 use Rattle.line.specs.declared.scan.State.the-variants.{Name}
-use Rattle.line.proofs.Controls.{clear-ending}
+use Rattle.line.proofs.WellFormedControls.{clear-ending}
 use Rattle.line.proofs.Scanner.{leads-after, scan-end}
 use Rattle.line.specs.Scanner.{scan}
 use lib.ListN.{length, drop}

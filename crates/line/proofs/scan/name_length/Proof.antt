@@ -1,5 +1,5 @@
 -- `line::scan::name_length` meets its contract: the bytes passed are name bytes, so those counted from the rest and those passed are all.
-use Rattle.line.proofs.NameLength.{bytes-here, bytes-on, bytes-end}
+use Rattle.line.proofs.ScannerNames.{bytes-here, bytes-on, bytes-end}
 use Rattle.line.specs.Scanner.{nameBytes}
 use lib.ListN.{length, drop}
 use Prim.Native.Nat.{_+_, _-_}

@@ -1,5 +1,5 @@
 -- `line::scan::well_formed_name` meets its contract: a line with a control is badly formed.
-use Rattle.line.proofs.Controls.{is-clear, is-unclear, unclear-name}
+use Rattle.line.proofs.WellFormedControls.{is-clear, is-unclear, unclear-name}
 use borrow.Author.Needs.{needs}
 use Rattle.line.proofs.scan.well_formed_name.Statement.{statement}
 use Rattle.line.proofs.scan.well_formed_name.Tie as tie
