@@ -11,7 +11,7 @@ use Rattle.ascii.proofs.Bools.{clash}
 use Rattle.line.specs.Reading.{lineOf, valueOf}
 use Rattle.delimiters.specs.Innermost.{isEvent, isFreeBusy}
 use Rattle.values.specs.declared.times.Context.{Context}
-use Rattle.property.specs.Properties.{propertyOf, valueAs, propertyValueOf}
+use Rattle.property.specs.Properties.{propertyOf, valueAs, beforePeriods, withPeriods, propertyValueOf}
 use Rattle.property.specs.declared.PropertyValue.{PropertyValue}
 use Rattle.property.specs.declared.Scope.{Scope}
 use Rattle.periods.specs.BusyTypes.{BusyPeriod}
@@ -43,13 +43,14 @@ use Rattle.calendar.proofs.Checks.{faultIn-else}
 use Rattle.pieces.specs.BusyPeriods.{eventPeriods, entryPeriods, busyPeriods}
 use Rattle.pieces.specs.Pieces.{piecesOf, busyPieces}
 use Rattle.pieces.specs.Columns.{Stored, Room}
-use Rattle.pieces.proofs.Columns.{stored-none, stored-as, stored-few}
+use Rattle.pieces.proofs.Columns.{stored-none, stored-as, stored-then, stored-few}
 use Rattle.pieces.proofs.Pieces.{piecesOf-none, piecesOf-append}
 use Rattle.contents.specs.Lines.{together, linesFault, LinesGood}
 use Rattle.contents.specs.Contents.{componentFault, EntryStands, EntryGood, EntryBroken, EntryIs, entry-good, entry-broken, entry-unsupported, entry-bad, ContentsAre}
 use Rattle.contents.specs.declared.EntryRead.{EntryRead}
 use Rattle.contents.specs.declared.ContentsRead.{ContentsRead}
 use Rattle.contents.proofs.LinesStoring.{Left, left-start, left-then, left-none}
+use Rattle.contents.proofs.LinesLaws.{periods-event, periods-block}
 
 -- ---- what a component is
 
@@ -126,7 +127,7 @@ module _ (c : Context) (x : Component) (w : componentScope x ≡ Scope.Event) wh
   unfolding componentFault
   event-fault h = ap (λ (o : Scope). linesFault c o (propertiesIn (x .items))) w ∙ h
 
-  module _ {g : ComponentProperties} (h : LinesGood c Scope.Event (propertiesIn (x .items)) g) {y : EventRead} (q : y ≡ eventBy g) where
+  module _ {a b : ℕ} {o : List ℕ} {n : ℕ} {o₁ : List ℕ} {g : ComponentProperties} {m₁ : ℕ} (h : LinesGood c Scope.Event (propertiesIn (x .items)) a b o n o₁ g m₁) {y : EventRead} (q : y ≡ eventBy g) where
     event-read : y ≡ eventOf c x
     unfolding eventOf together
     event-read = q ∙ ap eventBy (h .say)
@@ -151,19 +152,23 @@ module _ (c : Context) (x : Component) (w : componentScope x ≡ Scope.Event) wh
           blocks-kept = λ j n. block-kept j p n;
         }
 
-    pub event-good : (e : Event) {k a b n m : ℕ} {o o′ old new : List ℕ} → y ≡ EventRead.Of e → EntryPut old k (eventRow e) new
-        → Stored o n (piecesOf a b (eventPeriods e)) o′ m → EntryIs c x k a b o n o′ old new (EntryRead.Of m)
-    event-good e {k} {a} {b} t p d =
+    -- the lines of an event have no pieces of their own
+    lines-none : Stored o n [] o₁ m₁
+    lines-none = stored-as (h .stored) (ap (piecesOf a b) (periods-event c (propertiesIn (x .items))) ∙ piecesOf-none a b)
+
+    pub event-good : (e : Event) {k m : ℕ} {o′ old new : List ℕ} → y ≡ EventRead.Of e → EntryPut old k (eventRow e) new
+        → Stored o₁ m₁ (piecesOf a b (eventPeriods e)) o′ m → EntryIs c x k a b o n o′ old new (EntryRead.Of m)
+    event-good e t p d =
         entry-good
         (record {
           no-fault = event-fault (h .no-fault);
           unbroken = broken-as (EventRead.Of e) t;
-          stored = stored-as d (sym (ap (piecesOf a b) (entry-as e t)));
+          stored = stored-as (stored-then lines-none d) (sym (ap (piecesOf a b) (entry-as e t)));
           stands = event-stands e t p;
         })
 
-    pub event-broken : (k a b n : ℕ) (o o′ old new : List ℕ) → y ≡ EventRead.Broken → EntryIs c x k a b o n o′ old new EntryRead.Broken
-    event-broken k a b n o o′ old new t = entry-broken (record { no-fault = event-fault (h .no-fault); broken = broken-as EventRead.Broken t })
+    pub event-broken : (k : ℕ) (o′ old new : List ℕ) → y ≡ EventRead.Broken → EntryIs c x k a b o n o′ old new EntryRead.Broken
+    event-broken k o′ old new t = entry-broken (record { no-fault = event-fault (h .no-fault); broken = broken-as EventRead.Broken t })
 
 -- ---- a block
 
@@ -172,7 +177,7 @@ module _ (c : Context) (x : Component) (w : componentScope x ≡ Scope.FreeBusy)
   unfolding componentFault
   block-fault h = ap (λ (o : Scope). linesFault c o (propertiesIn (x .items))) w ∙ h
 
-  module _ {g : ComponentProperties} (h : LinesGood c Scope.FreeBusy (propertiesIn (x .items)) g) {y : BlockRead} (q : y ≡ blockBy g) where
+  module _ {a b : ℕ} {o : List ℕ} {n : ℕ} {o₁ : List ℕ} {g : ComponentProperties} {m₁ : ℕ} (h : LinesGood c Scope.FreeBusy (propertiesIn (x .items)) a b o n o₁ g m₁) {y : BlockRead} (q : y ≡ blockBy g) where
     block-read : y ≡ blockOf c x
     unfolding blockOf together
     block-read = q ∙ ap blockBy (h .say)
@@ -197,24 +202,23 @@ module _ (c : Context) (x : Component) (w : componentScope x ≡ Scope.FreeBusy)
           blocks-kept = λ j n. block-kept j p n;
         }
 
-    pub block-good : (d : Block) {k a b n m : ℕ} {o o′ old new : List ℕ} → y ≡ BlockRead.Of d → EntryPut old k (blockRow d) new
-        → Stored o n (piecesOf a b (blockPeriods c (propertiesIn (x .items)))) o′ m → EntryIs c x k a b o n o′ old new (EntryRead.Of m)
-    block-good d {k} {a} {b} t p u =
+    pub block-good : (d : Block) {k : ℕ} {old new : List ℕ} → y ≡ BlockRead.Of d → EntryPut old k (blockRow d) new → EntryIs c x k a b o n o₁ old new (EntryRead.Of m₁)
+    block-good d t p =
         entry-good
         (record {
           no-fault = block-fault (h .no-fault);
           unbroken = block-broken-as (BlockRead.Of d) t;
-          stored = stored-as u (sym (ap (piecesOf a b) (block-entry-as d t)));
+          stored = stored-as (h .stored) (ap (piecesOf a b) (periods-block c (propertiesIn (x .items)) ∙ sym (block-entry-as d t)));
           stands = block-stands d t p;
         })
 
-    pub block-broken : (k a b n : ℕ) (o o′ old new : List ℕ) → y ≡ BlockRead.Broken → EntryIs c x k a b o n o′ old new EntryRead.Broken
-    block-broken k a b n o o′ old new t = entry-broken (record { no-fault = block-fault (h .no-fault); broken = block-broken-as BlockRead.Broken t })
+    pub block-broken : (k : ℕ) (o′ old new : List ℕ) → y ≡ BlockRead.Broken → EntryIs c x k a b o n o′ old new EntryRead.Broken
+    block-broken k o′ old new t = entry-broken (record { no-fault = block-fault (h .no-fault); broken = block-broken-as BlockRead.Broken t })
 
 -- ---- any other component: nothing of it is read
 
 other-value : (c : Context) (x : Numbered) → propertyValueOf c Scope.Other (x .line) ≡ PropertyValue.Nothing
-unfolding propertyValueOf propertyOf valueAs
+unfolding propertyValueOf beforePeriods propertyOf valueAs withPeriods
 other-value c x = refl
 
 other-lines : (c : Context) (xs : List Numbered) → linesFault c Scope.Other xs ≡ ValueCheck.Good

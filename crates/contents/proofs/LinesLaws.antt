@@ -1,16 +1,25 @@
--- Laws of the lines of a component: what a line is to the first fault, to what the lines say together and to the pieces of a block.
+-- Laws of the lines of a component: what a line is to the first fault, to what the lines say together and to the pieces of their periods.
 use Prim.Native.Nat.{ℕ, _+_, _*_, _-_, _≤_}
 use mathlib.Core.Path.{_≡_, refl, sym, ap, subst, _∙_}
+use mathlib.Core.Bool.{Bool, true, false, cond, true≢false}
 use mathlib.Core.List.{List, [], _∷_, _++_}
 use native.Mathlib.Omega.{arith}
 use lib.ListN.{getD}
 use Rattle.line.specs.Grammar.{ContentLine}
-use Rattle.line.specs.Reading.{lineOf}
+use Rattle.line.specs.Reading.{lineOf, valueOf}
+use Rattle.time.specs.declared.duration.Duration.{Duration}
+use Rattle.values.specs.Period.{periodItems, allPeriods}
 use Rattle.values.specs.declared.times.Context.{Context}
-use Rattle.periods.specs.BusyTypes.{BusyPeriod}
-use Rattle.property.specs.Properties.{propertyValueOf}
+use Rattle.values.specs.declared.times.Time.{Time}
+use Rattle.values.specs.declared.rule.Rule.{Rule}
+use Rattle.periods.specs.declared.BusyType.{BusyType}
+use Rattle.periods.specs.declared.Period.{Period}
+use Rattle.periods.specs.BusyTypes.{BusyPeriod, typed}
+use Rattle.property.specs.Properties.{beforePeriods, withPeriods, propertyValueOf, givesPeriods}
 use Rattle.property.specs.declared.PropertyValue.{PropertyValue}
 use Rattle.property.specs.declared.Scope.{Scope}
+use Rattle.property.specs.declared.Status.{Status}
+use Rattle.property.proofs.Properties.{event-periods}
 use Rattle.nesting.specs.Components.{Numbered, Items, propertiesIn}
 use Rattle.index.specs.Index.{lineBytes, Entry, Indexed}
 use Rattle.structure.specs.Rows.{itemsBy, numberedLine, ItemsAt, RowOf, componentBy}
@@ -18,65 +27,78 @@ use Rattle.structure.specs.Items.{PropertyAt, InnerAt}
 use Rattle.events.specs.ComponentProperties.{noProperties, withProperty, withProperties}
 use Rattle.events.specs.declared.ComponentProperties.{ComponentProperties}
 use Rattle.calendar.specs.Meaning.{propertyValuesIn, faultOr, faultIn, periodsBy, blockPeriods}
+use Rattle.calendar.specs.Periods.{periodsFrom}
 use Rattle.calendar.specs.declared.ValueCheck.{ValueCheck}
+use Rattle.calendar.proofs.Periods.{periods-all}
 use Rattle.pieces.specs.Pieces.{piecesOf}
 use Rattle.pieces.specs.Columns.{Stored, Room}
 use Rattle.pieces.proofs.Pieces.{piecesOf-none, piecesOf-append}
-use Rattle.contents.specs.Lines.{lineKind, together, linesFault, LinesGood, LinesAre, good, unsupported, bad}
-use Rattle.contents.specs.Lines.{BlockLinesGood, BlockLinesAre, block-good, block-unsupported, block-bad}
-use Rattle.contents.specs.declared.lines.LineKind.{LineKind}
+use Rattle.contents.specs.Lines.{together, linesFault, periodsIn, valuePeriods, ValueIs, LinesGood, LinesAre, good, unsupported, bad}
 use Rattle.contents.specs.declared.lines.LinesRead.{LinesRead}
-use Rattle.contents.specs.declared.blocks.BlockLinesRead.{BlockLinesRead}
-use Rattle.contents.proofs.LinesStoring.{Left, left-start, left-then, left-same, left-none}
+use Rattle.contents.specs.declared.lines.ValueStored.{ValueStored}
+use Rattle.contents.proofs.LinesStoring.{Left, left-start, left-then, left-same, left-none, value-stored, value-unread}
 
--- ---- a line by its kind
+-- ---- a line by what it says
 
-abbrev faultBy : LineKind → ℕ → ValueCheck → ValueCheck
-faultBy LineKind.Unread n r = r
-faultBy LineKind.Unsupported n r = ValueCheck.Unsupported n
-faultBy LineKind.Bad n r = ValueCheck.Bad n
-faultBy LineKind.Read n r = r
+-- it says something that is neither a fault nor a period
+pub record Says (v : PropertyValue) : Type 0 where
+  pub no-fault : (n : ℕ) (r : ValueCheck) → faultOr n v r ≡ r
+  pub no-periods : (x : ContentLine) → periodsBy v x ≡ []
+  pub settled : (w : List ℕ) → withPeriods w v ≡ v
 
--- what is left of anything where the line is not read
-abbrev unlessUnread : {A : Type 0} → LineKind → A → A → A
-unlessUnread LineKind.Unread none some = none
-unlessUnread LineKind.Unsupported none some = some
-unlessUnread LineKind.Bad none some = some
-unlessUnread LineKind.Read none some = some
+-- such are a line that is not read, and all that an event or a block is made of
+pub says-nothing : Says PropertyValue.Nothing
+unfolding faultOr periodsBy withPeriods
+says-nothing = record { no-fault = λ n r. refl; no-periods = λ x. refl; settled = λ w. refl }
 
-fault-by : (n : ℕ) (v : PropertyValue) (r : ValueCheck) → faultOr n v r ≡ faultBy (lineKind v) n r
-unfolding faultOr lineKind
-fault-by n PropertyValue.Nothing r = refl
-fault-by n PropertyValue.Unsupported r = refl
-fault-by n PropertyValue.Bad r = refl
-fault-by n (PropertyValue.Start t) r = refl
-fault-by n (PropertyValue.End t) r = refl
-fault-by n (PropertyValue.Lasts d) r = refl
-fault-by n (PropertyValue.Repeats x) r = refl
-fault-by n (PropertyValue.HasStatus x) r = refl
-fault-by n (PropertyValue.Transparent x) r = refl
-fault-by n (PropertyValue.HasPeriods b) r = refl
+pub nothing-said : (g : ComponentProperties) → g ≡ withProperty g PropertyValue.Nothing
+unfolding withProperty
+nothing-said g = refl
 
--- a line that is not read adds nothing to what the lines say, and has no period
-module _ (g : ComponentProperties) (x : ContentLine) where
-  unread-by : (v : PropertyValue) → (withProperty g v ≡ unlessUnread (lineKind v) g (withProperty g v)) × (periodsBy v x ≡ unlessUnread (lineKind v) [] (periodsBy v x))
-  unfolding lineKind withProperty periodsBy
-  unread-by PropertyValue.Nothing = (refl, refl)
-  unread-by PropertyValue.Unsupported = (refl, refl)
-  unread-by PropertyValue.Bad = (refl, refl)
-  unread-by (PropertyValue.Start t) = (refl, refl)
-  unread-by (PropertyValue.End t) = (refl, refl)
-  unread-by (PropertyValue.Lasts d) = (refl, refl)
-  unread-by (PropertyValue.Repeats r) = (refl, refl)
-  unread-by (PropertyValue.HasStatus s) = (refl, refl)
-  unread-by (PropertyValue.Transparent t) = (refl, refl)
-  unread-by (PropertyValue.HasPeriods b) = (refl, refl)
+pub says-start : (t : Time) → Says (PropertyValue.Start t)
+unfolding faultOr periodsBy withPeriods
+says-start t = record { no-fault = λ n r. refl; no-periods = λ x. refl; settled = λ w. refl }
 
-  unread-says : (v : PropertyValue) → lineKind v ≡ LineKind.Unread → withProperty g v ≡ g
-  unread-says v e = unread-by v .0 ∙ ap (λ (k : LineKind). unlessUnread k g (withProperty g v)) e
+pub says-end : (t : Time) → Says (PropertyValue.End t)
+unfolding faultOr periodsBy withPeriods
+says-end t = record { no-fault = λ n r. refl; no-periods = λ x. refl; settled = λ w. refl }
 
-  unread-periods : (v : PropertyValue) → lineKind v ≡ LineKind.Unread → periodsBy v x ≡ []
-  unread-periods v e = unread-by v .1 ∙ ap (λ (k : LineKind). unlessUnread k [] (periodsBy v x)) e
+pub says-lasts : (d : Duration) → Says (PropertyValue.Lasts d)
+unfolding faultOr periodsBy withPeriods
+says-lasts d = record { no-fault = λ n r. refl; no-periods = λ x. refl; settled = λ w. refl }
+
+pub says-repeats : (r : Rule) → Says (PropertyValue.Repeats r)
+unfolding faultOr periodsBy withPeriods
+says-repeats r = record { no-fault = λ n r. refl; no-periods = λ x. refl; settled = λ w. refl }
+
+pub says-status : (x : Status) → Says (PropertyValue.HasStatus x)
+unfolding faultOr periodsBy withPeriods
+says-status x = record { no-fault = λ n r. refl; no-periods = λ x. refl; settled = λ w. refl }
+
+pub says-transparent : (x : Bool) → Says (PropertyValue.Transparent x)
+unfolding faultOr periodsBy withPeriods
+says-transparent x = record { no-fault = λ n r. refl; no-periods = λ x. refl; settled = λ w. refl }
+
+-- what a line says, by what it says before its periods are looked at
+module _ (c : Context) (o : Scope) (l : List ℕ) {u : PropertyValue} (q : u ≡ beforePeriods c o (lineOf l)) where
+  value-as : (v : PropertyValue) → u ≡ v → propertyValueOf c o (lineOf l) ≡ withPeriods (valueOf l) v
+  unfolding propertyValueOf lineOf
+  value-as v e = ap (withPeriods (valueOf l)) (sym q ∙ e)
+
+  value-unsupported : u ≡ PropertyValue.Unsupported → propertyValueOf c o (lineOf l) ≡ PropertyValue.Unsupported
+  unfolding withPeriods
+  value-unsupported e = value-as PropertyValue.Unsupported e
+
+  value-bad : u ≡ PropertyValue.Bad → propertyValueOf c o (lineOf l) ≡ PropertyValue.Bad
+  unfolding withPeriods
+  value-bad e = value-as PropertyValue.Bad e
+
+  module _ (y : BusyType) (e : u ≡ PropertyValue.HasPeriods y) {w : List ℕ} (f : w ≡ valueOf l) where
+    periods-by : (t : Bool) → allPeriods (periodItems w) ≡ t → propertyValueOf c o (lineOf l) ≡ cond t (PropertyValue.HasPeriods y) PropertyValue.Bad
+    unfolding withPeriods
+    periods-by t h =
+        value-as (PropertyValue.HasPeriods y) e
+        ∙ ap (λ (k : Bool). cond k (PropertyValue.HasPeriods y) PropertyValue.Bad) (ap (λ (k : List ℕ). allPeriods (periodItems k)) (sym f) ∙ h)
 
 -- ---- from line to line
 
@@ -99,82 +121,124 @@ no-properties s i h = ap propertiesIn h
 
 -- ---- the lines of a component
 
--- the lines from line i on are left of xs; those before have no fault, and g is what they say together
-pub record ReadingLines (c : Context) (o : Scope) (s rows : List ℕ) (xs : List Numbered) (g : ComponentProperties) (i row j m : ℕ) : Type 0 where
+-- the lines from line i on are left of xs; those before have no fault, g is what they say together, and the pieces of those that are left are left to store
+pub record ReadingLines (c : Context) (t : Scope) (s rows : List ℕ) (xs : List Numbered) (a b : ℕ) (o₀ : List ℕ) (n₀ : ℕ) (o : List ℕ) (n : ℕ) (g : ComponentProperties) (i row j m : ℕ) : Type 0 where
   pub items : ItemsAt s rows i row j m
-  pub fault : linesFault c o (propertiesBy s i) ≡ linesFault c o xs
-  pub say : withProperties g (propertyValuesIn c o (propertiesBy s i)) ≡ together c o xs
+  pub fault : linesFault c t (propertiesBy s i) ≡ linesFault c t xs
+  pub say : withProperties g (propertyValuesIn c t (propertiesBy s i)) ≡ together c t xs
+  pub still : Left o₀ n₀ (piecesOf a b (periodsIn c t xs)) o n (piecesOf a b (periodsIn c t (propertiesBy s i)))
 
-module _ (c : Context) (o : Scope) {s rows : List ℕ} {k : ℕ} (r : RowOf s rows k) where
+module _ (c : Context) (t : Scope) {s rows : List ℕ} {k : ℕ} (r : RowOf s rows k) (a b : ℕ) {o : List ℕ} {n : ℕ} (room : Room o) (few : n ≤ 513) where
   pub reading-start : {g : ComponentProperties} (first behind last : ℕ) → g ≡ noProperties → first ≡ getD rows (4 * k) 0 → behind ≡ getD rows (4 * k + 1) 0
-      → last ≡ getD rows (4 * k + 2) 0 → ReadingLines c o s rows (propertiesIn (componentBy s rows k .items)) g first (k + 1) (behind - 1) last
+      → last ≡ getD rows (4 * k + 2) 0 → ReadingLines c t s rows (propertiesIn (componentBy s rows k .items)) a b o n o n g first (k + 1) (behind - 1) last
   unfolding componentBy together
   reading-start first behind last e p q w =
       let z : behind - 1 ≡ r .stop = omega (arith, r .end) in
-      rw (z, p, w) (record { items = r .inner; fault = refl; say = ap (λ (y : ComponentProperties). withProperties y (propertyValuesIn c o (propertiesBy s (getD rows (4 * k) 0)))) e })
+      rw (z, p, w)
+      (record {
+        items = r .inner;
+        fault = refl;
+        say = ap (λ (y : ComponentProperties). withProperties y (propertyValuesIn c t (propertiesBy s (getD rows (4 * k) 0)))) e;
+        still = left-start o n _ few room;
+      })
 
-module _ {c : Context} {o : Scope} {s rows : List ℕ} {xs : List Numbered} {g : ComponentProperties} {i row j m : ℕ} (z : ReadingLines c o s rows xs g i row j m) where
-  pub reading-inner : {next after : ℕ} → InnerAt s rows i row j m next after → ReadingLines c o s rows xs g next after j m
+module _ {c : Context} {t : Scope} {s rows : List ℕ} {xs : List Numbered} {a b : ℕ} {o₀ : List ℕ} {n₀ : ℕ} {o : List ℕ} {n : ℕ} {g : ComponentProperties} {i row j m : ℕ}
+    (z : ReadingLines c t s rows xs a b o₀ n₀ o n g i row j m) where
+  pub reading-inner : {next after : ℕ} → InnerAt s rows i row j m next after → ReadingLines c t s rows xs a b o₀ n₀ o n g next after j m
   reading-inner h =
       record {
         items = h .rest;
-        fault = ap (linesFault c o) (sym (next-inner h)) ∙ z .fault;
-        say = ap (λ (ys : List Numbered). withProperties g (propertyValuesIn c o ys)) (sym (next-inner h)) ∙ z .say;
+        fault = ap (linesFault c t) (sym (next-inner h)) ∙ z .fault;
+        say = ap (λ (ys : List Numbered). withProperties g (propertyValuesIn c t ys)) (sym (next-inner h)) ∙ z .say;
+        still = left-same (z .still) (ap (λ (ys : List Numbered). piecesOf a b (periodsIn c t ys)) (next-inner h));
       }
 
-  pub reading-done : itemsBy s i ≡ Items.none → LinesGood c o xs g
-  unfolding linesFault faultIn withProperties propertyValuesIn
+  pub reading-done : itemsBy s i ≡ Items.none → LinesAre c t xs a b o₀ n₀ o (LinesRead.Of g n)
+  unfolding linesFault faultIn withProperties propertyValuesIn periodsIn
   reading-done h =
-      record {
-        no-fault = sym (z .fault) ∙ ap (linesFault c o) (no-properties s i h);
-        say = ap (λ (ys : List Numbered). withProperties g (propertyValuesIn c o ys)) (sym (no-properties s i h)) ∙ z .say;
-      }
+      good
+      (record {
+        no-fault = sym (z .fault) ∙ ap (linesFault c t) (no-properties s i h);
+        say = ap (λ (ys : List Numbered). withProperties g (propertyValuesIn c t ys)) (sym (no-properties s i h)) ∙ z .say;
+        stored = left-none (z .still) (ap (λ (ys : List Numbered). piecesOf a b (periodsIn c t ys)) (no-properties s i h) ∙ piecesOf-none a b);
+      })
 
-  -- the line at i is a property that says v
-  module _ (h : PropertyAt s rows i row j m) {l : List ℕ} {v : PropertyValue} {t : LineKind} (p : l ≡ lineBytes s i) (q : v ≡ propertyValueOf c o (lineOf l)) (w : t ≡ lineKind v) where
-    value-here : propertyValueOf c o (numberedLine s i .line) ≡ v
-    unfolding numberedLine
-    value-here = ap (λ (y : List ℕ). propertyValueOf c o (lineOf y)) (sym p) ∙ sym q
+  -- the line at i is a property
+  module _ (h : PropertyAt s rows i row j m) {l : List ℕ} (p : l ≡ lineBytes s i) where
+    -- what it says
+    module _ {v : PropertyValue} (q : propertyValueOf c t (lineOf l) ≡ v) where
+      value-here : propertyValueOf c t (numberedLine s i .line) ≡ v
+      unfolding numberedLine
+      value-here = ap (λ (y : List ℕ). propertyValueOf c t (lineOf y)) (sym p) ∙ q
 
-    fault-here : (y : LineKind) → t ≡ y → faultBy y (i + 1) (linesFault c o (propertiesBy s (i + 1))) ≡ linesFault c o xs
-    unfolding linesFault faultIn numberedLine
-    fault-here y e =
-        ap (λ (u : LineKind). faultBy u (i + 1) (linesFault c o (propertiesBy s (i + 1)))) (sym e ∙ w)
-        ∙ sym (fault-by (i + 1) v (linesFault c o (propertiesBy s (i + 1))))
-        ∙ ap (λ (u : PropertyValue). faultOr (i + 1) u (linesFault c o (propertiesBy s (i + 1)))) (sym value-here)
-        ∙ ap (linesFault c o) (sym (next-property h))
-        ∙ z .fault
+      fault-here : faultOr (i + 1) v (linesFault c t (propertiesBy s (i + 1))) ≡ linesFault c t xs
+      unfolding linesFault faultIn numberedLine
+      fault-here =
+          ap (λ (u : PropertyValue). faultOr (i + 1) u (linesFault c t (propertiesBy s (i + 1)))) (sym value-here)
+          ∙ ap (linesFault c t) (sym (next-property h))
+          ∙ z .fault
 
-    say-here : withProperties (withProperty g v) (propertyValuesIn c o (propertiesBy s (i + 1))) ≡ together c o xs
-    unfolding withProperties propertyValuesIn
-    say-here =
-        ap (λ (u : PropertyValue). withProperties (withProperty g u) (propertyValuesIn c o (propertiesBy s (i + 1)))) (sym value-here)
-        ∙ ap (λ (ys : List Numbered). withProperties g (propertyValuesIn c o ys)) (sym (next-property h))
-        ∙ z .say
+      say-here : withProperties (withProperty g v) (propertyValuesIn c t (propertiesBy s (i + 1))) ≡ together c t xs
+      unfolding withProperties propertyValuesIn
+      say-here =
+          ap (λ (u : PropertyValue). withProperties (withProperty g u) (propertyValuesIn c t (propertiesBy s (i + 1)))) (sym value-here)
+          ∙ ap (λ (ys : List Numbered). withProperties g (propertyValuesIn c t ys)) (sym (next-property h))
+          ∙ z .say
 
-    pub reading-unsupported : t ≡ LineKind.Unsupported → linesFault c o xs ≡ ValueCheck.Unsupported (i + 1)
-    reading-unsupported e = sym (fault-here LineKind.Unsupported e)
+      pieces-here : piecesOf a b (periodsIn c t (propertiesBy s i)) ≡ piecesOf a b (periodsBy v (lineOf l)) ++ piecesOf a b (periodsIn c t (propertiesBy s (i + 1)))
+      unfolding periodsIn numberedLine
+      pieces-here =
+          ap (λ (ys : List Numbered). piecesOf a b (periodsIn c t ys)) (next-property h)
+          ∙ ap (λ (y : List ℕ). piecesOf a b (periodsBy (propertyValueOf c t (lineOf y)) (lineOf y) ++ periodsIn c t (propertiesBy s (i + 1)))) (sym p)
+          ∙ ap (λ (y : PropertyValue). piecesOf a b (periodsBy y (lineOf l) ++ periodsIn c t (propertiesBy s (i + 1)))) q
+          ∙ piecesOf-append a b (periodsBy v (lineOf l)) (periodsIn c t (propertiesBy s (i + 1)))
 
-    pub reading-bad : t ≡ LineKind.Bad → linesFault c o xs ≡ ValueCheck.Bad (i + 1)
-    reading-bad e = sym (fault-here LineKind.Bad e)
+    -- what it says before its periods are looked at
+    module _ {u : PropertyValue} (q : u ≡ beforePeriods c t (lineOf l)) where
+      pub reading-unsupported : (o′ : List ℕ) → u ≡ PropertyValue.Unsupported → LinesAre c t xs a b o₀ n₀ o′ (LinesRead.Unsupported (i + 1))
+      unfolding faultOr
+      reading-unsupported o′ e = unsupported (sym (fault-here (value-unsupported c t l q e)))
 
-    pub reading-unread : t ≡ LineKind.Unread → ReadingLines c o s rows xs g (i + 1) row j m
-    reading-unread e =
-        record {
-          items = h .rest;
-          fault = fault-here LineKind.Unread e;
-          say =
-              ap (λ (y : ComponentProperties). withProperties y (propertyValuesIn c o (propertiesBy s (i + 1)))) (sym (unread-says g (lineOf l) v (sym w ∙ e)))
-              ∙ say-here;
-        }
+      pub reading-bad : (o′ : List ℕ) → u ≡ PropertyValue.Bad → LinesAre c t xs a b o₀ n₀ o′ (LinesRead.Bad (i + 1))
+      unfolding faultOr
+      reading-bad o′ e = bad (sym (fault-here (value-bad c t l q e)))
 
-    pub reading-read : {g′ : ComponentProperties} → t ≡ LineKind.Read → g′ ≡ withProperty g v → ReadingLines c o s rows xs g′ (i + 1) row j m
-    reading-read e f =
-        record {
-          items = h .rest;
-          fault = fault-here LineKind.Read e;
-          say = ap (λ (y : ComponentProperties). withProperties y (propertyValuesIn c o (propertiesBy s (i + 1)))) f ∙ say-here;
-        }
+      pub reading-says : {v : PropertyValue} → Says v → {g′ : ComponentProperties} → u ≡ v → g′ ≡ withProperty g v → ReadingLines c t s rows xs a b o₀ n₀ o n g′ (i + 1) row j m
+      reading-says {v} y e f =
+          let w : propertyValueOf c t (lineOf l) ≡ v = value-as c t l q v e ∙ y .settled (valueOf l) in
+          record {
+            items = h .rest;
+            fault = sym (y .no-fault (i + 1) (linesFault c t (propertiesBy s (i + 1)))) ∙ fault-here w;
+            say = ap (λ (x : ComponentProperties). withProperties x (propertyValuesIn c t (propertiesBy s (i + 1)))) f ∙ say-here w;
+            still =
+                left-same (z .still)
+                (pieces-here w
+                ∙ ap (λ (ps : List BusyPeriod). piecesOf a b ps ++ piecesOf a b (periodsIn c t (propertiesBy s (i + 1)))) (y .no-periods (lineOf l))
+                ∙ ap (λ (ps : List BusyPeriod). ps ++ piecesOf a b (periodsIn c t (propertiesBy s (i + 1)))) (piecesOf-none a b));
+          }
+
+      module _ {y : BusyType} (e : u ≡ PropertyValue.HasPeriods y) {w : List ℕ} (f : w ≡ valueOf l) {o′ : List ℕ} {r : ValueStored} (k : ValueIs y w a b o n o′ r) where
+        pub reading-bad-period : r ≡ ValueStored.Bad → LinesAre c t xs a b o₀ n₀ o′ (LinesRead.Bad (i + 1))
+        unfolding faultOr
+        reading-bad-period x = bad (sym (fault-here (periods-by c t l q y e f false (value-unread k x))))
+
+        pub reading-periods : (n′ : ℕ) → r ≡ ValueStored.Of n′ → ReadingLines c t s rows xs a b o₀ n₀ o′ n′ g (i + 1) row j m
+        unfolding faultOr withProperty periodsBy lineOf valuePeriods
+        reading-periods n′ x =
+            let (d, st) = value-stored k n′ x in
+            let v : propertyValueOf c t (lineOf l) ≡ PropertyValue.HasPeriods y = periods-by c t l q y e f true d in
+            record {
+              items = h .rest;
+              fault = fault-here v;
+              say = say-here v;
+              still =
+                  left-then (z .still)
+                  (pieces-here v
+                  ∙ ap
+                  (λ (ps : List Period). piecesOf a b (typed y ps) ++ piecesOf a b (periodsIn c t (propertiesBy s (i + 1))))
+                  (sym (ap (λ (ws : List ℕ). periodsFrom ws 0) f ∙ periods-all (valueOf l))))
+                  st;
+            }
 
 -- the line of a property is known to the index
 pub line-entry : {s index rows : List ℕ} {i row j m : ℕ} → Indexed s index → PropertyAt s rows i row j m → Entry s index i
@@ -182,100 +246,48 @@ line-entry x h = x .entries _ (h .inside)
 
 -- ---- what the answers say
 
-pub lines-of : {c : Context} {o : Scope} {xs : List Numbered} {r : LinesRead} (g : ComponentProperties) → LinesAre c o xs r → r ≡ LinesRead.Of g → LinesGood c o xs g
-lines-of {c} {o} {xs} g h e = go (subst (LinesAre c o xs) e h)
-  where
-    go : LinesAre c o xs (LinesRead.Of g) → LinesGood c o xs g
-    go (good y) = y
-
-pub lines-unsupported : {c : Context} {o : Scope} {xs : List Numbered} {r : LinesRead} (n : ℕ) → LinesAre c o xs r → r ≡ LinesRead.Unsupported n
-    → linesFault c o xs ≡ ValueCheck.Unsupported n
-lines-unsupported {c} {o} {xs} n h e = go (subst (LinesAre c o xs) e h)
-  where
-    go : LinesAre c o xs (LinesRead.Unsupported n) → linesFault c o xs ≡ ValueCheck.Unsupported n
-    go (unsupported y) = y
-
-pub lines-bad : {c : Context} {o : Scope} {xs : List Numbered} {r : LinesRead} (n : ℕ) → LinesAre c o xs r → r ≡ LinesRead.Bad n
-    → linesFault c o xs ≡ ValueCheck.Bad n
-lines-bad {c} {o} {xs} n h e = go (subst (LinesAre c o xs) e h)
-  where
-    go : LinesAre c o xs (LinesRead.Bad n) → linesFault c o xs ≡ ValueCheck.Bad n
-    go (bad y) = y
-
--- ---- the lines of a block
-
--- the same, and the pieces of the lines that are left are left to store
-pub record ReadingBlock (c : Context) (s rows : List ℕ) (xs : List Numbered) (a b : ℕ) (o₀ : List ℕ) (n₀ : ℕ) (o : List ℕ) (n : ℕ) (g : ComponentProperties) (i row j m : ℕ) : Type 0 where
-  pub lines : ReadingLines c Scope.FreeBusy s rows xs g i row j m
-  pub still : Left o₀ n₀ (piecesOf a b (blockPeriods c xs)) o n (piecesOf a b (blockPeriods c (propertiesBy s i)))
-
-module _ (c : Context) {s rows : List ℕ} {k : ℕ} (r : RowOf s rows k) (a b : ℕ) {o : List ℕ} {n : ℕ} (room : Room o) (few : n ≤ 513) where
-  pub block-start : {g : ComponentProperties} (first behind last : ℕ) → g ≡ noProperties → first ≡ getD rows (4 * k) 0 → behind ≡ getD rows (4 * k + 1) 0
-      → last ≡ getD rows (4 * k + 2) 0 → ReadingBlock c s rows (propertiesIn (componentBy s rows k .items)) a b o n o n g first (k + 1) (behind - 1) last
-  unfolding componentBy
-  block-start first behind last e p q w =
-      record {
-        lines = reading-start c Scope.FreeBusy r first behind last e p q w;
-        still = rw p (left-start o n _ few room);
-      }
-
-module _ {c : Context} {s rows : List ℕ} {xs : List Numbered} {a b : ℕ} {o₀ : List ℕ} {n₀ : ℕ} {o : List ℕ} {n : ℕ} {g : ComponentProperties} {i row j m : ℕ}
-    (z : ReadingBlock c s rows xs a b o₀ n₀ o n g i row j m) where
-  pub block-inner : {next after : ℕ} → InnerAt s rows i row j m next after → ReadingBlock c s rows xs a b o₀ n₀ o n g next after j m
-  block-inner h =
-      record { lines = reading-inner (z .lines) h; still = left-same (z .still) (ap (λ (ys : List Numbered). piecesOf a b (blockPeriods c ys)) (next-inner h)) }
-
-  pub block-done : itemsBy s i ≡ Items.none → BlockLinesAre c xs a b o₀ n₀ o (BlockLinesRead.Of g n)
-  unfolding blockPeriods
-  block-done h =
-      block-good
-      (record {
-        lines = reading-done (z .lines) h;
-        stored = left-none (z .still) (ap (λ (ys : List Numbered). piecesOf a b (blockPeriods c ys)) (no-properties s i h) ∙ piecesOf-none a b);
-      })
-
-  module _ (h : PropertyAt s rows i row j m) {l : List ℕ} {v : PropertyValue} {t : LineKind} (p : l ≡ lineBytes s i)
-      (q : v ≡ propertyValueOf c Scope.FreeBusy (lineOf l)) (w : t ≡ lineKind v) where
-    pieces-here : piecesOf a b (blockPeriods c (propertiesBy s i)) ≡ piecesOf a b (periodsBy v (lineOf l)) ++ piecesOf a b (blockPeriods c (propertiesBy s (i + 1)))
-    unfolding blockPeriods numberedLine
-    pieces-here =
-        ap (λ (ys : List Numbered). piecesOf a b (blockPeriods c ys)) (next-property h)
-        ∙ ap (λ (y : List ℕ). piecesOf a b (periodsBy (propertyValueOf c Scope.FreeBusy (lineOf y)) (lineOf y) ++ blockPeriods c (propertiesBy s (i + 1)))) (sym p)
-        ∙ ap (λ (y : PropertyValue). piecesOf a b (periodsBy y (lineOf l) ++ blockPeriods c (propertiesBy s (i + 1)))) (sym q)
-        ∙ piecesOf-append a b (periodsBy v (lineOf l)) (blockPeriods c (propertiesBy s (i + 1)))
-
-    pub block-unread : t ≡ LineKind.Unread → ReadingBlock c s rows xs a b o₀ n₀ o n g (i + 1) row j m
-    block-unread e =
-        record {
-          lines = reading-unread (z .lines) h p q w e;
-          still =
-              left-same (z .still)
-              (pieces-here
-              ∙ ap
-              (λ (ps : List BusyPeriod). piecesOf a b ps ++ piecesOf a b (blockPeriods c (propertiesBy s (i + 1))))
-              (unread-periods g (lineOf l) v (sym w ∙ e))
-              ∙ ap (λ (ps : List BusyPeriod). ps ++ piecesOf a b (blockPeriods c (propertiesBy s (i + 1)))) (piecesOf-none a b));
-        }
-
-    pub block-read : {g′ : ComponentProperties} {o′ : List ℕ} {n′ : ℕ} → t ≡ LineKind.Read → g′ ≡ withProperty g v
-        → Stored o n (piecesOf a b (periodsBy v (lineOf l))) o′ n′ → ReadingBlock c s rows xs a b o₀ n₀ o′ n′ g′ (i + 1) row j m
-    block-read e f y = record { lines = reading-read (z .lines) h p q w e f; still = left-then (z .still) pieces-here y }
-
-module _ {c : Context} {xs : List Numbered} {a b : ℕ} {o : List ℕ} {n : ℕ} {o′ : List ℕ} {r : BlockLinesRead} (h : BlockLinesAre c xs a b o n o′ r) where
-  pub block-of : (g : ComponentProperties) (m : ℕ) → r ≡ BlockLinesRead.Of g m → BlockLinesGood c xs a b o n o′ g m
-  block-of g m e = go (subst (BlockLinesAre c xs a b o n o′) e h)
+module _ {c : Context} {t : Scope} {xs : List Numbered} {a b : ℕ} {o : List ℕ} {n : ℕ} {o′ : List ℕ} {r : LinesRead} (h : LinesAre c t xs a b o n o′ r) where
+  pub lines-of : (g : ComponentProperties) (m : ℕ) → r ≡ LinesRead.Of g m → LinesGood c t xs a b o n o′ g m
+  lines-of g m e = go (subst (LinesAre c t xs a b o n o′) e h)
     where
-      go : BlockLinesAre c xs a b o n o′ (BlockLinesRead.Of g m) → BlockLinesGood c xs a b o n o′ g m
-      go (block-good y) = y
+      go : LinesAre c t xs a b o n o′ (LinesRead.Of g m) → LinesGood c t xs a b o n o′ g m
+      go (good y) = y
 
-  pub block-of-unsupported : (i : ℕ) → r ≡ BlockLinesRead.Unsupported i → linesFault c Scope.FreeBusy xs ≡ ValueCheck.Unsupported i
-  block-of-unsupported i e = go (subst (BlockLinesAre c xs a b o n o′) e h)
+  pub lines-unsupported : (i : ℕ) → r ≡ LinesRead.Unsupported i → linesFault c t xs ≡ ValueCheck.Unsupported i
+  lines-unsupported i e = go (subst (LinesAre c t xs a b o n o′) e h)
     where
-      go : BlockLinesAre c xs a b o n o′ (BlockLinesRead.Unsupported i) → linesFault c Scope.FreeBusy xs ≡ ValueCheck.Unsupported i
-      go (block-unsupported y) = y
+      go : LinesAre c t xs a b o n o′ (LinesRead.Unsupported i) → linesFault c t xs ≡ ValueCheck.Unsupported i
+      go (unsupported y) = y
 
-  pub block-of-bad : (i : ℕ) → r ≡ BlockLinesRead.Bad i → linesFault c Scope.FreeBusy xs ≡ ValueCheck.Bad i
-  block-of-bad i e = go (subst (BlockLinesAre c xs a b o n o′) e h)
+  pub lines-bad : (i : ℕ) → r ≡ LinesRead.Bad i → linesFault c t xs ≡ ValueCheck.Bad i
+  lines-bad i e = go (subst (LinesAre c t xs a b o n o′) e h)
     where
-      go : BlockLinesAre c xs a b o n o′ (BlockLinesRead.Bad i) → linesFault c Scope.FreeBusy xs ≡ ValueCheck.Bad i
-      go (block-bad y) = y
+      go : LinesAre c t xs a b o n o′ (LinesRead.Bad i) → linesFault c t xs ≡ ValueCheck.Bad i
+      go (bad y) = y
+
+-- ---- the periods of an event's lines, which has none, and of a block's
+
+no-periods-by : (v : PropertyValue) (x : ContentLine) → givesPeriods v ≡ false → periodsBy v x ≡ []
+unfolding givesPeriods periodsBy
+no-periods-by PropertyValue.Nothing x h = refl
+no-periods-by PropertyValue.Unsupported x h = refl
+no-periods-by PropertyValue.Bad x h = refl
+no-periods-by (PropertyValue.Start t) x h = refl
+no-periods-by (PropertyValue.End t) x h = refl
+no-periods-by (PropertyValue.Lasts d) x h = refl
+no-periods-by (PropertyValue.Repeats r) x h = refl
+no-periods-by (PropertyValue.HasStatus s) x h = refl
+no-periods-by (PropertyValue.Transparent t) x h = refl
+no-periods-by (PropertyValue.HasPeriods b) x h = absurd (true≢false h)
+
+pub periods-event : (c : Context) (xs : List Numbered) → periodsIn c Scope.Event xs ≡ []
+unfolding periodsIn
+periods-event c [] = refl
+periods-event c (x ∷ xs) =
+    ap (λ (ps : List BusyPeriod). ps ++ periodsIn c Scope.Event xs) (no-periods-by (propertyValueOf c Scope.Event (x .line)) (x .line) (event-periods c (x .line)))
+    ∙ periods-event c xs
+
+pub periods-block : (c : Context) (xs : List Numbered) → periodsIn c Scope.FreeBusy xs ≡ blockPeriods c xs
+unfolding periodsIn blockPeriods
+periods-block c [] = refl
+periods-block c (x ∷ xs) = ap (λ (ps : List BusyPeriod). periodsBy (propertyValueOf c Scope.FreeBusy (x .line)) (x .line) ++ ps) (periods-block c xs)

@@ -1,26 +1,24 @@
 -- Storing busy pieces: what is left to store makes the whole, so that a loop may stop when nothing, or no room, is left.
-use Prim.Native.Nat.{ℕ, _+_, _≤_}
-use mathlib.Core.Path.{_≡_, refl, sym, ap, _∙_}
-use mathlib.Core.Bool.{Bool, true, false}
-use mathlib.Core.List.{List, [], _++_}
-use Rattle.ascii.proofs.Bools.{clash}
-use Rattle.line.specs.Grammar.{ContentLine}
-use Rattle.line.specs.Reading.{lineOf, valueOf}
-use Rattle.values.specs.Period.{goodPeriods, periodItems}
+use Prim.Native.Nat.{ℕ, _+_, _≤_, _<_}
+use mathlib.Core.Path.{_≡_, refl, sym, ap, subst, _∙_}
+use mathlib.Core.Bool.{true, false}
+use mathlib.Core.List.{List, [], _∷_, _++_, map}
+use lib.ListN.{length, drop}
+use Rattle.line.specs.Splitting.{nextPlace, plainSplit}
+use Rattle.line.proofs.Splitting.{itemAt, item-more, item-last}
+use Rattle.values.specs.Period.{periodOf, periodItems, isPeriod, allPeriods, goodPeriods}
+use Rattle.values.specs.declared.period.PeriodRead.{PeriodRead}
+use Rattle.values.proofs.PeriodLaws.{Passed, passed-start, passed-bad, passed-next, passed-end}
 use Rattle.periods.specs.declared.Period.{Period}
 use Rattle.periods.specs.declared.BusyType.{BusyType}
 use Rattle.periods.specs.BusyTypes.{BusyPeriod, typed}
-use Rattle.property.specs.declared.PropertyValue.{PropertyValue}
-use Rattle.calendar.specs.Meaning.{periodsBy}
-use Rattle.calendar.specs.Periods.{periodsFrom, NextPeriod, NoPeriod}
-use Rattle.calendar.proofs.Periods.{periods-all}
+use Rattle.calendar.specs.Periods.{periodsFrom}
 use Rattle.pieces.specs.BusyPeriods.{busyPeriod}
 use Rattle.pieces.specs.Columns.{Stored, Room}
 use Rattle.pieces.specs.Pieces.{pieceOf, piecesOf}
 use Rattle.pieces.proofs.Columns.{stored-none, stored-full, stored-as, stored-then, stored-few, stored-long}
-use Rattle.pieces.proofs.Pieces.{piecesOf-none}
-use Rattle.contents.specs.Lines.{valuePeriods, typeGiven}
-use Rattle.contents.specs.declared.blocks.PeriodType.{PeriodType}
+use Rattle.contents.specs.Lines.{valuePeriods, ValueIs, value-good, value-bad}
+use Rattle.contents.specs.declared.lines.ValueStored.{ValueStored}
 
 -- n pieces stand in o: storing those of `left` behind them makes those of `whole` behind n₀ in o₀
 pub record Left (o₀ : List ℕ) (n₀ : ℕ) (whole : List BusyPeriod) (o : List ℕ) (n : ℕ) (left : List BusyPeriod) : Type 0 where
@@ -57,74 +55,61 @@ module _ {o₀ : List ℕ} {n₀ : ℕ} {whole : List BusyPeriod} {o : List ℕ}
 pub pieces-from : BusyType → ℕ → ℕ → List ℕ → ℕ → List BusyPeriod
 pieces-from y a b v at = piecesOf a b (typed y (periodsFrom v at))
 
-module _ (y : BusyType) (a b : ℕ) (v : List ℕ) where
-  value-pieces : pieces-from y a b v 0 ≡ piecesOf a b (valuePeriods y v)
+-- the item from a place up to the next comma is a period: it is the first, and the others stand behind the comma
+module _ (v : List ℕ) {at e : ℕ} {x : PeriodRead} {p : Period} (q : e ≡ nextPlace false 44 v at) (w : x ≡ periodOf (itemAt v at e)) (k : x ≡ PeriodRead.Of p) (r : Passed v at) where
+  period-more : e < length v → periodsFrom v at ≡ p ∷ periodsFrom v (e + 1)
+  unfolding periodsFrom periodItems goodPeriods
+  period-more h =
+      ap (λ (l : List (List ℕ)). goodPeriods (map periodOf l)) (item-more 44 v at e (r .inside-list) q h)
+      ∙ ap (λ (y : PeriodRead). goodPeriods (y ∷ map periodOf (plainSplit 44 (drop (e + 1) v)))) (sym w ∙ k)
+
+  period-last : length v ≤ e → periodsFrom v at ≡ p ∷ []
+  unfolding periodsFrom periodItems goodPeriods
+  period-last h =
+      ap (λ (l : List (List ℕ)). goodPeriods (map periodOf l)) (item-last 44 v at e (r .inside-list) q h)
+      ∙ ap (λ (y : PeriodRead). goodPeriods (y ∷ [])) (sym w ∙ k)
+
+-- every item before a place is a period, and the pieces of those from there on are left to store
+pub record ReadingValue (y : BusyType) (v : List ℕ) (a b : ℕ) (o₀ : List ℕ) (n₀ : ℕ) (o : List ℕ) (n from : ℕ) : Type 0 where
+  pub passed : Passed v from
+  pub still : Left o₀ n₀ (piecesOf a b (valuePeriods y v)) o n (pieces-from y a b v from)
+
+module _ (y : BusyType) (v : List ℕ) (a b : ℕ) where
+  pub value-start : (o : List ℕ) (n : ℕ) → n ≤ 513 → Room o → ReadingValue y v a b o n o n 0
   unfolding pieces-from valuePeriods
-  value-pieces = refl
+  value-start o n h l = record { passed = passed-start v; still = left-start o n (piecesOf a b (valuePeriods y v)) h l }
 
-  pub value-start : (o : List ℕ) (n : ℕ) → n ≤ 513 → Room o → Left o n (piecesOf a b (valuePeriods y v)) o n (pieces-from y a b v 0)
-  value-start o n h l = left-same (left-start o n (piecesOf a b (valuePeriods y v)) h l) (sym value-pieces)
+module _ {y : BusyType} {v : List ℕ} {a b : ℕ} {o₀ : List ℕ} {n₀ : ℕ} {o : List ℕ} {n from : ℕ} (z : ReadingValue y v a b o₀ n₀ o n from)
+    {e : ℕ} {x : PeriodRead} (q : e ≡ nextPlace false 44 v from) (w : x ≡ periodOf (itemAt v from e)) where
+  pub value-stops : x ≡ PeriodRead.Bad → (o′ : List ℕ) → ValueIs y v a b o₀ n₀ o′ ValueStored.Bad
+  value-stops k o′ = value-bad (sym (passed-bad e q (ap isPeriod (sym w ∙ k)) (z .passed)))
 
-  module _ {o₀ : List ℕ} {n₀ : ℕ} {whole : List BusyPeriod} {o : List ℕ} {n : ℕ} (at : ℕ) (l : Left o₀ n₀ whole o n (pieces-from y a b v at)) where
-    pub value-next : {p : Period} {next r : ℕ} {o′ : List ℕ} → NextPeriod v at p next
-        → Stored o n (pieceOf a b (busyPeriod y (p .start) (p .end))) o′ r → Left o₀ n₀ whole o′ r (pieces-from y a b v next)
+  module _ {p : Period} (k : x ≡ PeriodRead.Of p) {o′ : List ℕ} {r : ℕ} (m : Stored o n (pieceOf a b (busyPeriod y (p .start) (p .end))) o′ r) where
+    pub value-next : e < length v → ReadingValue y v a b o₀ n₀ o′ r (e + 1)
     unfolding pieces-from piecesOf
-    value-next h m = left-then l (ap (λ (l : List Period). piecesOf a b (typed y l)) (h .periods)) m
+    value-next h =
+        record {
+          passed = passed-next e q (ap isPeriod (sym w ∙ k)) h (z .passed);
+          still = left-then (z .still) (ap (λ (l : List Period). piecesOf a b (typed y l)) (period-more v q w k (z .passed) h)) m;
+        }
 
-    pub value-end : NoPeriod v at → Stored o₀ n₀ whole o n
+    pub value-ends : length v ≤ e → ValueIs y v a b o₀ n₀ o′ (ValueStored.Of r)
     unfolding pieces-from piecesOf
-    value-end h = left-none l (ap (λ (l : List Period). piecesOf a b (typed y l)) (h .periods))
+    value-ends h =
+        value-good
+        (sym (passed-end e q (ap isPeriod (sym w ∙ k)) h (z .passed)))
+        (left-none (left-then (z .still) (ap (λ (l : List Period). piecesOf a b (typed y l)) (period-last v q w k (z .passed) h)) m) refl)
 
--- ---- a line
+-- what a caller learns
+module _ {y : BusyType} {v : List ℕ} {a b : ℕ} {o : List ℕ} {n : ℕ} {o′ : List ℕ} {r : ValueStored} (h : ValueIs y v a b o n o′ r) where
+  pub value-stored : (m : ℕ) → r ≡ ValueStored.Of m → (allPeriods (periodItems v) ≡ true) × Stored o n (piecesOf a b (valuePeriods y v)) o′ m
+  value-stored m e = go (subst (ValueIs y v a b o n o′) e h)
+    where
+      go : ValueIs y v a b o n o′ (ValueStored.Of m) → (allPeriods (periodItems v) ≡ true) × Stored o n (piecesOf a b (valuePeriods y v)) o′ m
+      go (value-good f g) = (f, g)
 
--- the type of periods that are given
-typeOr : BusyType → PeriodType → BusyType
-typeOr y (PeriodType.Of b) = b
-typeOr y PeriodType.None = y
-
-gives : PeriodType → Bool
-gives (PeriodType.Of b) = true
-gives PeriodType.None = false
-
-none-of : {A : Type 0} (y : BusyType) → PeriodType.None ≡ PeriodType.Of y → A
-unfolding gives
-none-of y h = clash refl (sym (ap gives h))
-
-gives-periods : (o : PropertyValue) (x : ContentLine) (y : BusyType) → typeGiven o ≡ PeriodType.Of y → periodsBy o x ≡ typed y (goodPeriods (periodItems (x .value)))
-unfolding typeGiven periodsBy typeOr
-gives-periods PropertyValue.Nothing x y h = none-of y h
-gives-periods PropertyValue.Unsupported x y h = none-of y h
-gives-periods PropertyValue.Bad x y h = none-of y h
-gives-periods (PropertyValue.Start t) x y h = none-of y h
-gives-periods (PropertyValue.End t) x y h = none-of y h
-gives-periods (PropertyValue.Lasts d) x y h = none-of y h
-gives-periods (PropertyValue.Repeats r) x y h = none-of y h
-gives-periods (PropertyValue.HasStatus s) x y h = none-of y h
-gives-periods (PropertyValue.Transparent t) x y h = none-of y h
-gives-periods (PropertyValue.HasPeriods b) x y h = ap (λ (t : PeriodType). typed (typeOr y t) (goodPeriods (periodItems (x .value)))) h
-
-gives-none : (o : PropertyValue) (x : ContentLine) → typeGiven o ≡ PeriodType.None → periodsBy o x ≡ []
-unfolding typeGiven periodsBy
-gives-none PropertyValue.Nothing x h = refl
-gives-none PropertyValue.Unsupported x h = refl
-gives-none PropertyValue.Bad x h = refl
-gives-none (PropertyValue.Start t) x h = refl
-gives-none (PropertyValue.End t) x h = refl
-gives-none (PropertyValue.Lasts d) x h = refl
-gives-none (PropertyValue.Repeats r) x h = refl
-gives-none (PropertyValue.HasStatus s) x h = refl
-gives-none (PropertyValue.Transparent t) x h = refl
-gives-none (PropertyValue.HasPeriods b) x h = none-of b (sym h)
-
-module _ (a b : ℕ) (x : List ℕ) {o : List ℕ} {n : ℕ} (y : PropertyValue) {t : PeriodType} (q : t ≡ typeGiven y) where
-  pub line-stored : (z : BusyType) {v o′ : List ℕ} {r : ℕ} → t ≡ PeriodType.Of z → v ≡ valueOf x → Stored o n (piecesOf a b (valuePeriods z v)) o′ r
-      → Stored o n (piecesOf a b (periodsBy y (lineOf x))) o′ r
-  unfolding lineOf valuePeriods
-  line-stored z {v} h w m =
-      stored-as m
-      (ap (λ (l : List ℕ). piecesOf a b (typed z (periodsFrom l 0))) w
-      ∙ ap (λ (l : List Period). piecesOf a b (typed z l)) (periods-all (valueOf x))
-      ∙ sym (ap (piecesOf a b) (gives-periods y (lineOf x) z (sym q ∙ h))))
-
-  pub line-left : t ≡ PeriodType.None → Stored o n (piecesOf a b (periodsBy y (lineOf x))) o n
-  line-left h = stored-as (stored-none o n) (sym (ap (piecesOf a b) (gives-none y (lineOf x) (sym q ∙ h)) ∙ piecesOf-none a b))
+  pub value-unread : r ≡ ValueStored.Bad → allPeriods (periodItems v) ≡ false
+  value-unread e = go (subst (ValueIs y v a b o n o′) e h)
+    where
+      go : ValueIs y v a b o n o′ ValueStored.Bad → allPeriods (periodItems v) ≡ false
+      go (value-bad f) = f

@@ -1,9 +1,7 @@
 // The components right below VCALENDAR, each read once: refusals 8 to 10, the event or block as a row of numbers, and all of its busy pieces.
 // Lines and components are found by index and rows.
-pub mod blocks;
 pub mod lines;
 
-use blocks::BlockLinesRead;
 use calendar::Fault;
 use calendar::RuleCheck;
 use calendar::ValueCheck;
@@ -13,6 +11,7 @@ use events::EventRead;
 use events::rules;
 use lines::LinesRead;
 use pieces::storing;
+use property::Scope;
 use structure::rows;
 use values::times::Context;
 ghost use mathlib.Core.Path.{_≡_};
@@ -21,7 +20,6 @@ ghost use Prim.Native.Nat.{_≤_, _<_};
 ghost use lib.ListN.{length};
 ghost use Rattle.time.specs.Limits.{lastSecond};
 ghost use Rattle.values.specs.Times.{ContextGood};
-ghost use Rattle.property.specs.declared.Scope.{Scope};
 ghost use Rattle.index.specs.Index.{Indexed};
 ghost use Rattle.structure.specs.Rows.{RowOf, componentBy, FileRows};
 ghost use Rattle.calendar.specs.Meaning.{componentScope, byRules, byValues, faultOf};
@@ -71,11 +69,11 @@ fn read_event(
     requires { ⌜ (a < b) × (b ≤ lastSecond) ⌝ }
     ensures { λ r. ⌜ EntryIs c (componentBy (now (s .entry)) (now (rows .entry)) k) k a b (now (column .entry)) n (now (column .exit)) (now (entries .entry)) (now (entries .exit)) r ⌝ }
 {
-    match lines::read_event_lines(s, index, rows, k, c) {
-        LinesRead::Of(g) => match rules::event_by(g) {
+    match lines::read_lines(column, n, s, index, rows, k, Scope::Event, c, a, b) {
+        LinesRead::Of(g, m) => match rules::event_by(g) {
             EventRead::Of(e) => {
                 events::rows::put_event(entries, k, e);
-                EntryRead::Of(storing::store_event(column, n, e, a, b))
+                EntryRead::Of(storing::store_event(column, m, e, a, b))
             }
             EventRead::Broken => EntryRead::Broken,
         },
@@ -107,16 +105,16 @@ fn read_block(
     requires { ⌜ (a < b) × (b ≤ lastSecond) ⌝ }
     ensures { λ r. ⌜ EntryIs c (componentBy (now (s .entry)) (now (rows .entry)) k) k a b (now (column .entry)) n (now (column .exit)) (now (entries .entry)) (now (entries .exit)) r ⌝ }
 {
-    match blocks::read_block_lines(column, n, s, index, rows, k, c, a, b) {
-        BlockLinesRead::Of(g, m) => match rules::block_by(g) {
+    match lines::read_lines(column, n, s, index, rows, k, Scope::FreeBusy, c, a, b) {
+        LinesRead::Of(g, m) => match rules::block_by(g) {
             BlockRead::Of(x) => {
                 events::rows::put_block(entries, k, x);
                 EntryRead::Of(m)
             }
             BlockRead::Broken => EntryRead::Broken,
         },
-        BlockLinesRead::Unsupported(i) => EntryRead::Unsupported(i),
-        BlockLinesRead::Bad(i) => EntryRead::Bad(i),
+        LinesRead::Unsupported(i) => EntryRead::Unsupported(i),
+        LinesRead::Bad(i) => EntryRead::Bad(i),
     }
 }
 

@@ -1,68 +1,103 @@
-// The lines directly in an event: the first fault of a value, or what they say together.
+// The lines directly in an event or a block: the first fault of a value, or what they say together and the busy pieces of their periods.
 // A fault ends the reading, since it goes before any rule.
 use events::ComponentProperties;
 use events::properties;
+use line::read;
+use line::split;
+use periods::BusyType;
+use pieces::storing;
 use property::PropertyValue;
 use property::Scope;
 use structure::items;
 use structure::items::Item;
 use structure::rows;
+use values::period;
+use values::period::PeriodRead;
 use values::times::Context;
 ghost use mathlib.Core.Path.{_≡_};
+ghost use Prim.Native.Nat.{_≤_};
+ghost use Rattle.time.specs.Limits.{lastSecond};
 ghost use Rattle.values.specs.Times.{ContextGood};
-ghost use Rattle.property.specs.declared.Scope.{Scope};
 ghost use Rattle.nesting.specs.Components.{propertiesIn};
 ghost use Rattle.index.specs.Index.{Indexed};
 ghost use Rattle.structure.specs.Rows.{RowOf, componentBy};
-ghost use Rattle.contents.specs.Lines.{lineKind, LinesAre};
+ghost use Rattle.pieces.specs.Columns.{Room};
+ghost use Rattle.contents.specs.Lines.{ValueIs, LinesAre};
 
-// What a line is to its component.
-pub enum LineKind {
-    // No rule reads it.
-    Unread,
-    // Refusal 8.
-    Unsupported,
-    // Refusal 9.
+// What storing the periods of a value answers.
+pub enum ValueStored {
+    // So many pieces stand.
+    Of(usize),
+    // One of the items is no period.
     Bad,
-    Read,
 }
 
 // What reading the lines of a component answers.
 pub enum LinesRead {
-    // What they say together.
-    Of(ComponentProperties),
+    // What they say together, and how many pieces stand.
+    Of(ComponentProperties, usize),
     // Refusal 8, at the line of this number.
     Unsupported(usize),
     // Refusal 9.
     Bad(usize),
 }
 
-pub fn kind_of(value: PropertyValue) -> LineKind
-    ensures { λ r. ⌜ r ≡ lineKind value ⌝ }
+// Every period of a FREEBUSY value, read and stored in one pass.
+fn store_value(
+    column: &mut [u32],
+    first: usize,
+    busy: BusyType,
+    v: &[u8],
+    a: u64,
+    b: u64,
+) -> ValueStored
+    requires { ⌜ Room (now column) ⌝ }
+    requires { ⌜ first ≤ 513 ⌝ }
+    requires { ⌜ b ≤ lastSecond ⌝ }
+    ensures { λ r. ⌜ ValueIs busy (now (v .entry)) a b (now (column .entry)) first (now (column .exit)) r ⌝ }
 {
-    match value {
-        PropertyValue::Nothing => LineKind::Unread,
-        PropertyValue::Unsupported => LineKind::Unsupported,
-        PropertyValue::Bad => LineKind::Bad,
-        PropertyValue::Start(_) => LineKind::Read,
-        PropertyValue::End(_) => LineKind::Read,
-        PropertyValue::Lasts(_) => LineKind::Read,
-        PropertyValue::Repeats(_) => LineKind::Read,
-        PropertyValue::HasStatus(_) => LineKind::Read,
-        PropertyValue::Transparent(_) => LineKind::Read,
-        PropertyValue::HasPeriods(_) => LineKind::Read,
+    let mut n = first;
+    let mut from: usize = 0;
+    loop {
+        let e = split::find(v, from, 44, false);
+        match period::read_period(&v[from..e]) {
+            PeriodRead::Of(p) => {
+                n = storing::store_period(column, n, busy, p.start, p.end, a, b);
+                if v.len() <= e {
+                    return ValueStored::Of(n);
+                }
+                from = e + 1;
+            }
+            PeriodRead::Bad => return ValueStored::Bad,
+        }
     }
 }
 
-// The lines directly in the event of row k.
-pub fn read_event_lines(s: &[u8], index: &[u32], rows: &[u32], k: usize, c: Context) -> LinesRead
+// The lines directly in the component of row k, which is an event or a block. Each arm reads one kind of line,
+// since a value that is handed on whole costs more than reading it.
+pub fn read_lines(
+    column: &mut [u32],
+    first: usize,
+    s: &[u8],
+    index: &[u32],
+    rows: &[u32],
+    k: usize,
+    scope: Scope,
+    c: Context,
+    a: u64,
+    b: u64,
+) -> LinesRead
+    requires { ⌜ Room (now column) ⌝ }
+    requires { ⌜ first ≤ 513 ⌝ }
     requires { ⌜ ContextGood c ⌝ }
     requires { ⌜ Indexed (now s) (now index) ⌝ }
     requires { ⌜ RowOf (now s) (now rows) k ⌝ }
-    ensures { λ r. ⌜ LinesAre c Scope.Event (propertiesIn (componentBy (now (s .entry)) (now (rows .entry)) k .items)) r ⌝ }
+    requires { ⌜ b ≤ lastSecond ⌝ }
+    ensures { λ r. ⌜ LinesAre c scope (propertiesIn (componentBy (now (s .entry)) (now (rows .entry)) k .items)) a b (now (column .entry)) first (now (column .exit)) r ⌝ }
 {
     let stop = rows::line_behind(rows, k) - 1;
     let last = rows::next_row(rows, k);
+    let mut n = first;
     let mut g = properties::no_properties();
     let mut i = rows::first_line(rows, k);
     let mut row = k + 1;
@@ -70,21 +105,46 @@ pub fn read_event_lines(s: &[u8], index: &[u32], rows: &[u32], k: usize, c: Cont
         match items::item_at(rows, i, row, stop, last) {
             Item::Property => {
                 let next = i + 1;
-                let value = property::property_value_of(
-                    c,
-                    Scope::Event,
-                    index::line_at(s, index, i),
-                    index::name_length(index, i),
-                );
-                match kind_of(value) {
-                    LineKind::Unread => {
+                let line = index::line_at(s, index, i);
+                let length = index::name_length(index, i);
+                match property::property_value(c, scope, line, length) {
+                    PropertyValue::Nothing => {
                         i = next;
                     }
-                    LineKind::Unsupported => return LinesRead::Unsupported(next),
-                    LineKind::Bad => return LinesRead::Bad(next),
-                    LineKind::Read => {
-                        g = properties::with_property(g, value);
+                    PropertyValue::Unsupported => return LinesRead::Unsupported(next),
+                    PropertyValue::Bad => return LinesRead::Bad(next),
+                    PropertyValue::Start(t) => {
+                        g = properties::with_start(g, t);
                         i = next;
+                    }
+                    PropertyValue::End(t) => {
+                        g = properties::with_end(g, t);
+                        i = next;
+                    }
+                    PropertyValue::Lasts(d) => {
+                        g = properties::with_lasts(g, d);
+                        i = next;
+                    }
+                    PropertyValue::Repeats(r) => {
+                        g = properties::with_repeats(g, r);
+                        i = next;
+                    }
+                    PropertyValue::HasStatus(x) => {
+                        g = properties::with_status(g, x);
+                        i = next;
+                    }
+                    PropertyValue::Transparent(x) => {
+                        g = properties::with_transparency(g, x);
+                        i = next;
+                    }
+                    PropertyValue::HasPeriods(busy) => {
+                        match store_value(column, n, busy, read::value(line), a, b) {
+                            ValueStored::Of(m) => {
+                                n = m;
+                                i = next;
+                            }
+                            ValueStored::Bad => return LinesRead::Bad(next),
+                        }
                     }
                 }
             }
@@ -92,7 +152,7 @@ pub fn read_event_lines(s: &[u8], index: &[u32], rows: &[u32], k: usize, c: Cont
                 i = next;
                 row = after;
             }
-            Item::Done => return LinesRead::Of(g),
+            Item::Done => return LinesRead::Of(g, n),
         }
     }
 }

@@ -6,7 +6,6 @@ use crate::RuleGiven;
 use crate::StatusGiven;
 use crate::TimeGiven;
 use crate::TransparencyGiven;
-use property::PropertyValue;
 use property::Status;
 use time::duration::Duration;
 use values::rule::Rule;
@@ -74,7 +73,7 @@ fn transparency_given(g: TransparencyGiven) -> bool
     }
 }
 
-fn with_start(g: ComponentProperties, t: Time) -> ComponentProperties
+pub fn with_start(g: ComponentProperties, t: Time) -> ComponentProperties
     ensures { λ r. ⌜ r ≡ withProperty g (PropertyValue.Start t) ⌝ }
 {
     let repeated = g.repeated;
@@ -95,7 +94,7 @@ fn with_start(g: ComponentProperties, t: Time) -> ComponentProperties
     }
 }
 
-fn with_end(g: ComponentProperties, t: Time) -> ComponentProperties
+pub fn with_end(g: ComponentProperties, t: Time) -> ComponentProperties
     ensures { λ r. ⌜ r ≡ withProperty g (PropertyValue.End t) ⌝ }
 {
     let repeated = g.repeated;
@@ -116,7 +115,7 @@ fn with_end(g: ComponentProperties, t: Time) -> ComponentProperties
     }
 }
 
-fn with_lasts(g: ComponentProperties, d: Duration) -> ComponentProperties
+pub fn with_lasts(g: ComponentProperties, d: Duration) -> ComponentProperties
     ensures { λ r. ⌜ r ≡ withProperty g (PropertyValue.Lasts d) ⌝ }
 {
     let repeated = g.repeated;
@@ -137,7 +136,7 @@ fn with_lasts(g: ComponentProperties, d: Duration) -> ComponentProperties
     }
 }
 
-fn with_repeats(g: ComponentProperties, x: Rule) -> ComponentProperties
+pub fn with_repeats(g: ComponentProperties, x: Rule) -> ComponentProperties
     ensures { λ r. ⌜ r ≡ withProperty g (PropertyValue.Repeats x) ⌝ }
 {
     let repeated = g.repeated;
@@ -158,7 +157,7 @@ fn with_repeats(g: ComponentProperties, x: Rule) -> ComponentProperties
     }
 }
 
-fn with_status(g: ComponentProperties, x: Status) -> ComponentProperties
+pub fn with_status(g: ComponentProperties, x: Status) -> ComponentProperties
     ensures { λ r. ⌜ r ≡ withProperty g (PropertyValue.HasStatus x) ⌝ }
 {
     let repeated = g.repeated;
@@ -179,7 +178,7 @@ fn with_status(g: ComponentProperties, x: Status) -> ComponentProperties
     }
 }
 
-fn with_transparency(g: ComponentProperties, x: bool) -> ComponentProperties
+pub fn with_transparency(g: ComponentProperties, x: bool) -> ComponentProperties
     ensures { λ r. ⌜ r ≡ withProperty g (PropertyValue.Transparent x) ⌝ }
 {
     let repeated = g.repeated;
@@ -197,23 +196,5 @@ fn with_transparency(g: ComponentProperties, x: bool) -> ComponentProperties
         repeats,
         status,
         transparency: TransparencyGiven::Given(x),
-    }
-}
-
-// One line more: a second one of a property that may stand once is repeated.
-pub fn with_property(g: ComponentProperties, s: PropertyValue) -> ComponentProperties
-    ensures { λ r. ⌜ r ≡ withProperty g s ⌝ }
-{
-    match s {
-        PropertyValue::Nothing => g,
-        PropertyValue::Unsupported => g,
-        PropertyValue::Bad => g,
-        PropertyValue::Start(t) => with_start(g, t),
-        PropertyValue::End(t) => with_end(g, t),
-        PropertyValue::Lasts(d) => with_lasts(g, d),
-        PropertyValue::Repeats(x) => with_repeats(g, x),
-        PropertyValue::HasStatus(x) => with_status(g, x),
-        PropertyValue::Transparent(x) => with_transparency(g, x),
-        PropertyValue::HasPeriods(_) => g,
     }
 }

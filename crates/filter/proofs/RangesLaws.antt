@@ -18,7 +18,7 @@ use Rattle.line.specs.Reading.{valueOf, lineOf}
 use Rattle.values.specs.Period.{goodPeriods, periodItems}
 use Rattle.values.specs.declared.times.Context.{Context}
 use Rattle.periods.specs.declared.Period.{Period}
-use Rattle.property.specs.Properties.{propertyValueOf}
+use Rattle.property.specs.Properties.{propertyValueOf, givesPeriods}
 use Rattle.property.specs.declared.Scope.{Scope}
 use Rattle.property.specs.declared.PropertyValue.{PropertyValue}
 use Rattle.delimiters.specs.Innermost.{isEvent, isFreeBusy}
@@ -46,7 +46,7 @@ use Rattle.recurrence.proofs.TimeRange.{decided-once, periods-append}
 use Rattle.recurrence.specs.Instances.{instancesAtMost}
 use Rattle.contents.specs.EntryRows.{EntryRows}
 use Rattle.filter.specs.Tests.{eventIn, blockRangeIn, componentIn, rangeHolds}
-use Rattle.filter.specs.Ranges.{givesPeriods, lineIn, linesIn, Given, Here, RowSmall, EndsOutside, RowOutside, RuledOut, Among}
+use Rattle.filter.specs.Ranges.{lineIn, linesIn, Given, Here, RowSmall, EndsOutside, RowOutside, RuledOut, Among}
 use Rattle.filter.proofs.Tests.{Beside, beside-here}
 
 -- ---- the periods of a value: none before `at` overlaps the range
@@ -103,18 +103,18 @@ ungiven-overlap a b (PropertyValue.Transparent t) x h = refl
 ungiven-overlap a b (PropertyValue.HasPeriods t) x h = clash refl h
 
 module _ (c : Context) (a b : ℕ) where
-  module _ (l : List ℕ) {o : PropertyValue} {t : Bool} (e : o ≡ propertyValueOf c Scope.FreeBusy (lineOf l)) (q : t ≡ givesPeriods o) where
+  module _ (l : List ℕ) {t : Bool} (q : t ≡ givesPeriods (propertyValueOf c Scope.FreeBusy (lineOf l))) where
     pub line-overlaps : {v : List ℕ} {r : Bool} → t ≡ true → v ≡ valueOf l → r ≡ periodsOverlap a b (periodsFrom v 0) → r ≡ lineIn c a b (lineOf l)
     unfolding lineIn lineOf
     line-overlaps z x y =
         y
         ∙ ap (λ (w : List ℕ). periodsOverlap a b (periodsFrom w 0)) x
         ∙ ap (periodsOverlap a b) (periods-all (valueOf l))
-        ∙ given-overlap a b (propertyValueOf c Scope.FreeBusy (lineOf l)) (lineOf l) (sym (q ∙ ap givesPeriods e) ∙ z)
+        ∙ given-overlap a b (propertyValueOf c Scope.FreeBusy (lineOf l)) (lineOf l) (sym q ∙ z)
 
     pub line-gives-none : t ≡ false → false ≡ lineIn c a b (lineOf l)
     unfolding lineIn
-    line-gives-none z = ungiven-overlap a b (propertyValueOf c Scope.FreeBusy (lineOf l)) (lineOf l) (sym (q ∙ ap givesPeriods e) ∙ z)
+    line-gives-none z = ungiven-overlap a b (propertyValueOf c Scope.FreeBusy (lineOf l)) (lineOf l) (sym q ∙ z)
 
   pub period-lines : SomeOf (linesIn c a b) (lineIn c a b)
   unfolding linesIn lineIn blockPeriods periodsOverlap

@@ -12,7 +12,6 @@ use Rattle.query.specs.declared.Sections.{Sections}
 use Rattle.values.specs.declared.times.Context.{Context}
 use Rattle.property.specs.Properties.{propertyValueOf}
 use Rattle.property.specs.declared.Scope.{Scope}
-use Rattle.property.specs.declared.PropertyValue.{PropertyValue}
 use Rattle.nesting.specs.Components.{Numbered}
 use Rattle.index.specs.Index.{Indexed}
 use Rattle.structure.specs.Rows.{ComponentsAt, RowOf}
@@ -48,19 +47,6 @@ pub record RowSmall (rows column : List ℕ) (k : ℕ) : Type 0 where
   pub event-small : getD rows (4 * k + 3) 0 ≡ 1 → EventSmall (eventAt column k)
 
 -- ---- the lines of a block
-
--- a line that gives periods
-unfoldable pub givesPeriods : PropertyValue → Bool
-givesPeriods PropertyValue.Nothing = false
-givesPeriods PropertyValue.Unsupported = false
-givesPeriods PropertyValue.Bad = false
-givesPeriods (PropertyValue.Start t) = false
-givesPeriods (PropertyValue.End t) = false
-givesPeriods (PropertyValue.Lasts d) = false
-givesPeriods (PropertyValue.Repeats r) = false
-givesPeriods (PropertyValue.HasStatus s) = false
-givesPeriods (PropertyValue.Transparent t) = false
-givesPeriods (PropertyValue.HasPeriods b) = true
 
 -- some period of a line overlaps the range
 unfoldable pub lineIn : Context → ℕ → ℕ → ContentLine → Bool

@@ -5,8 +5,6 @@ use calendar::period_list::PeriodStep;
 use events::Block;
 use events::Bound;
 use line::read;
-use property::PropertyValue;
-use property::Scope;
 use recurrence::time_range;
 use structure::items;
 use structure::items::Item;
@@ -23,7 +21,7 @@ ghost use Rattle.structure.specs.Rows.{RowOf, componentBy};
 ghost use Rattle.calendar.specs.Meaning.{blockPeriods};
 ghost use Rattle.calendar.specs.Periods.{periodsFrom};
 ghost use Rattle.recurrence.specs.TimeRange.{periodsOverlap, blockIn};
-ghost use Rattle.filter.specs.Ranges.{givesPeriods, lineIn, linesIn, EndsOutside};
+ghost use Rattle.filter.specs.Ranges.{lineIn, linesIn, EndsOutside};
 
 // Does some period of a value overlap the range?
 fn value_in(v: &[u8], a: u64, b: u64) -> bool
@@ -43,31 +41,12 @@ fn value_in(v: &[u8], a: u64, b: u64) -> bool
     }
 }
 
-// Does a line give periods?
-fn gives_periods(value: PropertyValue) -> bool
-    ensures { λ r. ⌜ r ≡ givesPeriods value ⌝ }
-{
-    match value {
-        PropertyValue::Nothing => false,
-        PropertyValue::Unsupported => false,
-        PropertyValue::Bad => false,
-        PropertyValue::Start(_) => false,
-        PropertyValue::End(_) => false,
-        PropertyValue::Lasts(_) => false,
-        PropertyValue::Repeats(_) => false,
-        PropertyValue::HasStatus(_) => false,
-        PropertyValue::Transparent(_) => false,
-        PropertyValue::HasPeriods(_) => true,
-    }
-}
-
 // Does some period of a line, whose name is n bytes long, overlap the range?
 fn line_in(line: &[u8], n: usize, c: Context, a: u64, b: u64) -> bool
-    requires { ⌜ ContextGood c ⌝ }
     requires { ⌜ n ≡ length (nameOf (now line)) ⌝ }
     ensures { λ r. ⌜ r ≡ lineIn c a b (lineOf (now (line .entry))) ⌝ }
 {
-    if gives_periods(property::property_value_of(c, Scope::FreeBusy, line, n)) {
+    if property::gives_periods(line, n) {
         value_in(read::value(line), a, b)
     } else {
         false

@@ -1,18 +1,20 @@
--- What a line says: which property a name is by its first byte, the value that is read,
+-- What a line says: which property a name is by its length, the value that is read,
 -- what stands on a line without parameters, and how large what a line says can be.
 use Prim.Native.Nat.{ℕ, _≤_, _+_, _-_}
 use mathlib.Core.Path.{_≡_, refl, sym, ap, _∙_, subst}
 use mathlib.Core.Bool.{Bool, true, false, cond, _||_, true≢false}
 use mathlib.Core.List.{List, [], _∷_}
-use mathlib.Core.Logic.{⊎-elim}
+use mathlib.Core.Logic.{_⊎_, ⊎-elim}
+use types.Run.{OneOf}
+use denote.Enum.Declared.{tagOf}
 use native.Mathlib.Omega.{arith}
 use lib.Dec.{eqb}
-use lib.ListN.{length, getD, take, drop}
+use lib.ListN.{length, take, drop, length-map}
 use borrow.Author.Tests.{eqb-false, ne-eqb}
 use Rattle.ascii.specs.Bytes.{upper}
 use Rattle.ascii.specs.Names.{sameName}
 use Rattle.ascii.specs.Words.{ascii}
-use Rattle.ascii.proofs.Names.{sameName-first}
+use Rattle.ascii.proofs.Names.{sameName-iff, sameName-length}
 use Rattle.time.specs.Duration.{readDuration}
 use Rattle.time.specs.Limits.{lastSecond}
 use Rattle.time.specs.declared.duration.Duration.{Duration}
@@ -20,7 +22,6 @@ use Rattle.time.specs.declared.duration.DurationRead.{DurationRead}
 use Rattle.periods.specs.declared.BusyType.{BusyType}
 use Rattle.line.specs.Reading.{nameOf, lineOf, valueOf, hasParameter, hasTwice, hasList, parametersNamed, someList, pooled, valuesNamed, firstValue, Plain}
 use Rattle.line.specs.Grammar.{ContentLine}
-use Rattle.line.proofs.Reading.{name-first}
 use Rattle.line.proofs.Splitting.{suffix}
 use Rattle.values.specs.declared.times.Context.{Context}
 use Rattle.values.specs.Times.{formOf, timeOf, readTime}
@@ -37,19 +38,10 @@ use Rattle.values.proofs.PeriodLaws.{readDuration-small}
 use Rattle.property.specs.declared.Scope.{Scope}
 use Rattle.property.specs.declared.Property.{Property}
 use Rattle.property.specs.declared.PropertyValue.{PropertyValue}
-use Rattle.property.specs.Properties.{isUnsupported, timesOr, eventProperty, freeBusyProperty, propertyOf, valueAs, propertyValueOf, timeIn, startBy, endBy, unlessZoned, durationBy, ruleValue, busyOf, periodsValue, PropertyValueSmall, busyNamed}
+use Rattle.property.specs.Properties.{isUnsupported, timesOr, eventProperty, freeBusyProperty, propertyOf, valueAs, beforePeriods, withPeriods, propertyValueOf, isStart, timeIn, startBy, endBy, unlessZoned, durationBy, ruleValue, busyOf, typeValue, givesPeriods, PropertyValueSmall, busyNamed}
+use Rattle.property.proofs.Property.{the-type}
 
--- ---- which property a name is, by its first byte: only the words that begin with that byte can be meant
-
--- without a byte the first one reads as 0
-pub no-first : (l : List ℕ) → length l ≡ 0 → 0 ≡ upper (getD l 0 0)
-unfolding upper
-no-first [] e = refl
-no-first (b ∷ l) e = absurd (omega arith)
-
-neither : (a b : Bool) → (a || b) ≡ false → (a ≡ false) × (b ≡ false)
-neither true b e = absurd (true≢false e)
-neither false b e = (refl, e)
+-- ---- which property a name is, by its length: only the words that are as long can be meant
 
 -- ---- a table of words
 
@@ -66,25 +58,25 @@ abbrev pub picked : List ℕ → List Entry → Property
 picked n [] = Property.Unread
 picked n (e ∷ es) = cond (sameName n (e .word)) (e .means) (picked n es)
 
--- the words whose first byte is f, in upper case
+-- the words of so many bytes
 abbrev keptIf : Bool → Entry → List Entry → List Entry
 keptIf true e es = e ∷ es
 keptIf false e es = es
 
-abbrev pub beginning : ℕ → List Entry → List Entry
-beginning f [] = []
-beginning f (e ∷ es) = keptIf (eqb f (upper (getD (e .word) 0 0))) e (beginning f es)
+abbrev pub ofLength : ℕ → List Entry → List Entry
+ofLength n [] = []
+ofLength n (e ∷ es) = keptIf (eqb n (length (e .word))) e (ofLength n es)
 
--- the words with another first byte than the name's need no test
-beginning-picked : (n : List ℕ) (es : List Entry) → picked n es ≡ picked n (beginning (upper (getD n 0 0)) es)
-beginning-picked n [] = refl
-beginning-picked n (e ∷ es) = go (eqb (upper (getD n 0 0)) (upper (getD (e .word) 0 0))) refl (beginning-picked n es)
+-- the words of another length than the name's need no test
+length-picked : (m : List ℕ) (es : List Entry) → picked m es ≡ picked m (ofLength (length m) es)
+length-picked m [] = refl
+length-picked m (e ∷ es) = go (eqb (length m) (length (e .word))) refl (length-picked m es)
   where
-    go : (t : Bool) → eqb (upper (getD n 0 0)) (upper (getD (e .word) 0 0)) ≡ t → picked n es ≡ picked n (beginning (upper (getD n 0 0)) es)
-        → picked n (e ∷ es) ≡ picked n (keptIf t e (beginning (upper (getD n 0 0)) es))
-    go true q h = ap (λ (p : Property). cond (sameName n (e .word)) (e .means) p) h
+    go : (t : Bool) → eqb (length m) (length (e .word)) ≡ t → picked m es ≡ picked m (ofLength (length m) es)
+        → picked m (e ∷ es) ≡ picked m (keptIf t e (ofLength (length m) es))
+    go true q h = ap (λ (p : Property). cond (sameName m (e .word)) (e .means) p) h
     go false q h =
-        ap (λ (t : Bool). cond t (e .means) (picked n es)) (sameName-first n (e .word) (eqb-false _ _ q)) ∙ h
+        ap (λ (t : Bool). cond t (e .means) (picked m es)) (sameName-length m (e .word) (eqb-false _ _ q)) ∙ h
 
 -- ---- the words of each component, as the definition tries them
 
@@ -119,90 +111,39 @@ propertyOf-picked Scope.Event n =
 propertyOf-picked Scope.FreeBusy n = refl
 propertyOf-picked Scope.Other n = refl
 
--- the law: the words that begin with f decide of a name that begins with f
-pub by-first : (s : Scope) (n : List ℕ) (f : ℕ) → upper (getD n 0 0) ≡ f → propertyOf s n ≡ picked n (beginning f (wordsIn s))
-by-first s n f h = propertyOf-picked s n ∙ beginning-picked n (wordsIn s) ∙ ap (λ (g : ℕ). picked n (beginning g (wordsIn s))) h
+-- the law: the words of n bytes decide of a name of n bytes
+pub by-length : (s : Scope) (m : List ℕ) (n : ℕ) → length m ≡ n → propertyOf s m ≡ picked m (ofLength n (wordsIn s))
+by-length s m n h = propertyOf-picked s m ∙ length-picked m (wordsIn s) ∙ ap (λ (k : ℕ). picked m (ofLength k (wordsIn s))) h
 
--- where no word of the component begins with f, no name that does is read
-unread-by : (s : Scope) (f : ℕ) → beginning f (wordsIn s) ≡ [] → (n : List ℕ) → upper (getD n 0 0) ≡ f → propertyOf s n ≡ Property.Unread
-unread-by s f e n h = by-first s n f h ∙ ap (λ (es : List Entry). picked n es) e
+-- no word of a VEVENT is as long as that
+pub event-unread : (m : List ℕ) (n : ℕ) → length m ≡ n → (n ≡ 5 → ⊥) → (n ≡ 6 → ⊥) → (n ≡ 7 → ⊥) → (n ≡ 8 → ⊥) → (n ≡ 13 → ⊥)
+    → Property.Unread ≡ propertyOf Scope.Event m
+event-unread m n h a b c d e =
+    sym
+    (by-length Scope.Event m n h
+    ∙ ap (picked m) (let z : ofLength n (wordsIn Scope.Event) ≡ [] = rw (ne-eqb n 5 a, ne-eqb n 6 b, ne-eqb n 7 c, ne-eqb n 8 d, ne-eqb n 13 e) in z))
 
--- the first bytes of a VEVENT's words are D, E, R, S and T
-none-in-event : (f : ℕ) → eqb f 68 ≡ false → eqb f 69 ≡ false → eqb f 82 ≡ false → eqb f 83 ≡ false → eqb f 84 ≡ false → beginning f (wordsIn Scope.Event) ≡ []
-unfolding upper
-none-in-event f d e r s t = rw (d, e, r, s, t)
+pub free-busy-unread : (m : List ℕ) (n : ℕ) → length m ≡ n → (n ≡ 5 → ⊥) → (n ≡ 7 → ⊥) → (n ≡ 8 → ⊥) → Property.Unread ≡ propertyOf Scope.FreeBusy m
+free-busy-unread m n h a b c =
+    sym
+    (by-length Scope.FreeBusy m n h
+    ∙ ap (picked m) (let z : ofLength n (wordsIn Scope.FreeBusy) ≡ [] = rw (ne-eqb n 5 a, ne-eqb n 7 b, ne-eqb n 8 c) in z))
 
--- those of a VFREEBUSY's are D and F
-none-in-free-busy : (f : ℕ) → eqb f 68 ≡ false → eqb f 70 ≡ false → beginning f (wordsIn Scope.FreeBusy) ≡ []
-unfolding upper
-none-in-free-busy f d e = rw (d, e)
+neither : {A : Type 0} (n : ℕ) → 2 ≤ n → (n ≡ 0) ⊎ (n ≡ 1) → A
+neither n h k = ⊎-elim (λ e. absurd (omega (arith, h, e))) (λ e. absurd (omega (arith, h, e))) k
 
--- the same for the two forms in which code tells that a byte is another one: no arm of a match, and a test of all
-pub event-unread : (f : ℕ) (n : List ℕ) → f ≡ upper (getD n 0 0) → (f ≡ 68 → ⊥) → (f ≡ 69 → ⊥) → (f ≡ 82 → ⊥) → (f ≡ 83 → ⊥) → (f ≡ 84 → ⊥)
-    → Property.Unread ≡ propertyOf Scope.Event n
-event-unread f n h d e r s t =
-    sym (unread-by Scope.Event f (none-in-event f (ne-eqb f 68 d) (ne-eqb f 69 e) (ne-eqb f 82 r) (ne-eqb f 83 s) (ne-eqb f 84 t)) n (sym h))
-
-pub free-busy-unread : (f : ℕ) (n : List ℕ) → f ≡ upper (getD n 0 0) → (f ≡ 68 → ⊥) → (f ≡ 70 → ⊥) → Property.Unread ≡ propertyOf Scope.FreeBusy n
-free-busy-unread f n h d e = sym (unread-by Scope.FreeBusy f (none-in-free-busy f (ne-eqb f 68 d) (ne-eqb f 70 e)) n (sym h))
-
-module _ (s : Scope) (f : ℕ) where
-  pub event-none : s ≡ Scope.Event → (eqb f 68 || eqb f 69 || eqb f 82 || eqb f 83 || eqb f 84) ≡ false
-      → (n : List ℕ) → upper (getD n 0 0) ≡ f → propertyOf s n ≡ Property.Unread
-  event-none e h n q =
-      let (i, t) = neither (eqb f 68 || eqb f 69 || eqb f 82 || eqb f 83) (eqb f 84) h in
-      let (j, a) = neither (eqb f 68 || eqb f 69 || eqb f 82) (eqb f 83) i in
-      let (k, r) = neither (eqb f 68 || eqb f 69) (eqb f 82) j in
-      let (d, x) = neither (eqb f 68) (eqb f 69) k in
-      ap (λ (p : Scope). propertyOf p n) e ∙ unread-by Scope.Event f (none-in-event f d x r a t) n q
-
-  pub free-busy-none : s ≡ Scope.FreeBusy → (eqb f 68 || eqb f 70) ≡ false → (n : List ℕ) → upper (getD n 0 0) ≡ f → propertyOf s n ≡ Property.Unread
-  free-busy-none e h n q =
-      let (d, x) = neither (eqb f 68) (eqb f 70) h in
-      ap (λ (p : Scope). propertyOf p n) e ∙ unread-by Scope.FreeBusy f (none-in-free-busy f d x) n q
-
-  pub other-none : s ≡ Scope.Other → (n : List ℕ) → upper (getD n 0 0) ≡ f → propertyOf s n ≡ Property.Unread
-  unfolding propertyOf
-  other-none e n q = ap (λ (p : Scope). propertyOf p n) e
-
--- ---- a line is read by how it begins
-
--- the empty name is not read
-empty-unread : (s : Scope) → propertyOf s [] ≡ Property.Unread
-unfolding propertyOf timesOr eventProperty freeBusyProperty isUnsupported sameName
-empty-unread Scope.Event = refl
-empty-unread Scope.FreeBusy = refl
-empty-unread Scope.Other = refl
-
--- a line says nothing where no name that begins as it does is read
-module _ (c : Context) (s : Scope) (l : List ℕ) (f : ℕ) (h : (n : List ℕ) → upper (getD n 0 0) ≡ f → propertyOf s n ≡ Property.Unread) where
-  name-unread : f ≡ upper (getD l 0 0) → propertyOf s (nameOf l) ≡ Property.Unread
-  name-unread e =
-      ⊎-elim
-      (λ q. ap (λ (n : List ℕ). propertyOf s n) q ∙ empty-unread s)
-      (λ q. h (nameOf l) (ap upper q ∙ sym e))
-      (name-first l)
-
-  pub line-unread : f ≡ upper (getD l 0 0) → PropertyValue.Nothing ≡ propertyValueOf c s (lineOf l)
-  unfolding propertyValueOf valueAs lineOf
-  line-unread e = sym (ap (λ (p : Property). valueAs p c s (lineOf l)) (name-unread e))
-
--- ---- the value that is read
-
--- the value of a line is all periods where that of its bytes is
-pub all-values : (l v : List ℕ) (t : Bool) → v ≡ valueOf l → t ≡ allPeriods (periodItems v) → allPeriods (periodItems (lineOf l .value)) ≡ t
-unfolding lineOf
-all-values l v t e f = ap (λ (x : List ℕ). allPeriods (periodItems x)) (sym e) ∙ sym f
-
--- with TZID, and without it: t says whether it stands on the line
-module _ (l : List ℕ) (s : PropertyValue) (t : Bool) where
-  pub zoned : t ≡ hasParameter (ascii "TZID") (lineOf l) → t ≡ true → PropertyValue.Unsupported ≡ unlessZoned (lineOf l) s
-  unfolding unlessZoned
-  zoned e h = rw (sym e ∙ h)
-
-  pub unzoned : t ≡ hasParameter (ascii "TZID") (lineOf l) → t ≡ false → s ≡ unlessZoned (lineOf l) s
-  unfolding unlessZoned
-  unzoned e h = rw (sym e ∙ h)
+-- a property that is DTSTART or DTEND, told by its number
+pub start-or-end : (p : Property) → OneOf (0 ∷ 1 ∷ []) (tagOf the-type p) → cond (isStart p) Property.Start Property.End ≡ p
+unfolding isStart
+start-or-end Property.Start h = refl
+start-or-end Property.End h = refl
+start-or-end Property.Duration h = neither 2 (omega arith) h
+start-or-end Property.Rule h = neither 3 (omega arith) h
+start-or-end Property.Status h = neither 4 (omega arith) h
+start-or-end Property.Transparency h = neither 5 (omega arith) h
+start-or-end Property.Periods h = neither 6 (omega arith) h
+start-or-end Property.Unsupported h = neither 7 (omega arith) h
+start-or-end Property.Unread h = neither 8 (omega arith) h
 
 -- ---- a line without parameters: its value stands behind the colon, its time is a DATE-TIME, it has no TZID, and its periods are busy
 
@@ -216,49 +157,162 @@ unfolding busyNamed sameName
 unnamed-busy = refl
 
 module _ (x : ContentLine) (e : x .parameters ≡ []) where
-  plain-form : formOf x ≡ Form.DateTime
+  pub plain-form : Form.DateTime ≡ formOf x
   unfolding formOf hasParameter hasTwice hasList parametersNamed someList
   plain-form = rw e
 
-  plain-unzoned : (s : PropertyValue) → s ≡ unlessZoned x s
-  unfolding unlessZoned hasParameter parametersNamed
-  plain-unzoned s = rw e
+  pub plain-unzoned : false ≡ hasParameter (ascii "TZID") x
+  unfolding hasParameter parametersNamed
+  plain-unzoned = rw e
 
   plain-busy : busyOf x ≡ BusyType.Busy
   unfolding busyOf firstValue valuesNamed pooled parametersNamed
   plain-busy = rw e unnamed-busy
 
-  plain-free : periodsValue x ≡ cond (allPeriods (periodItems (x .value))) (PropertyValue.HasPeriods BusyType.Busy) PropertyValue.Bad
-  unfolding periodsValue hasTwice hasList parametersNamed someList
-  plain-free = rw (plain-busy, e)
+  pub plain-type : PropertyValue.HasPeriods BusyType.Busy ≡ typeValue x
+  unfolding typeValue hasTwice hasList parametersNamed someList
+  plain-type = rw (plain-busy, e)
 
-module _ (l v : List ℕ) (e : lineOf l .parameters ≡ []) (f : v ≡ valueOf l) (c : Context) (s : Scope) where
-  plain-time : (r : TimeRead) → r ≡ timeIn s (readTime c Form.DateTime v) → r ≡ timeIn s (timeOf c (lineOf l))
-  unfolding timeOf lineOf
-  plain-time r h =
-      h
-      ∙ ap (λ (w : List ℕ). timeIn s (readTime c Form.DateTime w)) f
-      ∙ sym (ap (λ (m : Form). timeIn s (readTime c m (valueOf l))) (plain-form (lineOf l) e))
+-- a name that is not read
+pub unread-line : (c : Context) (s : Scope) (l : List ℕ) → propertyOf s (nameOf l) ≡ Property.Unread → PropertyValue.Nothing ≡ beforePeriods c s (lineOf l)
+unfolding beforePeriods valueAs lineOf
+unread-line c s l h = rw h
 
-  module _ (p : Property) (q : PropertyValue) where
-    pub plain-start : (r : TimeRead) → p ≡ Property.Start → r ≡ timeIn s (readTime c Form.DateTime v) → q ≡ startBy r → q ≡ valueAs p c s (lineOf l)
-    unfolding valueAs
-    plain-start r k h g =
-        g ∙ ap startBy (plain-time r h) ∙ plain-unzoned (lineOf l) e _ ∙ sym (ap (λ (o : Property). valueAs o c s (lineOf l)) k)
+-- ---- a time, with TZID and without it
 
-    pub plain-end : (r : TimeRead) → p ≡ Property.End → r ≡ timeIn s (readTime c Form.DateTime v) → q ≡ endBy r → q ≡ valueAs p c s (lineOf l)
-    unfolding valueAs
-    plain-end r k h g =
-        g ∙ ap endBy (plain-time r h) ∙ plain-unzoned (lineOf l) e _ ∙ sym (ap (λ (o : Property). valueAs o c s (lineOf l)) k)
+-- where it cannot be read, the line is bad, whichever it is
+pub both-bad : (start : Bool) → PropertyValue.Bad ≡ cond start (startBy TimeRead.Bad) (endBy TimeRead.Bad)
+unfolding startBy endBy
+both-bad true = refl
+both-bad false = refl
 
-    pub plain-busy-periods : p ≡ Property.Periods → q ≡ cond (allPeriods (periodItems v)) (PropertyValue.HasPeriods BusyType.Busy) PropertyValue.Bad
-        → q ≡ valueAs p c s (lineOf l)
-    unfolding valueAs lineOf
-    plain-busy-periods k g =
-        g
-        ∙ ap (λ (w : List ℕ). cond (allPeriods (periodItems w)) (PropertyValue.HasPeriods BusyType.Busy) PropertyValue.Bad) f
-        ∙ sym (plain-free (lineOf l) e)
-        ∙ sym (ap (λ (o : Property). valueAs o c s (lineOf l)) k)
+module _ (l : List ℕ) (start : Bool) (c : Context) (s : Scope) (t : Bool) (e : t ≡ hasParameter (ascii "TZID") (lineOf l)) where
+  pub zoned : t ≡ true → PropertyValue.Unsupported ≡ valueAs (cond start Property.Start Property.End) c s (lineOf l)
+  unfolding valueAs unlessZoned
+  zoned h = go start
+    where
+      go : (b : Bool) → PropertyValue.Unsupported ≡ valueAs (cond b Property.Start Property.End) c s (lineOf l)
+      go true = rw (sym e ∙ h)
+      go false = rw (sym e ∙ h)
+
+  pub unzoned : t ≡ false → {q : PropertyValue} {r : TimeRead} → r ≡ timeIn s (timeOf c (lineOf l)) → q ≡ cond start (startBy r) (endBy r)
+      → q ≡ valueAs (cond start Property.Start Property.End) c s (lineOf l)
+  unfolding valueAs unlessZoned
+  unzoned h g f = f ∙ ap (λ (y : TimeRead). cond start (startBy y) (endBy y)) g ∙ go start
+    where
+      go : (b : Bool) → cond b (startBy (timeIn s (timeOf c (lineOf l)))) (endBy (timeIn s (timeOf c (lineOf l))))
+          ≡ valueAs (cond b Property.Start Property.End) c s (lineOf l)
+      go true = rw (sym e ∙ h)
+      go false = rw (sym e ∙ h)
+
+-- ---- periods
+
+-- a time is no period, and neither is a line that is not read
+none-by : (v : List ℕ) (x : ContentLine) (z : Bool) (r : TimeRead) (start : Bool)
+    → givesPeriods (withPeriods v (cond z PropertyValue.Unsupported (cond start (startBy r) (endBy r)))) ≡ false
+unfolding startBy endBy withPeriods givesPeriods
+none-by v x true r start = refl
+none-by v x false (TimeRead.Of t) true = refl
+none-by v x false (TimeRead.Of t) false = refl
+none-by v x false TimeRead.Bad true = refl
+none-by v x false TimeRead.Bad false = refl
+
+time-none : (start : Bool) (c : Context) (s : Scope) (x : ContentLine) (v : List ℕ)
+    → givesPeriods (withPeriods v (valueAs (cond start Property.Start Property.End) c s x)) ≡ false
+unfolding valueAs unlessZoned
+time-none true c s x v = none-by v x (hasParameter (ascii "TZID") x) (timeIn s (timeOf c x)) true
+time-none false c s x v = none-by v x (hasParameter (ascii "TZID") x) (timeIn s (timeOf c x)) false
+
+unread-none : (c : Context) (s : Scope) (x : ContentLine) (v : List ℕ) → false ≡ givesPeriods (withPeriods v (valueAs Property.Unread c s x))
+unfolding valueAs withPeriods givesPeriods
+unread-none c s x v = refl
+
+-- what a line says as FREEBUSY, and as anything else
+same-length : (m w : List ℕ) → sameName m w ≡ true → length m ≡ length w
+same-length m w h = sym (length-map m upper) ∙ ap length (sameName-iff m w .0 h) ∙ length-map w upper
+
+module _ (c : Context) (l : List ℕ) where
+  free-busy-named : sameName (nameOf l) (ascii "FREEBUSY") ≡ true → propertyOf Scope.FreeBusy (nameOf l) ≡ Property.Periods
+  free-busy-named h = by-length Scope.FreeBusy (nameOf l) 8 (same-length (nameOf l) (ascii "FREEBUSY") h) ∙ rw h
+
+  module _ (t : Bool) (e : t ≡ (hasTwice (ascii "FBTYPE") (lineOf l) || hasList (ascii "FBTYPE") (lineOf l))) (h : sameName (nameOf l) (ascii "FREEBUSY") ≡ true) where
+    pub bad-type : t ≡ true → false ≡ givesPeriods (propertyValueOf c Scope.FreeBusy (lineOf l))
+    unfolding propertyValueOf beforePeriods valueAs typeValue withPeriods givesPeriods lineOf
+    bad-type k = rw (free-busy-named h, sym e ∙ k)
+
+    pub good-type : t ≡ false → (v : List ℕ) → v ≡ valueOf l → (b : Bool) → b ≡ allPeriods (periodItems v) → b ≡ givesPeriods (propertyValueOf c Scope.FreeBusy (lineOf l))
+    unfolding propertyValueOf beforePeriods valueAs typeValue withPeriods givesPeriods lineOf
+    good-type k v f b q = rw (free-busy-named h, sym e ∙ k) (go (allPeriods (periodItems (valueOf l))) (q ∙ ap (λ (w : List ℕ). allPeriods (periodItems w)) f))
+      where
+        go : (y : Bool) → b ≡ y → b ≡ givesPeriods (cond y (PropertyValue.HasPeriods (busyOf (lineOf l))) PropertyValue.Bad)
+        go true z = z
+        go false z = z
+
+  pub other-name : sameName (nameOf l) (ascii "FREEBUSY") ≡ false → false ≡ givesPeriods (propertyValueOf c Scope.FreeBusy (lineOf l))
+  unfolding propertyValueOf beforePeriods propertyOf timesOr freeBusyProperty lineOf
+  other-name h = go (sameName (nameOf l) (ascii "DTSTART")) (sameName (nameOf l) (ascii "DTEND")) (sameName (nameOf l) (ascii "FREEBUSY")) h
+    where
+      go : (x y z : Bool) → z ≡ false
+          → false ≡ givesPeriods (withPeriods (valueOf l) (valueAs (cond x Property.Start (cond y Property.End (cond z Property.Periods Property.Unread))) c Scope.FreeBusy (lineOf l)))
+      go true y z k = sym (time-none true c Scope.FreeBusy (lineOf l) (valueOf l))
+      go false true z k = sym (time-none false c Scope.FreeBusy (lineOf l) (valueOf l))
+      go false false true k = absurd (true≢false k)
+      go false false false k = unread-none c Scope.FreeBusy (lineOf l) (valueOf l)
+
+-- only FREEBUSY gives periods, so a line directly in a VEVENT gives none
+abbrev isPeriods : Property → Bool
+isPeriods Property.Start = false
+isPeriods Property.End = false
+isPeriods Property.Duration = false
+isPeriods Property.Rule = false
+isPeriods Property.Status = false
+isPeriods Property.Transparency = false
+isPeriods Property.Periods = true
+isPeriods Property.Unsupported = false
+isPeriods Property.Unread = false
+
+duration-none : (v : List ℕ) (r : DurationRead) → givesPeriods (withPeriods v (durationBy r)) ≡ false
+unfolding durationBy withPeriods givesPeriods
+duration-none v (DurationRead.Of d) = refl
+duration-none v DurationRead.Bad = refl
+
+rule-none : (v : List ℕ) (r : RuleRead) → givesPeriods (withPeriods v (ruleValue r)) ≡ false
+unfolding ruleValue withPeriods givesPeriods
+rule-none v (RuleRead.Of x) = refl
+rule-none v RuleRead.Unsupported = refl
+rule-none v RuleRead.Bad = refl
+
+no-periods : (p : Property) (c : Context) (s : Scope) (x : ContentLine) (v : List ℕ) → isPeriods p ≡ false → givesPeriods (withPeriods v (valueAs p c s x)) ≡ false
+unfolding valueAs withPeriods givesPeriods
+no-periods Property.Start c s x v h = time-none true c s x v
+no-periods Property.End c s x v h = time-none false c s x v
+no-periods Property.Duration c s x v h = duration-none v (readDuration (x .value))
+no-periods Property.Rule c s x v h = rule-none v (ruleOf c (x .value))
+no-periods Property.Status c s x v h = refl
+no-periods Property.Transparency c s x v h = refl
+no-periods Property.Periods c s x v h = absurd (true≢false h)
+no-periods Property.Unsupported c s x v h = refl
+no-periods Property.Unread c s x v h = refl
+
+-- no word of a table that has no such word means it
+abbrev noneMeans : List Entry → Type 0
+noneMeans [] = Unit {0}
+noneMeans (e ∷ es) = (isPeriods (e .means) ≡ false) × noneMeans es
+
+picked-none : (m : List ℕ) (es : List Entry) → noneMeans es → isPeriods (picked m es) ≡ false
+picked-none m [] h = refl
+picked-none m (e ∷ es) h = go (sameName m (e .word)) (picked-none m es (h .1))
+  where
+    go : (t : Bool) → isPeriods (picked m es) ≡ false → isPeriods (cond t (e .means) (picked m es)) ≡ false
+    go true k = h .0
+    go false k = k
+
+pub event-periods : (c : Context) (x : ContentLine) → givesPeriods (propertyValueOf c Scope.Event x) ≡ false
+unfolding propertyValueOf beforePeriods
+event-periods c x =
+    no-periods (propertyOf Scope.Event (x .name)) c Scope.Event x (x .value)
+    (ap isPeriods (propertyOf-picked Scope.Event (x .name))
+    ∙ picked-none (x .name) (wordsIn Scope.Event) (refl, (refl, (refl, (refl, (refl, (refl, (refl, (refl, (refl, (refl, tt)))))))))))
 
 -- ---- how large what a line says can be
 
@@ -302,14 +356,31 @@ rule-small (RuleRead.Of r) h = h r refl
 rule-small RuleRead.Unsupported h = tt
 rule-small RuleRead.Bad h = tt
 
-periods-small : (x : ContentLine) → PropertyValueSmall (periodsValue x)
-unfolding periodsValue
-periods-small x = go (hasTwice (ascii "FBTYPE") x || hasList (ascii "FBTYPE") x) (allPeriods (periodItems (x .value)))
+type-small : (x : ContentLine) → PropertyValueSmall (typeValue x)
+unfolding typeValue
+type-small x = go (hasTwice (ascii "FBTYPE") x || hasList (ascii "FBTYPE") x)
   where
-    go : (a b : Bool) → PropertyValueSmall (cond a PropertyValue.Bad (cond b (PropertyValue.HasPeriods (busyOf x)) PropertyValue.Bad))
-    go true b = tt
-    go false true = tt
-    go false false = tt
+    go : (a : Bool) → PropertyValueSmall (cond a PropertyValue.Bad (PropertyValue.HasPeriods (busyOf x)))
+    go true = tt
+    go false = tt
+
+-- looking at the periods leaves it small
+periods-small : (v : List ℕ) (s : PropertyValue) → PropertyValueSmall s → PropertyValueSmall (withPeriods v s)
+unfolding withPeriods
+periods-small v PropertyValue.Nothing h = h
+periods-small v PropertyValue.Unsupported h = h
+periods-small v PropertyValue.Bad h = h
+periods-small v (PropertyValue.Start t) h = h
+periods-small v (PropertyValue.End t) h = h
+periods-small v (PropertyValue.Lasts d) h = h
+periods-small v (PropertyValue.Repeats r) h = h
+periods-small v (PropertyValue.HasStatus s) h = h
+periods-small v (PropertyValue.Transparent b) h = h
+periods-small v (PropertyValue.HasPeriods b) h = go (allPeriods (periodItems v))
+  where
+    go : (t : Bool) → PropertyValueSmall (cond t (PropertyValue.HasPeriods b) PropertyValue.Bad)
+    go true = tt
+    go false = tt
 
 valueAs-small : (p : Property) (c : Context) (s : Scope) (x : ContentLine) → PropertyValueSmall (valueAs p c s x)
 unfolding valueAs
@@ -320,14 +391,14 @@ valueAs-small Property.Duration c s x = duration-small (readDuration (x .value))
 valueAs-small Property.Rule c s x = rule-small (ruleOf c (x .value)) (λ r. ruleOf-small c (x .value) r)
 valueAs-small Property.Status c s x = tt
 valueAs-small Property.Transparency c s x = tt
-valueAs-small Property.Periods c s x = periods-small x
+valueAs-small Property.Periods c s x = type-small x
 valueAs-small Property.Unsupported c s x = tt
 valueAs-small Property.Unread c s x = tt
 
 -- what a line says is small: times are within the limits, durations and rules as their readers leave them
 pub propertyValueOf-small : (c : Context) (s : Scope) (x : ContentLine) → PropertyValueSmall (propertyValueOf c s x)
-unfolding propertyValueOf
-propertyValueOf-small c s x = valueAs-small (propertyOf s (x .name)) c s x
+unfolding propertyValueOf beforePeriods
+propertyValueOf-small c s x = periods-small (x .value) (beforePeriods c s x) (valueAs-small (propertyOf s (x .name)) c s x)
 
 -- the same by what it says
 module _ (c : Context) (s : Scope) (x : ContentLine) where

@@ -1,7 +1,7 @@
 -- What a line says (document 01, Values), by the component that it stands directly in.
 -- Here, and nowhere else, it is decided which properties are read.
 use Prim.Native.Nat.{ℕ, _≤_}
-use mathlib.Core.Bool.{Bool, cond, _||_}
+use mathlib.Core.Bool.{Bool, true, false, cond, _||_}
 use mathlib.Core.List.{List}
 use Rattle.ascii.specs.Names.{sameName}
 use Rattle.ascii.specs.Words.{ascii}
@@ -89,12 +89,11 @@ busyNamed w =
 unfoldable pub busyOf : ContentLine → BusyType
 busyOf x = busyNamed (firstValue (ascii "FBTYPE") x)
 
--- FREEBUSY: FBTYPE twice or as a list is bad, and so is any bad period
-unfoldable pub periodsValue : ContentLine → PropertyValue
-periodsValue x =
-    cond (hasTwice (ascii "FBTYPE") x || hasList (ascii "FBTYPE") x) PropertyValue.Bad
-    (cond (allPeriods (periodItems (x .value))) (PropertyValue.HasPeriods (busyOf x)) PropertyValue.Bad)
+-- FREEBUSY by its FBTYPE, which may stand neither twice nor as a list
+unfoldable pub typeValue : ContentLine → PropertyValue
+typeValue x = cond (hasTwice (ascii "FBTYPE") x || hasList (ascii "FBTYPE") x) PropertyValue.Bad (PropertyValue.HasPeriods (busyOf x))
 
+-- what a line says as a property, its periods not looked at
 unfoldable pub valueAs : Property → Context → Scope → ContentLine → PropertyValue
 valueAs Property.Start c s x = unlessZoned x (startBy (timeIn s (timeOf c x)))
 valueAs Property.End c s x = unlessZoned x (endBy (timeIn s (timeOf c x)))
@@ -102,12 +101,54 @@ valueAs Property.Duration c s x = durationBy (readDuration (x .value))
 valueAs Property.Rule c s x = ruleValue (ruleOf c (x .value))
 valueAs Property.Status c s x = PropertyValue.HasStatus (statusNamed (x .value))
 valueAs Property.Transparency c s x = PropertyValue.Transparent (sameName (x .value) (ascii "TRANSPARENT"))
-valueAs Property.Periods c s x = periodsValue x
+valueAs Property.Periods c s x = typeValue x
 valueAs Property.Unsupported c s x = PropertyValue.Unsupported
 valueAs Property.Unread c s x = PropertyValue.Nothing
 
+-- is it DTSTART?
+unfoldable pub isStart : Property → Bool
+isStart Property.Start = true
+isStart Property.End = false
+isStart Property.Duration = false
+isStart Property.Rule = false
+isStart Property.Status = false
+isStart Property.Transparency = false
+isStart Property.Periods = false
+isStart Property.Unsupported = false
+isStart Property.Unread = false
+
+unfoldable pub beforePeriods : Context → Scope → ContentLine → PropertyValue
+beforePeriods c s x = valueAs (propertyOf s (x .name)) c s x
+
+-- FREEBUSY with this value is bad where any of its periods is
+unfoldable pub withPeriods : List ℕ → PropertyValue → PropertyValue
+withPeriods v PropertyValue.Nothing = PropertyValue.Nothing
+withPeriods v PropertyValue.Unsupported = PropertyValue.Unsupported
+withPeriods v PropertyValue.Bad = PropertyValue.Bad
+withPeriods v (PropertyValue.Start t) = PropertyValue.Start t
+withPeriods v (PropertyValue.End t) = PropertyValue.End t
+withPeriods v (PropertyValue.Lasts d) = PropertyValue.Lasts d
+withPeriods v (PropertyValue.Repeats r) = PropertyValue.Repeats r
+withPeriods v (PropertyValue.HasStatus s) = PropertyValue.HasStatus s
+withPeriods v (PropertyValue.Transparent b) = PropertyValue.Transparent b
+withPeriods v (PropertyValue.HasPeriods b) = cond (allPeriods (periodItems v)) (PropertyValue.HasPeriods b) PropertyValue.Bad
+
+-- what a line says
 unfoldable pub propertyValueOf : Context → Scope → ContentLine → PropertyValue
-propertyValueOf c s x = valueAs (propertyOf s (x .name)) c s x
+propertyValueOf c s x = withPeriods (x .value) (beforePeriods c s x)
+
+-- does it give periods?
+unfoldable pub givesPeriods : PropertyValue → Bool
+givesPeriods PropertyValue.Nothing = false
+givesPeriods PropertyValue.Unsupported = false
+givesPeriods PropertyValue.Bad = false
+givesPeriods (PropertyValue.Start t) = false
+givesPeriods (PropertyValue.End t) = false
+givesPeriods (PropertyValue.Lasts d) = false
+givesPeriods (PropertyValue.Repeats r) = false
+givesPeriods (PropertyValue.HasStatus s) = false
+givesPeriods (PropertyValue.Transparent b) = false
+givesPeriods (PropertyValue.HasPeriods b) = true
 
 -- how large what a line says can be
 abbrev pub PropertyValueSmall : PropertyValue → Type 0

@@ -14,16 +14,14 @@ use values::times::Form;
 use values::times::Time;
 use values::times::TimeRead;
 ghost use mathlib.Core.Path.{_≡_};
-ghost use mathlib.Core.Bool.{cond, false};
-ghost use mathlib.Core.List.{List, []};
-ghost use Prim.Native.Nat.{ℕ, _≤_};
-ghost use lib.ListN.{length, getD};
-ghost use Rattle.ascii.specs.Bytes.{upper};
-ghost use Rattle.line.specs.Reading.{nameOf, valueOf, lineOf};
-ghost use Rattle.values.specs.Times.{readTime, timeOf, ContextGood};
-ghost use Rattle.values.specs.Period.{periodItems, allPeriods};
-ghost use Rattle.property.specs.Properties.{propertyOf, timeIn, startBy, endBy, unlessZoned};
-ghost use Rattle.property.specs.Properties.{durationBy, ruleValue, statusNamed, busyNamed, busyOf, periodsValue, valueAs, propertyValueOf};
+ghost use mathlib.Core.Bool.{cond, true, _||_};
+ghost use mathlib.Core.List.{[]};
+ghost use lib.ListN.{length};
+ghost use Rattle.ascii.specs.Words.{ascii};
+ghost use Rattle.line.specs.Reading.{nameOf, valueOf, lineOf, Plain, hasParameter, hasTwice, hasList};
+ghost use Rattle.values.specs.Times.{formOf, ContextGood};
+ghost use Rattle.property.specs.Properties.{propertyOf, timeIn, startBy, endBy, isStart, durationBy, ruleValue, statusNamed};
+ghost use Rattle.property.specs.Properties.{busyNamed, busyOf, typeValue, valueAs, beforePeriods, propertyValueOf, givesPeriods};
 
 // The component that a line stands directly in.
 pub enum Scope {
@@ -71,29 +69,6 @@ pub enum PropertyValue {
     HasPeriods(BusyType),
 }
 
-// The first byte, a to z read as A to Z; 0, where there is none.
-fn first_upper(s: &[u8]) -> u8
-    ensures { λ r. ⌜ r ≡ upper (getD (now (s .entry)) 0 0) ⌝ }
-{
-    if s.len() == 0 {
-        return 0;
-    }
-    ascii::upper(s[0])
-}
-
-// Can a name that begins so be read in the component? Most lines need no more than this.
-fn may_be_read(scope: Scope, first: u8) -> bool
-    ensures { λ r. ⌜ (r ≡ false → (n : List ℕ) → upper (getD n 0 0) ≡ first → propertyOf scope n ≡ Property.Unread) ⌝ }
-{
-    match scope {
-        Scope::Event => {
-            (first == 68) | (first == 69) | (first == 82) | (first == 83) | (first == 84)
-        }
-        Scope::FreeBusy => (first == 68) | (first == 70),
-        Scope::Other => false,
-    }
-}
-
 // The property where the test holds.
 fn property_if(test: bool, found: Property) -> Property
     ensures { λ r. ⌜ r ≡ cond test found Property.Unread ⌝ }
@@ -101,80 +76,62 @@ fn property_if(test: bool, found: Property) -> Property
     if test { found } else { Property::Unread }
 }
 
-// The words of a VEVENT that begin with D.
-fn event_d(name: &[u8]) -> Property
-    requires { ⌜ upper (getD (now name) 0 0) ≡ 68 ⌝ }
+// In a VEVENT, the words of five bytes.
+fn event_of_five(name: &[u8]) -> Property
+    requires { ⌜ length (now name) ≡ 5 ⌝ }
     ensures { λ r. ⌜ r ≡ propertyOf Scope.Event (now (name .entry)) ⌝ }
 {
-    if ascii::same_name(name, b"DTSTART") {
-        return Property::Start;
-    }
     if ascii::same_name(name, b"DTEND") {
         return Property::End;
     }
-    property_if(ascii::same_name(name, b"DURATION"), Property::Duration)
+    if ascii::same_name(name, b"RRULE") {
+        return Property::Rule;
+    }
+    property_if(ascii::same_name(name, b"RDATE"), Property::Unsupported)
 }
 
-// Those that begin with E.
-fn event_e(name: &[u8]) -> Property
-    requires { ⌜ upper (getD (now name) 0 0) ≡ 69 ⌝ }
+// Those of six bytes.
+fn event_of_six(name: &[u8]) -> Property
+    requires { ⌜ length (now name) ≡ 6 ⌝ }
     ensures { λ r. ⌜ r ≡ propertyOf Scope.Event (now (name .entry)) ⌝ }
 {
+    if ascii::same_name(name, b"STATUS") {
+        return Property::Status;
+    }
+    if ascii::same_name(name, b"TRANSP") {
+        return Property::Transparency;
+    }
     if ascii::same_name(name, b"EXDATE") {
         return Property::Unsupported;
     }
     property_if(ascii::same_name(name, b"EXRULE"), Property::Unsupported)
 }
 
-// Those that begin with R.
-fn event_r(name: &[u8]) -> Property
-    requires { ⌜ upper (getD (now name) 0 0) ≡ 82 ⌝ }
-    ensures { λ r. ⌜ r ≡ propertyOf Scope.Event (now (name .entry)) ⌝ }
-{
-    if ascii::same_name(name, b"RRULE") {
-        return Property::Rule;
-    }
-    if ascii::same_name(name, b"RDATE") {
-        return Property::Unsupported;
-    }
-    property_if(
-        ascii::same_name(name, b"RECURRENCE-ID"),
-        Property::Unsupported,
-    )
-}
-
-// In a VEVENT: only the words that begin as the name does are tried.
+// In a VEVENT: only the words as long as the name are tried, and most names are as long as none.
 fn event_property(name: &[u8]) -> Property
     ensures { λ r. ⌜ r ≡ propertyOf Scope.Event (now (name .entry)) ⌝ }
 {
-    match first_upper(name) {
-        68 => event_d(name),
-        69 => event_e(name),
-        82 => event_r(name),
-        83 => property_if(ascii::same_name(name, b"STATUS"), Property::Status),
-        84 => property_if(ascii::same_name(name, b"TRANSP"), Property::Transparency),
+    match name.len() {
+        5 => event_of_five(name),
+        6 => event_of_six(name),
+        7 => property_if(ascii::same_name(name, b"DTSTART"), Property::Start),
+        8 => property_if(ascii::same_name(name, b"DURATION"), Property::Duration),
+        13 => property_if(
+            ascii::same_name(name, b"RECURRENCE-ID"),
+            Property::Unsupported,
+        ),
         _ => Property::Unread,
     }
-}
-
-// The words of a VFREEBUSY that begin with D.
-fn free_busy_d(name: &[u8]) -> Property
-    requires { ⌜ upper (getD (now name) 0 0) ≡ 68 ⌝ }
-    ensures { λ r. ⌜ r ≡ propertyOf Scope.FreeBusy (now (name .entry)) ⌝ }
-{
-    if ascii::same_name(name, b"DTSTART") {
-        return Property::Start;
-    }
-    property_if(ascii::same_name(name, b"DTEND"), Property::End)
 }
 
 // In a VFREEBUSY, the same way.
 fn free_busy_property(name: &[u8]) -> Property
     ensures { λ r. ⌜ r ≡ propertyOf Scope.FreeBusy (now (name .entry)) ⌝ }
 {
-    match first_upper(name) {
-        68 => free_busy_d(name),
-        70 => property_if(ascii::same_name(name, b"FREEBUSY"), Property::Periods),
+    match name.len() {
+        5 => property_if(ascii::same_name(name, b"DTEND"), Property::End),
+        7 => property_if(ascii::same_name(name, b"DTSTART"), Property::Start),
+        8 => property_if(ascii::same_name(name, b"FREEBUSY"), Property::Periods),
         _ => Property::Unread,
     }
 }
@@ -201,49 +158,80 @@ fn time_in(scope: Scope, r: TimeRead) -> TimeRead
     }
 }
 
-// The time of a line without parameters, whose value is v: a DATE-TIME.
-fn plain_time(c: Context, scope: Scope, v: &[u8]) -> TimeRead
-    requires { ⌜ ContextGood c ⌝ }
-    ensures { λ r. ⌜ r ≡ timeIn scope (readTime c Form.DateTime (now (v .entry))) ⌝ }
+// Has the line TZID? One that is plain has no parameter at all.
+fn is_zoned(line: &[u8], plain: bool) -> bool
+    requires { ⌜ (plain ≡ true → lineOf (now line) .parameters ≡ []) ⌝ }
+    ensures { λ r. ⌜ r ≡ hasParameter (ascii "TZID") (lineOf (now (line .entry))) ⌝ }
 {
-    time_in(scope, times::read_time(c, Form::DateTime, v))
+    if plain {
+        return false;
+    }
+    line::read::has_parameter(line, b"TZID")
 }
 
-// The time of a line whose value is v, in the form that VALUE asks for.
-fn time_of(c: Context, scope: Scope, line: &[u8], v: &[u8]) -> TimeRead
+// The form that the line asks for.
+fn form_in(line: &[u8], plain: bool) -> Form
+    requires { ⌜ (plain ≡ true → lineOf (now line) .parameters ≡ []) ⌝ }
+    ensures { λ r. ⌜ r ≡ formOf (lineOf (now (line .entry))) ⌝ }
+{
+    if plain {
+        return Form::DateTime;
+    }
+    times::form_of(line)
+}
+
+// The time as that of DTSTART or of DTEND.
+fn timed(start: bool, r: TimeRead) -> PropertyValue
+    ensures { λ q. ⌜ q ≡ cond start (startBy r) (endBy r) ⌝ }
+{
+    match r {
+        TimeRead::Of(t) => {
+            if start {
+                PropertyValue::Start(t)
+            } else {
+                PropertyValue::End(t)
+            }
+        }
+        TimeRead::Bad => PropertyValue::Bad,
+    }
+}
+
+// DTSTART or DTEND. With TZID the line is unsupported, whatever else is on it.
+fn time_value(
+    start: bool,
+    c: Context,
+    scope: Scope,
+    line: &[u8],
+    v: &[u8],
+    plain: bool,
+) -> PropertyValue
     requires { ⌜ ContextGood c ⌝ }
     requires { ⌜ now v ≡ valueOf (now line) ⌝ }
-    ensures { λ r. ⌜ r ≡ timeIn scope (timeOf c (lineOf (now (line .entry)))) ⌝ }
+    requires { ⌜ (plain ≡ true → lineOf (now line) .parameters ≡ []) ⌝ }
+    ensures { λ r. ⌜ r ≡ valueAs (cond start Property.Start Property.End) c scope (lineOf (now (line .entry))) ⌝ }
 {
-    time_in(scope, times::read_time(c, times::form_of(line), v))
-}
-
-fn start_by(r: TimeRead) -> PropertyValue
-    ensures { λ q. ⌜ q ≡ startBy r ⌝ }
-{
-    match r {
-        TimeRead::Of(t) => PropertyValue::Start(t),
-        TimeRead::Bad => PropertyValue::Bad,
+    if is_zoned(line, plain) {
+        return PropertyValue::Unsupported;
     }
+    timed(
+        start,
+        time_in(scope, times::read_time(c, form_in(line, plain), v)),
+    )
 }
 
-fn end_by(r: TimeRead) -> PropertyValue
-    ensures { λ q. ⌜ q ≡ endBy r ⌝ }
+fn is_start(property: Property) -> bool
+    ensures { λ r. ⌜ r ≡ isStart property ⌝ }
 {
-    match r {
-        TimeRead::Of(t) => PropertyValue::End(t),
-        TimeRead::Bad => PropertyValue::Bad,
-    }
-}
-
-// With TZID the line is unsupported, whatever else is on it.
-fn unless_zoned(line: &[u8], s: PropertyValue) -> PropertyValue
-    ensures { λ r. ⌜ r ≡ unlessZoned (lineOf (now (line .entry))) s ⌝ }
-{
-    if line::read::has_parameter(line, b"TZID") {
-        PropertyValue::Unsupported
-    } else {
-        s
+    match property {
+        Property::Start => true,
+        Property::End => false,
+        Property::Duration => false,
+        Property::Rule => false,
+        Property::Status => false,
+        Property::Transparency => false,
+        Property::Periods => false,
+        Property::Unsupported => false,
+        Property::Unread => false,
     }
 }
 
@@ -302,106 +290,95 @@ fn busy_of(line: &[u8]) -> BusyType
     busy_named(line::read::first_value(line, b"FBTYPE"))
 }
 
-// FREEBUSY: FBTYPE twice or as a list is bad, and so is any bad period. The line's value is v.
-fn periods_value(line: &[u8], v: &[u8]) -> PropertyValue
-    requires { ⌜ now v ≡ valueOf (now line) ⌝ }
-    ensures { λ r. ⌜ r ≡ periodsValue (lineOf (now (line .entry))) ⌝ }
+// Is FBTYPE on the line twice, or a list?
+fn type_is_bad(line: &[u8]) -> bool
+    ensures { λ r. ⌜ r ≡ (hasTwice (ascii "FBTYPE") (lineOf (now (line .entry))) || hasList (ascii "FBTYPE") (lineOf (now (line .entry)))) ⌝ }
 {
     let u = line::read::usage_of(line, b"FBTYPE");
     let times = u.times;
     let listed = u.listed;
-    if (1 < times) | listed {
+    (1 < times) | listed
+}
+
+// FREEBUSY: its type, and the periods are left to the caller.
+fn type_value(line: &[u8], plain: bool) -> PropertyValue
+    requires { ⌜ (plain ≡ true → lineOf (now line) .parameters ≡ []) ⌝ }
+    ensures { λ r. ⌜ r ≡ typeValue (lineOf (now (line .entry))) ⌝ }
+{
+    if plain {
+        return PropertyValue::HasPeriods(BusyType::Busy);
+    }
+    if type_is_bad(line) {
         return PropertyValue::Bad;
     }
-    if period::all_periods(v) {
-        return PropertyValue::HasPeriods(busy_of(line));
-    }
-    PropertyValue::Bad
+    PropertyValue::HasPeriods(busy_of(line))
 }
 
-// What a line says as the property. Its value is v.
-fn value_as(property: Property, c: Context, scope: Scope, line: &[u8], v: &[u8]) -> PropertyValue
-    requires { ⌜ ContextGood c ⌝ }
-    requires { ⌜ now v ≡ valueOf (now line) ⌝ }
-    ensures { λ r. ⌜ r ≡ valueAs property c scope (lineOf (now (line .entry))) ⌝ }
-{
-    match property {
-        Property::Start => unless_zoned(line, start_by(time_of(c, scope, line, v))),
-        Property::End => unless_zoned(line, end_by(time_of(c, scope, line, v))),
-        Property::Duration => duration_by(duration::read_duration(v)),
-        Property::Rule => rule_value(rule::rule_of(c, v)),
-        Property::Status => PropertyValue::HasStatus(status_named(v)),
-        Property::Transparency => PropertyValue::Transparent(ascii::same_name(v, b"TRANSPARENT")),
-        Property::Periods => periods_value(line, v),
-        Property::Unsupported => PropertyValue::Unsupported,
-        Property::Unread => PropertyValue::Nothing,
-    }
-}
-
-// The same, where the value has not been looked for yet: a line that is not read needs none.
-fn value_if_read(property: Property, c: Context, scope: Scope, line: &[u8]) -> PropertyValue
-    requires { ⌜ ContextGood c ⌝ }
-    ensures { λ r. ⌜ r ≡ valueAs property c scope (lineOf (now (line .entry))) ⌝ }
-{
-    match property {
-        Property::Unread => PropertyValue::Nothing,
-        _ => value_as(property, c, scope, line, line::read::value(line)),
-    }
-}
-
-// FREEBUSY without parameters: busy, where all are periods.
-fn plain_periods(v: &[u8]) -> PropertyValue
-    ensures { λ r. ⌜ r ≡ cond (allPeriods (periodItems (now (v .entry)))) (PropertyValue.HasPeriods BusyType.Busy) PropertyValue.Bad ⌝ }
-{
-    if period::all_periods(v) {
-        PropertyValue::HasPeriods(BusyType::Busy)
-    } else {
-        PropertyValue::Bad
-    }
-}
-
-// What a line without parameters says as the property: none is looked for.
-fn plain_property(
+// What a line says as the property. Its value is v, and its periods are left to the caller.
+// The last arm is DTSTART and DTEND, together, so that a time is read in one place.
+fn value_as(
     property: Property,
     c: Context,
     scope: Scope,
     line: &[u8],
     v: &[u8],
+    plain: bool,
 ) -> PropertyValue
     requires { ⌜ ContextGood c ⌝ }
-    requires { ⌜ lineOf (now line) .parameters ≡ [] ⌝ }
     requires { ⌜ now v ≡ valueOf (now line) ⌝ }
+    requires { ⌜ (plain ≡ true → lineOf (now line) .parameters ≡ []) ⌝ }
     ensures { λ r. ⌜ r ≡ valueAs property c scope (lineOf (now (line .entry))) ⌝ }
 {
     match property {
-        Property::Start => start_by(plain_time(c, scope, v)),
-        Property::End => end_by(plain_time(c, scope, v)),
-        Property::Periods => plain_periods(v),
-        _ => value_as(property, c, scope, line, v),
+        Property::Unread => PropertyValue::Nothing,
+        Property::Unsupported => PropertyValue::Unsupported,
+        Property::Duration => duration_by(duration::read_duration(v)),
+        Property::Rule => rule_value(rule::rule_of(c, v)),
+        Property::Status => PropertyValue::HasStatus(status_named(v)),
+        Property::Transparency => PropertyValue::Transparent(ascii::same_name(v, b"TRANSPARENT")),
+        Property::Periods => type_value(line, plain),
+        _ => time_value(is_start(property), c, scope, line, v, plain),
     }
 }
 
-// What a line says by its name, which is n bytes long, whatever its first byte.
-pub fn property_value_named(c: Context, scope: Scope, line: &[u8], n: usize) -> PropertyValue
+// The value of a line, whose name is n bytes long: behind its name, where it is plain.
+fn value_in(line: &[u8], n: usize, plain: bool) -> &[u8]
+    requires { ⌜ (plain ≡ true → Plain (now line) n) ⌝ }
+    ensures { λ r. ⌜ now r ≡ valueOf (now (line .entry)) ⌝ }
+{
+    if plain {
+        return &line[n + 1..];
+    }
+    line::read::value(line)
+}
+
+// What a line, whose name is n bytes long, says directly in the component; of FREEBUSY the periods are left to the caller.
+// Where no rule reads it, its value is not looked for.
+pub fn property_value(c: Context, scope: Scope, line: &[u8], n: usize) -> PropertyValue
     requires { ⌜ ContextGood c ⌝ }
     requires { ⌜ n ≡ length (nameOf (now line)) ⌝ }
-    ensures { λ r. ⌜ r ≡ propertyValueOf c scope (lineOf (now (line .entry))) ⌝ }
+    ensures { λ r. ⌜ r ≡ beforePeriods c scope (lineOf (now (line .entry))) ⌝ }
 {
     let property = property_of(scope, &line[..n]);
-    if line::read::is_plain(line, n) {
-        return plain_property(property, c, scope, line, &line[n + 1..]);
+    match property {
+        Property::Unread => PropertyValue::Nothing,
+        _ => {
+            let plain = line::read::is_plain(line, n);
+            value_as(property, c, scope, line, value_in(line, n, plain), plain)
+        }
     }
-    value_if_read(property, c, scope, line)
 }
 
-// What a line, whose name is n bytes long, says directly in the component. Only its first byte is asked here, so that this much can stand in the loops over lines.
-pub fn property_value_of(c: Context, scope: Scope, line: &[u8], n: usize) -> PropertyValue
-    requires { ⌜ ContextGood c ⌝ }
+// Does the line, whose name is n bytes long, give periods directly in a VFREEBUSY?
+pub fn gives_periods(line: &[u8], n: usize) -> bool
     requires { ⌜ n ≡ length (nameOf (now line)) ⌝ }
-    ensures { λ r. ⌜ r ≡ propertyValueOf c scope (lineOf (now (line .entry))) ⌝ }
+    ensures { λ r. ⌜ ((c : Context) → r ≡ givesPeriods (propertyValueOf c Scope.FreeBusy (lineOf (now (line .entry))))) ⌝ }
 {
-    if !may_be_read(scope, first_upper(line)) {
-        return PropertyValue::Nothing;
+    if !ascii::same_name(&line[..n], b"FREEBUSY") {
+        return false;
     }
-    property_value_named(c, scope, line, n)
+    if type_is_bad(line) {
+        return false;
+    }
+    period::all_periods(line::read::value(line))
 }

@@ -1,14 +1,14 @@
 -- `contents::read_block` meets its contract: as for an event, and its pieces are stored already.
 use Rattle.contents.specs.Contents.{entry-unsupported, entry-bad}
-use Rattle.contents.proofs.LinesLaws.{block-of, block-of-unsupported, block-of-bad}
+use Rattle.contents.proofs.LinesLaws.{lines-of, lines-unsupported, lines-bad}
 use Rattle.contents.proofs.Contents.{block-fault, block-good, block-broken}
 use native.Mathlib.Omega.{arith}
 use borrow.Author.Needs.{needs}
 use Rattle.contents.proofs.read_block.Statement.{statement}
 use Rattle.contents.proofs.read_block.Tie as tie
 
-read-block-lines-requires : tie.Need-read-block-lines-requires
-read-block-lines-requires c κs = (c .before .before .before .before .before .before .pre .0, (c .before .before .before .before .before .before .pre .1 .0, (c .before .before .before .before .before .before .pre .1 .1 .1 .0, (c .before .before .before .before .before .before .pre .1 .1 .1 .1 .0, (c .before .before .before .before .before .before .pre .1 .1 .1 .1 .1 .0, c .before .before .before .before .before .before .pre .1 .1 .1 .1 .1 .1 .1 .1)))))
+read-lines-requires : tie.Need-read-lines-requires
+read-lines-requires c κs = (c .before .before .before .before .before .before .pre .0, (c .before .before .before .before .before .before .pre .1 .0, (c .before .before .before .before .before .before .pre .1 .1 .1 .0, (c .before .before .before .before .before .before .pre .1 .1 .1 .1 .0, (c .before .before .before .before .before .before .pre .1 .1 .1 .1 .1 .0, c .before .before .before .before .before .before .pre .1 .1 .1 .1 .1 .1 .1 .1)))))
 
 enum-known-g : tie.Need-enum-known-g
 enum-known-g c = search needs
@@ -20,9 +20,7 @@ enum-known-x : tie.Need-enum-known-x
 enum-known-x c = search needs
 
 put-block-requires : tie.Need-put-block-requires
-put-block-requires c κs =
-    omega
-    (arith, c .before .before .before .before .before .before .before .before .before .before .before .before .before .before .before .before .before .pre .1 .1 .1 .1 .1 .0 .few, c .before .before .before .before .before .before .before .before .before .before .before .before .before .before .before .before .before .pre .1 .1 .0)
+put-block-requires c κs = omega (arith, c .before .before .before .before .before .before .before .before .before .before .before .before .before .before .before .before .before .pre .1 .1 .1 .1 .1 .0 .few, c .before .before .before .before .before .before .before .before .before .before .before .before .before .before .before .before .before .pre .1 .1 .0)
 
 enum-told : tie.Need-enum-told
 enum-told c = search needs
@@ -40,46 +38,31 @@ same-length-2 : tie.Need-same-length-2
 same-length-2 c = search needs
 
 returns : tie.Need-returns
-returns c =
-    block-good _ _
-    (c .before .before .before .before .before .before .before .before .before .before .before .before .before .before .before .before .before .before .before .before .pre .1 .1 .1 .1 .1 .1 .0)
-    (block-of (c .before .before .before .before .before .before .before .before .before .before .before .before .before .read-block-lines .ensures) _ _ (c .before .before .before .before .before .before .before .before .before .g .given .1) .lines)
-    (c .before .before .before .before .before .before .before .block-by .ensures) _
-    (c .before .before .before .before .before .x .given .1)
-    (c .before .before .put-block .ensures)
-    (block-of (c .before .before .before .before .before .before .before .before .before .before .before .before .before .read-block-lines .ensures) _ _ (c .before .before .before .before .before .before .before .before .before .g .given .1) .stored)
+returns c = block-good _ _ (c .before .before .before .before .before .before .before .before .before .before .before .before .before .before .before .before .before .before .before .before .pre .1 .1 .1 .1 .1 .1 .0) (lines-of (c .before .before .before .before .before .before .before .before .before .before .before .before .before .read-lines .ensures) _ _ (c .before .before .before .before .before .before .before .before .before .g .given .1)) (c .before .before .before .before .before .before .before .block-by .ensures) _ (c .before .before .before .before .before .x .given .1) (c .before .before .put-block .ensures)
 
 same-length-3 : tie.Need-same-length-3
 same-length-3 c = search needs
 
 returns-2 : tie.Need-returns-2
-returns-2 c =
-    block-broken _ _
-    (c .before .before .before .before .before .before .before .before .before .before .before .before .before .before .before .pre .1 .1 .1 .1 .1 .1 .0)
-    (block-of (c .before .before .before .before .before .before .before .before .read-block-lines .ensures) _ _ (c .before .before .before .before .g .given .1) .lines)
-    (c .before .before .block-by .ensures) _ _ _ _ _ _ _ _ (c .enum-told .given .1)
+returns-2 c = block-broken _ _ (c .before .before .before .before .before .before .before .before .before .before .before .before .before .before .before .pre .1 .1 .1 .1 .1 .1 .0) (lines-of (c .before .before .before .before .before .before .before .before .read-lines .ensures) _ _ (c .before .before .before .before .g .given .1)) (c .before .before .block-by .ensures) _ _ _ _ (c .enum-told .given .1)
 
 same-length-4 : tie.Need-same-length-4
 same-length-4 c = search needs
 
 returns-3 : tie.Need-returns-3
-returns-3 c =
-    entry-unsupported
-    (block-fault _ _ (c .before .before .before .before .before .before .before .before .before .before .before .before .pre .1 .1 .1 .1 .1 .1 .0) (block-of-unsupported (c .before .before .before .before .before .read-block-lines .ensures) _ (c .before .i .given .1)))
+returns-3 c = entry-unsupported (block-fault _ _ (c .before .before .before .before .before .before .before .before .before .before .before .before .pre .1 .1 .1 .1 .1 .1 .0) (lines-unsupported (c .before .before .before .before .before .read-lines .ensures) _ (c .before .i .given .1)))
 
 same-length-5 : tie.Need-same-length-5
 same-length-5 c = search needs
 
 returns-4 : tie.Need-returns-4
-returns-4 c =
-    entry-bad
-    (block-fault _ _ (c .before .before .before .before .before .before .before .before .before .before .before .before .pre .1 .1 .1 .1 .1 .1 .0) (block-of-bad (c .before .before .before .before .before .read-block-lines .ensures) _ (c .before .i2 .given .1)))
+returns-4 c = entry-bad (block-fault _ _ (c .before .before .before .before .before .before .before .before .before .before .before .before .pre .1 .1 .1 .1 .1 .1 .0) (lines-bad (c .before .before .before .before .before .read-lines .ensures) _ (c .before .i2 .given .1)))
 
 pub read-block-spec : {M : Type 1} → statement M
 read-block-spec =
     tie.close
     (tie.spec
-    read-block-lines-requires
+    read-lines-requires
     enum-known-g
     block-by-requires
     enum-known-x

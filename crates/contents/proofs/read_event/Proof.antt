@@ -1,4 +1,6 @@
 -- `contents::read_event` meets its contract: what the lines say together is the event of the component, or breaks a rule.
+use mathlib.Core.Path.{_∙_}
+use Rattle.pieces.proofs.Columns.{stored-few, stored-long}
 use Rattle.contents.specs.Contents.{entry-unsupported, entry-bad}
 use Rattle.contents.proofs.LinesLaws.{lines-of, lines-unsupported, lines-bad}
 use Rattle.contents.proofs.Contents.{event-fault, event-small, event-good, event-broken}
@@ -7,8 +9,8 @@ use borrow.Author.Needs.{needs}
 use Rattle.contents.proofs.read_event.Statement.{statement}
 use Rattle.contents.proofs.read_event.Tie as tie
 
-read-event-lines-requires : tie.Need-read-event-lines-requires
-read-event-lines-requires c κs = search needs
+read-lines-requires : tie.Need-read-lines-requires
+read-lines-requires c κs = (c .before .before .before .before .before .before .pre .0, (c .before .before .before .before .before .before .pre .1 .0, (c .before .before .before .before .before .before .pre .1 .1 .1 .0, (c .before .before .before .before .before .before .pre .1 .1 .1 .1 .0, (c .before .before .before .before .before .before .pre .1 .1 .1 .1 .1 .0, c .before .before .before .before .before .before .pre .1 .1 .1 .1 .1 .1 .1 .1)))))
 
 enum-known-g : tie.Need-enum-known-g
 enum-known-g c = search needs
@@ -20,12 +22,10 @@ enum-known-e : tie.Need-enum-known-e
 enum-known-e c = search needs
 
 put-event-requires : tie.Need-put-event-requires
-put-event-requires c κs =
-    omega
-    (arith, c .before .before .before .before .before .before .before .before .before .before .before .before .before .before .pre .1 .1 .1 .1 .1 .0 .few, c .before .before .before .before .before .before .before .before .before .before .before .before .before .before .pre .1 .1 .0)
+put-event-requires c κs = omega (arith, c .before .before .before .before .before .before .before .before .before .before .before .before .before .before .before .before .before .pre .1 .1 .1 .1 .1 .0 .few, c .before .before .before .before .before .before .before .before .before .before .before .before .before .before .before .before .before .pre .1 .1 .0)
 
 store-event-requires : tie.Need-store-event-requires
-store-event-requires c κs = (c .before .before .before .before .before .before .before .before .before .before .before .before .before .before .before .before .before .before .pre .0, (c .before .before .before .before .before .before .before .before .before .before .before .before .before .before .before .before .before .before .pre .1 .0, (event-small _ _ (c .before .before .before .before .before .before .before .before .before .before .before .before .before .before .before .before .before .before .pre .1 .1 .1 .1 .1 .1 .0) (lines-of _ (c .before .before .before .before .before .before .before .before .before .before .before .before .read-event-lines .ensures) (c .before .before .before .before .before .before .before .before .before .before .g .given .1)) (c .before .before .before .before .before .before .before .before .event-by .ensures) _ (c .before .before .before .before .before .before .e .given .1), (c .before .before .before .before .before .before .before .before .before .before .before .before .before .before .before .before .before .before .pre .1 .1 .1 .1 .1 .1 .1 .0, c .before .before .before .before .before .before .before .before .before .before .before .before .before .before .before .before .before .before .pre .1 .1 .1 .1 .1 .1 .1 .1))))
+store-event-requires c κs = (stored-long ((lines-of (c .before .before .before .before .before .before .before .before .before .before .before .before .before .before .read-lines .ensures) _ _ (c .before .before .before .before .before .before .before .before .before .before .g .given .1)) .stored) ∙ c .before .before .before .before .before .before .before .before .before .before .before .before .before .before .before .before .before .before .before .before .before .pre .0, (stored-few ((lines-of (c .before .before .before .before .before .before .before .before .before .before .before .before .before .before .read-lines .ensures) _ _ (c .before .before .before .before .before .before .before .before .before .before .g .given .1)) .stored) (c .before .before .before .before .before .before .before .before .before .before .before .before .before .before .before .before .before .before .before .before .before .pre .1 .0), (event-small _ _ (c .before .before .before .before .before .before .before .before .before .before .before .before .before .before .before .before .before .before .before .before .before .pre .1 .1 .1 .1 .1 .1 .0) (lines-of (c .before .before .before .before .before .before .before .before .before .before .before .before .before .before .read-lines .ensures) _ _ (c .before .before .before .before .before .before .before .before .before .before .g .given .1)) (c .before .before .before .before .before .before .before .before .event-by .ensures) _ (c .before .before .before .before .before .before .e .given .1), (c .before .before .before .before .before .before .before .before .before .before .before .before .before .before .before .before .before .before .before .before .before .pre .1 .1 .1 .1 .1 .1 .1 .0, c .before .before .before .before .before .before .before .before .before .before .before .before .before .before .before .before .before .before .before .before .before .pre .1 .1 .1 .1 .1 .1 .1 .1))))
 
 enum-told : tie.Need-enum-told
 enum-told c = search needs
@@ -43,35 +43,31 @@ same-length-2 : tie.Need-same-length-2
 same-length-2 c = search needs
 
 returns : tie.Need-returns
-returns c =
-    event-good _ _
-    (c .before .before .before .before .before .before .before .before .before .before .before .before .before .before .before .before .before .before .before .before .before .pre .1 .1 .1 .1 .1 .1 .0)
-    (lines-of _ (c .before .before .before .before .before .before .before .before .before .before .before .before .before .before .before .read-event-lines .ensures) (c .before .before .before .before .before .before .before .before .before .before .before .before .before .g .given .1))
-    (c .before .before .before .before .before .before .before .before .before .before .before .event-by .ensures) _
-    (c .before .before .before .before .before .before .before .before .before .e .given .1)
-    (c .before .before .before .before .before .before .put-event .ensures)
-    (c .before .before .store-event .ensures)
+returns c = event-good _ _ (c .before .before .before .before .before .before .before .before .before .before .before .before .before .before .before .before .before .before .before .before .before .before .before .before .pre .1 .1 .1 .1 .1 .1 .0) (lines-of (c .before .before .before .before .before .before .before .before .before .before .before .before .before .before .before .before .before .read-lines .ensures) _ _ (c .before .before .before .before .before .before .before .before .before .before .before .before .before .g .given .1)) (c .before .before .before .before .before .before .before .before .before .before .before .event-by .ensures) _ (c .before .before .before .before .before .before .before .before .before .e .given .1) (c .before .before .before .before .before .before .put-event .ensures) (c .before .before .store-event .ensures)
+
+same-length-3 : tie.Need-same-length-3
+same-length-3 c = search needs
 
 returns-2 : tie.Need-returns-2
-returns-2 c =
-    event-broken _ _
-    (c .before .before .before .before .before .before .before .before .before .before .before .before .pre .1 .1 .1 .1 .1 .1 .0)
-    (lines-of _ (c .before .before .before .before .before .before .read-event-lines .ensures) (c .before .before .before .before .g .given .1))
-    (c .before .before .event-by .ensures) _ _ _ _ _ _ _ _ (c .enum-told .given .1)
+returns-2 c = event-broken _ _ (c .before .before .before .before .before .before .before .before .before .before .before .before .before .before .before .pre .1 .1 .1 .1 .1 .1 .0) (lines-of (c .before .before .before .before .before .before .before .before .read-lines .ensures) _ _ (c .before .before .before .before .g .given .1)) (c .before .before .event-by .ensures) _ _ _ _ (c .enum-told .given .1)
+
+same-length-4 : tie.Need-same-length-4
+same-length-4 c = search needs
 
 returns-3 : tie.Need-returns-3
-returns-3 c =
-    entry-unsupported
-    (event-fault _ _ (c .before .before .before .before .before .before .before .before .before .pre .1 .1 .1 .1 .1 .1 .0) (lines-unsupported _ (c .before .before .before .read-event-lines .ensures) (c .before .i .given .1)))
+returns-3 c = entry-unsupported (event-fault _ _ (c .before .before .before .before .before .before .before .before .before .before .before .before .pre .1 .1 .1 .1 .1 .1 .0) (lines-unsupported (c .before .before .before .before .before .read-lines .ensures) _ (c .before .i .given .1)))
+
+same-length-5 : tie.Need-same-length-5
+same-length-5 c = search needs
 
 returns-4 : tie.Need-returns-4
-returns-4 c = entry-bad (event-fault _ _ (c .before .before .before .before .before .before .before .before .before .pre .1 .1 .1 .1 .1 .1 .0) (lines-bad _ (c .before .before .before .read-event-lines .ensures) (c .before .i2 .given .1)))
+returns-4 c = entry-bad (event-fault _ _ (c .before .before .before .before .before .before .before .before .before .before .before .before .pre .1 .1 .1 .1 .1 .1 .0) (lines-bad (c .before .before .before .before .before .read-lines .ensures) _ (c .before .i2 .given .1)))
 
 pub read-event-spec : {M : Type 1} → statement M
 read-event-spec =
     tie.close
     (tie.spec
-    read-event-lines-requires
+    read-lines-requires
     enum-known-g
     event-by-requires
     enum-known-e
@@ -83,6 +79,9 @@ read-event-spec =
     same-length
     same-length-2
     returns
+    same-length-3
     returns-2
+    same-length-4
     returns-3
+    same-length-5
     returns-4)

@@ -1,26 +1,19 @@
--- The first byte decides which words are tried.
-use mathlib.Core.Path.{sym, ap, _∙_}
+-- The length of the name decides which words are tried.
+use mathlib.Core.Path.{refl, ap, _∙_}
 use mathlib.Core.Bool.{Bool, cond}
 use denote.Ref.{now}
-use Rattle.ascii.specs.Bytes.{upper}
 use Rattle.property.specs.declared.Scope.{Scope}
 use Rattle.property.specs.declared.Property.{Property}
-use Rattle.property.proofs.Properties.{by-first, event-unread}
+use Rattle.property.proofs.Properties.{by-length, event-unread}
 use borrow.Author.Needs.{needs}
 use Rattle.property.proofs.event_property.Statement.{statement}
 use Rattle.property.proofs.event_property.Tie as tie
 
-first-upper-requires : tie.Need-first-upper-requires
-first-upper-requires c κs = search needs
+event-of-five-requires : tie.Need-event-of-five-requires
+event-of-five-requires c κs = search needs
 
-event-d-requires : tie.Need-event-d-requires
-event-d-requires c κs = search needs
-
-event-e-requires : tie.Need-event-e-requires
-event-e-requires c κs = search needs
-
-event-r-requires : tie.Need-event-r-requires
-event-r-requires c κs = search needs
+event-of-six-requires : tie.Need-event-of-six-requires
+event-of-six-requires c κs = search needs
 
 slice-aggregate-same-name : tie.Need-slice-aggregate-same-name
 slice-aggregate-same-name c = search needs
@@ -40,6 +33,15 @@ same-name-requires-2 c κs = search needs
 property-if-requires-2 : tie.Need-property-if-requires-2
 property-if-requires-2 c κs = search needs
 
+slice-aggregate-same-name-3 : tie.Need-slice-aggregate-same-name-3
+slice-aggregate-same-name-3 c = search needs
+
+same-name-requires-3 : tie.Need-same-name-requires-3
+same-name-requires-3 c κs = search needs
+
+property-if-requires-3 : tie.Need-property-if-requires-3
+property-if-requires-3 c κs = search needs
+
 returns : tie.Need-returns
 returns c = search needs
 
@@ -47,33 +49,32 @@ returns-2 : tie.Need-returns-2
 returns-2 c = search needs
 
 returns-3 : tie.Need-returns-3
-returns-3 c = search needs
+returns-3 c = rw (by-length Scope.Event (now (c .before .before .before .before .before .args .name)) 7 (c .before .before .before .match .keys3)) (c .property-if .ensures ∙ ap (λ (t : Bool). cond t Property.Start Property.Unread) (c .before .same-name .ensures))
 
 returns-4 : tie.Need-returns-4
-unfolding upper
-returns-4 c = rw (by-first Scope.Event (now (c .before .before .before .before .before .before .args .name)) 83 (sym (c .before .before .before .before .first-upper .ensures) ∙ c .before .before .before .match .keys4)) (c .property-if .ensures ∙ ap (λ (t : Bool). cond t Property.Status Property.Unread) (c .before .same-name .ensures))
+returns-4 c = rw (by-length Scope.Event (now (c .before .before .before .before .before .args .name)) 8 (c .before .before .before .match .keys4)) (c .property-if2 .ensures ∙ ap (λ (t : Bool). cond t Property.Duration Property.Unread) (c .before .same-name2 .ensures))
 
 returns-5 : tie.Need-returns-5
-unfolding upper
-returns-5 c = rw (by-first Scope.Event (now (c .before .before .before .before .before .before .args .name)) 84 (sym (c .before .before .before .before .first-upper .ensures) ∙ c .before .before .before .match .keys5)) (c .property-if2 .ensures ∙ ap (λ (t : Bool). cond t Property.Transparency Property.Unread) (c .before .same-name2 .ensures))
+returns-5 c = rw (by-length Scope.Event (now (c .before .before .before .before .before .args .name)) 13 (c .before .before .before .match .keys5)) (c .property-if3 .ensures ∙ ap (λ (t : Bool). cond t Property.Unsupported Property.Unread) (c .before .same-name3 .ensures))
 
 returns-6 : tie.Need-returns-6
-returns-6 c = event-unread _ (now (c .before .before .before .args .name)) (c .before .first-upper .ensures) (c .match .rest .0 .0 .0 .0 .1) (c .match .rest .0 .0 .0 .1) (c .match .rest .0 .0 .1) (c .match .rest .0 .1) (c .match .rest .1)
+returns-6 c = event-unread (now (c .before .before .args .name)) _ refl (c .match .rest .0 .0 .0 .0 .1) (c .match .rest .0 .0 .0 .1) (c .match .rest .0 .0 .1) (c .match .rest .0 .1) (c .match .rest .1)
 
 pub event-property-spec : {M : Type 1} → statement M
 event-property-spec =
     tie.close
     (tie.spec
-    first-upper-requires
-    event-d-requires
-    event-e-requires
-    event-r-requires
+    event-of-five-requires
+    event-of-six-requires
     slice-aggregate-same-name
     same-name-requires
     property-if-requires
     slice-aggregate-same-name-2
     same-name-requires-2
     property-if-requires-2
+    slice-aggregate-same-name-3
+    same-name-requires-3
+    property-if-requires-3
     returns
     returns-2
     returns-3

@@ -1,6 +1,11 @@
--- Each arm is the definition's clause, at what the callees answer.
+-- Each arm is the definition's clause, at what the callees answer; the last is DTSTART and DTEND.
+use mathlib.Core.Path.{ap, _∙_}
 use Rattle.line.specs.Reading.{lineOf}
+use Rattle.property.specs.declared.Property.{Property}
+use mathlib.Core.Bool.{Bool, cond}
+use denote.Ref.{now}
 use Rattle.property.specs.Properties.{valueAs}
+use Rattle.property.proofs.Properties.{start-or-end}
 use borrow.Author.Needs.{needs}
 use Rattle.property.proofs.value_as.Statement.{statement}
 use Rattle.property.proofs.value_as.Tie as tie
@@ -8,26 +13,8 @@ use Rattle.property.proofs.value_as.Tie as tie
 enum-told : tie.Need-enum-told
 enum-told c = search needs
 
-time-of-requires : tie.Need-time-of-requires
-time-of-requires c κs = search needs
-
-start-by-requires : tie.Need-start-by-requires
-start-by-requires c κs = search needs
-
-unless-zoned-requires : tie.Need-unless-zoned-requires
-unless-zoned-requires c κs = search needs
-
 enum-told-2 : tie.Need-enum-told-2
 enum-told-2 c = search needs
-
-time-of-requires-2 : tie.Need-time-of-requires-2
-time-of-requires-2 c κs = search needs
-
-end-by-requires : tie.Need-end-by-requires
-end-by-requires c κs = search needs
-
-unless-zoned-requires-2 : tie.Need-unless-zoned-requires-2
-unless-zoned-requires-2 c κs = search needs
 
 enum-told-3 : tie.Need-enum-told-3
 enum-told-3 c = search needs
@@ -65,63 +52,52 @@ same-name-requires c κs = search needs
 enum-told-7 : tie.Need-enum-told-7
 enum-told-7 c = search needs
 
-periods-value-requires : tie.Need-periods-value-requires
-periods-value-requires c κs = search needs
+type-value-requires : tie.Need-type-value-requires
+type-value-requires c κs = search needs
 
-enum-told-8 : tie.Need-enum-told-8
-enum-told-8 c = search needs
+is-start-requires : tie.Need-is-start-requires
+is-start-requires c κs = search needs
 
-enum-told-9 : tie.Need-enum-told-9
-enum-told-9 c = search needs
+time-value-requires : tie.Need-time-value-requires
+time-value-requires c κs = search needs
 
 returns : tie.Need-returns
 unfolding valueAs
-returns c = simp (c .unless-zoned .ensures, c .before .start-by .ensures, c .before .before .time-of .ensures, c .before .before .before .enum-told .given .1)
+returns c = rw (c .enum-told .given .1)
 
 returns-2 : tie.Need-returns-2
 unfolding valueAs
-returns-2 c = simp (c .unless-zoned2 .ensures, c .before .end-by .ensures, c .before .before .time-of2 .ensures, c .before .before .before .enum-told2 .given .1)
+returns-2 c = rw (c .enum-told2 .given .1)
 
 returns-3 : tie.Need-returns-3
 unfolding valueAs lineOf
-returns-3 c = simp (c .duration-by .ensures, c .before .read-duration .ensures, c .before .before .before .before .before .before .pre .1, c .before .before .enum-told3 .given .1)
+returns-3 c = simp (c .duration-by .ensures, c .before .read-duration .ensures, c .before .before .before .before .before .before .pre .1 .0, c .before .before .enum-told3 .given .1)
 
 returns-4 : tie.Need-returns-4
 unfolding valueAs lineOf
-returns-4 c = simp (c .rule-value .ensures, c .before .rule-of .ensures, c .before .before .before .before .before .before .pre .1, c .before .before .enum-told4 .given .1)
+returns-4 c = simp (c .rule-value .ensures, c .before .rule-of .ensures, c .before .before .before .before .before .before .pre .1 .0, c .before .before .enum-told4 .given .1)
 
 returns-5 : tie.Need-returns-5
 unfolding valueAs lineOf
-returns-5 c = simp (c .status-named .ensures, c .before .before .before .before .before .pre .1, c .before .enum-told5 .given .1)
+returns-5 c = simp (c .status-named .ensures, c .before .before .before .before .before .pre .1 .0, c .before .enum-told5 .given .1)
 
 returns-6 : tie.Need-returns-6
 unfolding valueAs lineOf
-returns-6 c = simp (c .same-name .ensures, c .before .before .before .before .before .before .pre .1, c .before .before .enum-told6 .given .1)
+returns-6 c = simp (c .same-name .ensures, c .before .before .before .before .before .before .pre .1 .0, c .before .before .enum-told6 .given .1)
 
 returns-7 : tie.Need-returns-7
 unfolding valueAs
-returns-7 c = simp (c .periods-value .ensures, c .before .enum-told7 .given .1)
+returns-7 c = simp (c .type-value .ensures, c .before .enum-told7 .given .1)
 
 returns-8 : tie.Need-returns-8
-unfolding valueAs
-returns-8 c = rw (c .enum-told8 .given .1)
-
-returns-9 : tie.Need-returns-9
-unfolding valueAs
-returns-9 c = rw (c .enum-told9 .given .1)
+returns-8 c = c .time-value .ensures ∙ ap (λ (p : Property). valueAs p (c .before .before .before .before .before .args .c) (c .before .before .before .before .before .args .scope) (lineOf (now (c .before .before .before .before .before .args .line)))) (ap (λ (b : Bool). cond b Property.Start Property.End) (c .before .is-start .ensures) ∙ start-or-end _ (c .before .before .match .keys8))
 
 pub value-as-spec : {M : Type 1} → statement M
 value-as-spec =
     tie.close
     (tie.spec
     enum-told
-    time-of-requires
-    start-by-requires
-    unless-zoned-requires
     enum-told-2
-    time-of-requires-2
-    end-by-requires
-    unless-zoned-requires-2
     enum-told-3
     read-duration-requires
     duration-by-requires
@@ -134,9 +110,9 @@ value-as-spec =
     slice-aggregate-same-name
     same-name-requires
     enum-told-7
-    periods-value-requires
-    enum-told-8
-    enum-told-9
+    type-value-requires
+    is-start-requires
+    time-value-requires
     returns
     returns-2
     returns-3
@@ -144,5 +120,4 @@ value-as-spec =
     returns-5
     returns-6
     returns-7
-    returns-8
-    returns-9)
+    returns-8)

@@ -4,9 +4,6 @@ use Rattle.filter.proofs.RangesLaws.{line-overlaps, line-gives-none}
 use Rattle.filter.proofs.ranges.line_in.Statement.{statement}
 use Rattle.filter.proofs.ranges.line_in.Tie as tie
 
-property-value-of-requires : tie.Need-property-value-of-requires
-property-value-of-requires c κs = search needs
-
 gives-periods-requires : tie.Need-gives-periods-requires
 gives-periods-requires c κs = search needs
 
@@ -17,16 +14,15 @@ value-in-requires : tie.Need-value-in-requires
 value-in-requires c κs = search needs
 
 returns : tie.Need-returns
-returns c = line-overlaps _ _ _ _ (c .before .before .before .before .property-value-of .ensures) (c .before .before .before .gives-periods .ensures) (c .before .before .if1 .taken) (c .before .value .ensures) (c .value-in .ensures)
+returns c = line-overlaps _ _ _ _ (c .before .before .before .gives-periods .ensures _) (c .before .before .if1 .taken) (c .before .value .ensures) (c .value-in .ensures)
 
 returns-2 : tie.Need-returns-2
-returns-2 c = line-gives-none _ _ _ _ (c .before .before .property-value-of .ensures) (c .before .gives-periods .ensures) (c .if1 .left)
+returns-2 c = line-gives-none _ _ _ _ (c .before .gives-periods .ensures _) (c .if1 .left)
 
 pub line-in-spec : {M : Type 1} → statement M
 line-in-spec =
     tie.close
     (tie.spec
-    property-value-of-requires
     gives-periods-requires
     value-requires
     value-in-requires

@@ -60,7 +60,7 @@ line-in-requires c κs =
     (c .before .before .before .before .before .before .before .before .before .before .before .before .pre .1 .0)
     (property-at (c .before .before .before .before .before .loop .inv .left) (c .before .before .before .before .item-at .ensures) (c .before .before .enum-told .given .1))
     in
-    (c .before .before .before .before .before .before .before .before .before .before .before .before .pre .0, entry-name y (c .before .name-length .ensures) (c .line-at .ensures))
+    entry-name y (c .before .name-length .ensures) (c .line-at .ensures)
 
 returns : tie.Need-returns Inv-loop μ-loop
 returns c =

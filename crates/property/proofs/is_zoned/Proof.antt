@@ -1,0 +1,21 @@
+-- A line without parameters has no TZID.
+use Rattle.property.proofs.Properties.{plain-unzoned}
+use borrow.Author.Needs.{needs}
+use Rattle.property.proofs.is_zoned.Statement.{statement}
+use Rattle.property.proofs.is_zoned.Tie as tie
+
+returns : tie.Need-returns
+returns c = plain-unzoned _ (c .before .before .pre (c .if1 .taken))
+
+slice-aggregate-has-parameter : tie.Need-slice-aggregate-has-parameter
+slice-aggregate-has-parameter c = search needs
+
+has-parameter-requires : tie.Need-has-parameter-requires
+has-parameter-requires c κs = search needs
+
+returns-2 : tie.Need-returns-2
+returns-2 c = search needs
+
+pub is-zoned-spec : {M : Type 1} → statement M
+is-zoned-spec =
+    tie.close (tie.spec returns slice-aggregate-has-parameter has-parameter-requires returns-2)
