@@ -18,6 +18,7 @@ use Rattle.events.specs.Events.{event}
 use Rattle.recurrence.specs.Instances.{startOf, endOf, occurs, lengthBy, instancesAtMost}
 use Rattle.recurrence.specs.TimeRange.{overlaps, instanceIn}
 use Rattle.recurrence.specs.Candidates.{FirstCandidate, startsBefore}
+use Rattle.recurrence.proofs.Instances.{no-length-end}
 use Rattle.recurrence.proofs.Candidates.{few-before, none-after}
 use Rattle.pieces.specs.BusyPeriods.{listBelow, instancePeriod, eventPeriods, busyPeriod, entryPeriods, busyPeriods}
 use Rattle.pieces.specs.Columns.{Stored}
@@ -81,13 +82,12 @@ unfolding instancePeriod
 fails-period e k h = left-out (occurs e k) (busyPeriod (e .busy) (startOf e k) (endOf e k)) h
 
 module _ (e : Event) (k a b : ℕ) {o : List ℕ} {n : ℕ} {t : Bool} (h : t ≡ occurs e k) where
-  pub instance-stored : {o′ : List ℕ} {r s l : ℕ} → t ≡ true → s ≡ startOf e k → l ≡ lengthBy e (e .ending)
-      → Stored o n (pieceOf a b (busyPeriod (e .busy) s (s + l))) o′ r → Stored o n (piecesOf a b (instancePeriod e k)) o′ r
-  unfolding endOf
-  instance-stored {s = s} {l = l} q f g m =
+  pub instance-stored : {o′ : List ℕ} {r s f : ℕ} → t ≡ true → s ≡ startOf e k → f ≡ endOf e k
+      → Stored o n (pieceOf a b (busyPeriod (e .busy) s f)) o′ r → Stored o n (piecesOf a b (instancePeriod e k)) o′ r
+  instance-stored {s = s} {f = f} q x y m =
       stored-as m
-      (ap (λ (i : ℕ). pieceOf a b (busyPeriod (e .busy) i (i + l))) f
-      ∙ ap (λ (i : ℕ). pieceOf a b (busyPeriod (e .busy) (startOf e k) (startOf e k + i))) g
+      (ap (λ (i : ℕ). pieceOf a b (busyPeriod (e .busy) i f)) x
+      ∙ ap (λ (i : ℕ). pieceOf a b (busyPeriod (e .busy) (startOf e k) i)) y
       ∙ sym (ap (piecesOf a b) (occurs-period e k (sym h ∙ q)) ∙ one-piece a b _))
 
   pub instance-left : t ≡ false → Stored o n (piecesOf a b (instancePeriod e k)) o n
@@ -225,8 +225,7 @@ pub free-event : (e : Event) → isBusy (e .busy) ≡ false → (a b : ℕ) → 
 free-event e h a b = event-none e a b (λ k. free-none a b (startOf e k) (endOf e k) (e .busy) h)
 
 pub empty-event : (e : Event) → lengthBy e (e .ending) ≡ 0 → (a b : ℕ) → piecesOf a b (eventPeriods e) ≡ []
-unfolding endOf
-empty-event e h a b = event-none e a b (λ k. empty-none a b (startOf e k) (endOf e k) (e .busy) (let z : endOf e k ≡ startOf e k = omega arith in z))
+empty-event e h a b = event-none e a b (λ k. empty-none a b (startOf e k) (endOf e k) (e .busy) (no-length-end e k h))
 
 -- such an event by itself, in any range
 pub no-pieces : (a b : ℕ) (e : Event) → lengthBy e (e .ending) ≡ 0 → busyPieces a b (event e ∷ []) ≡ []

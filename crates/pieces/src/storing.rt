@@ -80,9 +80,16 @@ fn store_instance(column: &mut [u32], n: usize, e: Event, k: u64, a: u64, b: u64
     ensures { λ r. ⌜ Stored (now (column .entry)) n (piecesOf a b (instancePeriod e k)) (now (column .exit)) r ⌝ }
 {
     if instance::occurs(e, k) {
-        let start = instance::start_of(e, k);
         let busy = e.busy;
-        store_period(column, n, busy, start, start + instance::length_of(e), a, b)
+        store_period(
+            column,
+            n,
+            busy,
+            instance::start_of(e, k),
+            instance::end_of(e, k),
+            a,
+            b,
+        )
     } else {
         n
     }

@@ -6,7 +6,7 @@ use mathlib.Core.Bool.{Bool, true, false, cond}
 use native.Mathlib.Omega.{arith}
 use native.Mathlib.Nat.{mul-le-mul-right, mul-le-mul-left, div-mul-le-self, lt-div-mul-add, add-mul}
 use lib.Dec.{eqb, ltb}
-use borrow.Author.Tests.{ltb-true, ltb-false, lt-ltb}
+use borrow.Author.Tests.{ltb-true, ltb-false, lt-ltb, eqb-true, eqb-false}
 use Rattle.ascii.proofs.Bools.{and-left, and-right, and-both, clash, not-so}
 use Rattle.time.specs.Limits.{lastSecond}
 use Rattle.events.specs.declared.Event.{Event}
@@ -24,6 +24,20 @@ cond-span l false p = p
 pub span-small : {e : Event} → EventSmall e → spanOf e ≤ lastSecond
 unfolding spanOf
 span-small {e} h = cond-span _ (eqb (lengthBy e (e .ending)) 0) (length-small h)
+
+span-by : (l : ℕ) (t : Bool) → eqb l 0 ≡ t → (0 < cond t 1 l) × (l ≤ cond t 1 l)
+span-by l true q = (omega arith, omega (arith, eqb-true l 0 q))
+span-by l false q = let n = eqb-false l 0 q in (omega arith, omega arith)
+
+-- the span is a second at least
+pub span-some : (e : Event) → 0 < spanOf e
+unfolding spanOf
+span-some e = span-by (lengthBy e (e .ending)) _ refl .0
+
+-- and no instance ends later than its span after its start
+pub end-by-span : (e : Event) (k : ℕ) → endOf e k ≤ startOf e k + spanOf e
+unfolding endOf spanOf
+end-by-span e k = omega (arith, span-by (lengthBy e (e .ending)) _ refl .1)
 
 -- ---- the division
 
@@ -62,8 +76,9 @@ first-few s d span a g h = few-by s d span a (ltb a (s + span)) g h
 -- ---- instances in range
 
 pub in-range-ends : (e : Event) (a b k : ℕ) → instanceIn e a b k ≡ true → a < startOf e k + spanOf e
-unfolding instanceIn endOf spanOf
-in-range-ends e a b k h = overlapping-ends a b (startOf e k) (lengthBy e (e .ending)) (and-right (occurs e k) _ h)
+unfolding instanceIn
+in-range-ends e a b k h =
+    overlapping-ends a b (startOf e k) (endOf e k) _ (and-right (occurs e k) _ h) (omega (arith, span-some e)) (end-by-span e k)
 
 pub in-range-starts : (e : Event) (a b k : ℕ) → instanceIn e a b k ≡ true → startsBefore e b k ≡ true
 unfolding instanceIn startsBefore

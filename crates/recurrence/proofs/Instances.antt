@@ -15,7 +15,7 @@ use Rattle.events.specs.declared.Repeat.{Repeat}
 use Rattle.events.specs.declared.Event.{Event}
 use Rattle.events.specs.declared.Ending.{Ending}
 use Rattle.events.specs.Sizes.{EventSmall, EndingSmall}
-use Rattle.recurrence.specs.Instances.{stepOf, startOf, repeats, isInstance, occurs, defaultLength, lengthBy}
+use Rattle.recurrence.specs.Instances.{stepOf, startOf, repeats, isInstance, occurs, defaultLength, lengthBy, endOf}
 
 pub starts-rise : (e : Event) {j k : ℕ} → j ≤ k → startOf e j ≤ startOf e k
 unfolding startOf
@@ -92,3 +92,10 @@ length-by-small {e} h Ending.None p = omega (arith, default-small (e .kind))
 
 pub length-small : {e : Event} → EventSmall e → lengthBy e (e .ending) ≤ lastSecond
 length-small h = length-by-small h _ refl
+
+-- ---- when an instance ends
+
+-- of no length, where it starts
+pub no-length-end : (e : Event) (k : ℕ) → lengthBy e (e .ending) ≡ 0 → endOf e k ≡ startOf e k
+unfolding endOf
+no-length-end e k h = omega arith

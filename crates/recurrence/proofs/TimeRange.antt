@@ -1,12 +1,12 @@
 -- What overlaps a range begins before its end and ends after its start; lists of periods,
 -- and what a test that decides a statement says.
-use Prim.Native.Nat.{ℕ, _+_, _≤_, _<_}
+use Prim.Native.Nat.{ℕ, _≤_, _<_}
 use mathlib.Core.Path.{_≡_, refl, sym, ap, _∙_}
 use mathlib.Core.Bool.{Bool, true, false, cond, _&&_, _||_, or-assoc}
 use mathlib.Core.List.{List, [], _∷_, _++_}
 use native.Mathlib.Omega.{arith}
 use lib.Dec.{eqb, ltb, leb}
-use borrow.Author.Tests.{ltb-true, leb-true, eqb-true, eq-eqb}
+use borrow.Author.Tests.{ltb-true, leb-true}
 use Rattle.ascii.proofs.Bools.{and-left, and-right, not-so}
 use Rattle.periods.specs.declared.Period.{Period}
 use Rattle.events.specs.declared.Event.{Event}
@@ -23,20 +23,14 @@ pub overlapping-starts : (a b s t : ℕ) → overlaps a b s t ≡ true → s < b
 unfolding overlaps
 overlapping-starts a b s t h = overlaps-start a b s t (eqb s t) h
 
-span-of-some : (a s l : ℕ) (y : Bool) → eqb l 0 ≡ y → a < s + l → a < s + cond y 1 l
-span-of-some a s l true r p = omega (arith, eqb-true l 0 r)
-span-of-some a s l false r p = p
+-- and ends after its start, or starts there: whatever is past both ends of it is past that start
+overlaps-end : (a b s t n : ℕ) (x : Bool) → cond x (leb a s && ltb s b) (ltb a t && ltb s b) ≡ true → s < n → t ≤ n → a < n
+overlaps-end a b s t n true h p q = omega (arith, leb-true a s (and-left (leb a s) _ h))
+overlaps-end a b s t n false h p q = omega (arith, ltb-true a t (and-left (ltb a t) _ h))
 
--- and it ends after the range's start: of no length, it counts as a second
-overlaps-end : (a b s l : ℕ) (x : Bool) → eqb s (s + l) ≡ x → cond x (leb a s && ltb s b) (ltb a (s + l) && ltb s b) ≡ true → a < s + cond (eqb l 0) 1 l
-overlaps-end a b s l true q h =
-    let z : l ≡ 0 = omega (arith, eqb-true s (s + l) q) in
-    rw (eq-eqb l 0 z) (omega (arith, leb-true a s (and-left (leb a s) _ h)))
-overlaps-end a b s l false q h = span-of-some a s l _ refl (ltb-true a (s + l) (and-left (ltb a (s + l)) _ h))
-
-pub overlapping-ends : (a b s l : ℕ) → overlaps a b s (s + l) ≡ true → a < s + cond (eqb l 0) 1 l
+pub overlapping-ends : (a b s t n : ℕ) → overlaps a b s t ≡ true → s < n → t ≤ n → a < n
 unfolding overlaps
-overlapping-ends a b s l h = overlaps-end a b s l (eqb s (s + l)) refl h
+overlapping-ends a b s t n h p q = overlaps-end a b s t n (eqb s t) h p q
 
 pub starts-early : (e : Event) (a b k : ℕ) → instanceIn e a b k ≡ true → startOf e k < b
 unfolding instanceIn

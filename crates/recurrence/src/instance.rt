@@ -7,7 +7,7 @@ use time::date_time::Kind;
 use time::duration;
 ghost use mathlib.Core.Path.{_≡_};
 ghost use Prim.Native.Nat.{_≤_};
-ghost use Rattle.recurrence.specs.Instances.{stepOf, startOf, repeats, isInstance, occurs, defaultLength, lengthBy};
+ghost use Rattle.recurrence.specs.Instances.{stepOf, startOf, repeats, isInstance, occurs, defaultLength, lengthBy, endOf};
 ghost use Rattle.events.specs.Sizes.{EventSmall};
 
 // The seconds from one start to the next.
@@ -52,6 +52,15 @@ pub fn length_of(e: Event) -> u64
             default_length(kind)
         }
     }
+}
+
+// Instance k ends its length after its start.
+pub fn end_of(e: Event, k: u64) -> u64
+    requires { ⌜ EventSmall e ⌝ }
+    requires { ⌜ k ≤ 100000 ⌝ }
+    ensures { λ r. ⌜ r ≡ endOf e k ⌝ }
+{
+    start_of(e, k) + length_of(e)
 }
 
 // Does the rule have instance k, which starts at s?

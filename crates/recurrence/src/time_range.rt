@@ -33,8 +33,9 @@ pub fn instance_in(e: Event, a: u64, b: u64, k: u64) -> bool
     requires { ⌜ k ≤ 100000 ⌝ }
     ensures { λ r. ⌜ r ≡ instanceIn e a b k ⌝ }
 {
-    let s = instance::start_of(e, k);
-    instance::occurs(e, k) & overlaps(a, b, s, s + instance::length_of(e))
+    let start = instance::start_of(e, k);
+    let end = instance::end_of(e, k);
+    instance::occurs(e, k) & overlaps(a, b, start, end)
 }
 
 // The least k with a < s + span + k * d.

@@ -1,7 +1,5 @@
 -- An instance that stands has the piece of its period, any other none.
 use Rattle.pieces.proofs.BusyPeriods.{instance-stored, instance-left}
-use Rattle.recurrence.proofs.Instances.{start-small, length-small}
-use native.Mathlib.Omega.{arith}
 use borrow.Author.Needs.{needs}
 use Rattle.pieces.proofs.storing.store_instance.Statement.{statement}
 use Rattle.pieces.proofs.storing.store_instance.Tie as tie
@@ -12,11 +10,8 @@ occurs-requires c κs = search needs
 start-of-requires : tie.Need-start-of-requires
 start-of-requires c κs = search needs
 
-length-of-requires : tie.Need-length-of-requires
-length-of-requires c κs = search needs
-
-add-store-period : tie.Need-add-store-period
-add-store-period c = omega (arith, c .before .before .start-of .ensures, c .length-of .ensures, start-small (c .before .before .before .before .before .before .pre .1 .1 .0) (c .before .before .before .before .before .before .pre .1 .1 .1 .0), length-small (c .before .before .before .before .before .before .pre .1 .1 .0))
+end-of-requires : tie.Need-end-of-requires
+end-of-requires c κs = search needs
 
 store-period-requires : tie.Need-store-period-requires
 store-period-requires c κs = search needs
@@ -25,7 +20,11 @@ same-length : tie.Need-same-length
 same-length c = search needs
 
 returns : tie.Need-returns
-returns c = instance-stored _ _ _ _ (c .before .before .before .before .before .before .before .occurs .ensures) (c .before .before .before .before .before .before .if1 .taken) (c .before .before .before .before .before .start-of .ensures) (c .before .before .before .length-of .ensures) (c .before .before .store-period .ensures)
+returns c =
+    let ended = c .before .before .before in
+    let tested = ended .before .before .before in
+    instance-stored _ _ _ _ (tested .before .occurs .ensures) (tested .if1 .taken) (ended .before .start-of .ensures) (ended .end-of .ensures)
+    (c .before .before .store-period .ensures)
 
 returns-2 : tie.Need-returns-2
 returns-2 c = instance-left _ _ _ _ (c .before .occurs .ensures) (c .if1 .left)
@@ -36,8 +35,7 @@ store-instance-spec =
     (tie.spec
     occurs-requires
     start-of-requires
-    length-of-requires
-    add-store-period
+    end-of-requires
     store-period-requires
     same-length
     returns
