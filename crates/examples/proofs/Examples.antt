@@ -39,8 +39,8 @@ use Rattle.events.specs.Events.{Entry, event, block, kindNumber, sameKind, isDa
 use Rattle.events.specs.declared.Event.{Event}
 use Rattle.calendar.specs.Meaning.{Meaning, fault, calendar, scopeOf, componentScope, propertyValuesIn, faultOr, faultIn, valueFault, eventOf, blockOf, isBroken, brokenOr, ruleFault, periodsBy, blockPeriods, entryOf, entriesOf, fileLines, componentsOf, byRules, byValues, byNesting, byLines, contentsOf, meaningOf}
 use Rattle.recurrence.specs.Candidates.{firstAt, spanOf, candidateOf, startsBefore}
-use Rattle.recurrence.specs.Instances.{stepOf, startOf, repeats, isInstance, occurs, defaultLength, lengthBy, endOf}
-use Rattle.recurrence.specs.TimeRange.{EventIn, Decides, overlaps, instanceIn}
+use Rattle.recurrence.specs.Instances.{stepOf, startOf, repeats, isInstance, occurs, defaultLength, lengthBy, isZeroLength, endOf}
+use Rattle.recurrence.specs.TimeRange.{EventIn, Decides, endsAfter, instanceIn}
 use Rattle.recurrence.proofs.Instances.{instance-before, occurs-instance}
 use Rattle.recurrence.proofs.Candidates.{before-candidate, search-finds, search-ends}
 use Rattle.pieces.specs.BusyPeriods.{entryPeriods, busyPeriods}
@@ -187,7 +187,7 @@ test (time s (refused r)) = isFault r 3 (startingAt s)
 test (duration s (seconds n)) = ofEvent (lasting s) (hasLength n)
 test (duration s (refused r)) = isFault r 4 (lasting s)
 test (range ls a b t) = ofEvent (eventWith ls) (inRange a b t)
-test (noPiece ls a b) = ofEvent (eventWith ls) (hasLength 0)
+test (noPiece ls a b) = ofEvent (eventWith ls) isZeroLength
 test (periods ls n qs) = ofEntries (blockWith ls) (hasPeriods n qs)
 test (last ls k s) = ofEvent (eventWith ls) (isLast k s)
 
@@ -198,7 +198,7 @@ sound (time s (refused r)) h = is-fault r 3 _ h
 sound (duration s (seconds n)) h = of-event _ (hasLength n) _ (has-length n) h
 sound (duration s (refused r)) h = is-fault r 4 _ h
 sound (range ls a b t) h = of-event _ (inRange a b t) _ (in-range a b t) h
-sound (noPiece ls a b) h = of-event _ (hasLength 0) _ (λ e q. no-pieces a b e (has-length 0 e q)) h
+sound (noPiece ls a b) h = of-event _ isZeroLength _ (no-pieces a b) h
 sound (periods ls n qs) h = of-entries _ (hasPeriods n qs) _ (has-periods n qs) h
 sound (last ls k s) h = of-event _ (isLast k s) _ (is-last k s) h
 
@@ -213,5 +213,5 @@ all-hold (c ∷ cs) h = (sound c (and-left (test c) (tests cs) h), all-hold cs (
 
 -- document 01, Examples at the edges: every row holds
 pub edges : All table
-unfolding table calendarBytes meaningWith eventWith blockWith startingAt lasting isFault startsAt hasLength ofEvent ofEntries inRange isLast hasPeriods tests test isUtc samePeriod samePeriods isDigit upper sameName firstOutside before after splitParts headOf valueOf nameOf parameterTexts lineOf parametersNamed someList hasParameter hasTwice hasList digitPair pairAt joined yearAt checkedDay three dateAt checkedTime timeAt clockOf clockAt readDateTime isLeap yearDays daysBeforeYear monthLengths lengthIn beforeIn monthDays daysBeforeMonth dayNumber isDay timeStart nextStage weightOf blank withDigit fitting unitTo withUnit step textRuns finish durationText durationSeconds withinLimit limited readDuration epoch since utcSecond timesOr eventProperty propertyOf timeIn startBy unlessZoned durationBy valueAs propertyValueOf beforePeriods withPeriods atSecond timeBy readTime formOf timeOf reportPlace sameBusy faultOr byValues secondIn covers lead leadIf runs firstAt spanOf startsBefore stepOf startOf repeats isInstance occurs defaultLength lengthBy endOf overlaps instanceIn entryPeriods busyPeriods ofType coveredBy covered isLetter isNameByte isControl isName isBreak isBlank isFold unfolded cut contentLines scanStep isEnding scan isWellFormed lineCheckFrom lineCheck plainSplit valuesNamed firstValue delimiterOf isCalendar isEvent isFreeBusy mayBegin afterBegin afterEnd afterProperty walk outcome nestingOf delimitedFrom itemsOf treeOf componentsIn propertiesIn itemsBelow scopeOf componentScope propertyValuesIn faultIn valueFault eventOf blockOf isBroken brokenOr ruleFault periodsBy blockPeriods entryOf entriesOf fileLines componentsOf byRules byNesting byLines contentsOf meaningOf noProperties timeGiven durationGiven ruleGiven withProperty withProperties kindNumber sameKind isDate statedEnd statedDuration endingBy limitBy repeatBy daysBy intervalBy busyByStatus busyBy eventMade eventEnding eventFrom eventBy blockFrom blockBy freeBusyProperty endBy ruleValue busyNamed busyOf typeValue utcBy utcAt periodEnd periodTo periodFrom periodOf periodItems allPeriods goodPeriods numberTo frequencyPart intervalPart countBy namedPart partOf noParts withPart withParts ruleBy ruleOf decimal pooled
+unfolding table calendarBytes meaningWith eventWith blockWith startingAt lasting isFault startsAt hasLength ofEvent ofEntries inRange isLast hasPeriods tests test isUtc samePeriod samePeriods isDigit upper sameName firstOutside before after splitParts headOf valueOf nameOf parameterTexts lineOf parametersNamed someList hasParameter hasTwice hasList digitPair pairAt joined yearAt checkedDay three dateAt checkedTime timeAt clockOf clockAt readDateTime isLeap yearDays daysBeforeYear monthLengths lengthIn beforeIn monthDays daysBeforeMonth dayNumber isDay timeStart nextStage weightOf blank withDigit fitting unitTo withUnit step textRuns finish durationText durationSeconds withinLimit limited readDuration epoch since utcSecond timesOr eventProperty propertyOf timeIn startBy unlessZoned durationBy valueAs propertyValueOf beforePeriods withPeriods atSecond timeBy readTime formOf timeOf reportPlace sameBusy faultOr byValues secondIn covers lead leadIf runs firstAt spanOf startsBefore stepOf startOf repeats isInstance occurs defaultLength lengthBy isZeroLength endOf endsAfter instanceIn entryPeriods busyPeriods ofType coveredBy covered isLetter isNameByte isControl isName isBreak isBlank isFold unfolded cut contentLines scanStep isEnding scan isWellFormed lineCheckFrom lineCheck plainSplit valuesNamed firstValue delimiterOf isCalendar isEvent isFreeBusy mayBegin afterBegin afterEnd afterProperty walk outcome nestingOf delimitedFrom itemsOf treeOf componentsIn propertiesIn itemsBelow scopeOf componentScope propertyValuesIn faultIn valueFault eventOf blockOf isBroken brokenOr ruleFault periodsBy blockPeriods entryOf entriesOf fileLines componentsOf byRules byNesting byLines contentsOf meaningOf noProperties timeGiven durationGiven ruleGiven withProperty withProperties kindNumber sameKind isDate statedEnd statedDuration endingBy limitBy repeatBy daysBy intervalBy busyByStatus busyBy eventMade eventEnding eventFrom eventBy blockFrom blockBy freeBusyProperty endBy ruleValue busyNamed busyOf typeValue utcBy utcAt periodEnd periodTo periodFrom periodOf periodItems allPeriods goodPeriods numberTo frequencyPart intervalPart countBy namedPart partOf noParts withPart withParts ruleBy ruleOf decimal pooled
 edges = all-hold table refl

@@ -1,13 +1,13 @@
 -- Storing the piece of a period and the pieces of an event: instances that are not in range have none.
 use Prim.Native.Nat.{ℕ, zero, suc, _+_, _-_, _*_, _≤_, _<_, min, max}
 use mathlib.Core.Path.{_≡_, refl, sym, ap, _∙_, subst}
-use mathlib.Core.Bool.{Bool, true, false, cond, _&&_}
+use mathlib.Core.Bool.{Bool, true, false, not, _&&_}
 use mathlib.Core.List.{List, [], _∷_, _++_, append-nil}
 use native.Mathlib.Omega.{arith}
-use lib.Dec.{eqb, leb, ltb}
+use lib.Dec.{ltb}
 use lib.ListN.{length}
 use lib.Seq.{sets}
-use borrow.Author.Tests.{ltb-true, ltb-false, lt-ltb, eqb-true}
+use borrow.Author.Tests.{ltb-true, ltb-false, not-false}
 use Rattle.ascii.proofs.Bools.{and-left, and-right, and-both, clash, not-so}
 use Rattle.time.specs.Limits.{lastSecond}
 use Rattle.periods.specs.declared.BusyType.{BusyType}
@@ -15,10 +15,11 @@ use Rattle.periods.specs.BusyTypes.{reportPlace, isBusy, BusyPeriod}
 use Rattle.events.specs.declared.Event.{Event}
 use Rattle.events.specs.Sizes.{EventSmall}
 use Rattle.events.specs.Events.{event}
-use Rattle.recurrence.specs.Instances.{startOf, endOf, occurs, lengthBy, instancesAtMost}
-use Rattle.recurrence.specs.TimeRange.{overlaps, instanceIn}
+use Rattle.recurrence.specs.Instances.{startOf, endOf, occurs, isZeroLength, instancesAtMost}
+use Rattle.recurrence.specs.TimeRange.{instanceIn}
 use Rattle.recurrence.specs.Candidates.{FirstCandidate, startsBefore}
-use Rattle.recurrence.proofs.Instances.{no-length-end}
+use Rattle.recurrence.proofs.Instances.{zero-length-end}
+use Rattle.recurrence.proofs.TimeRange.{covering-in}
 use Rattle.recurrence.proofs.Candidates.{few-before, none-after}
 use Rattle.pieces.specs.BusyPeriods.{listBelow, instancePeriod, eventPeriods, busyPeriod, entryPeriods, busyPeriods}
 use Rattle.pieces.specs.Columns.{Stored}
@@ -95,30 +96,22 @@ module _ (e : Event) (k a b : ℕ) {o : List ℕ} {n : ℕ} {t : Bool} (h : t �
 
 -- ---- an event
 
--- what leaves a second in the range touches it
-piece-overlaps : (a b s t : ℕ) → max a s < min b t → overlaps a b s t ≡ true
-unfolding overlaps
-piece-overlaps a b s t h = go (eqb s t) refl
-  where
-    go : (y : Bool) → eqb s t ≡ y → cond y (leb a s && ltb s b) (ltb a t && ltb s b) ≡ true
-    go true q = absurd (omega (arith, eqb-true s t q))
-    go false q =
-        and-both (lt-ltb a t (omega (arith))) (lt-ltb s b (omega (arith)))
-
-piece-in : (a b s t : ℕ) (y : BusyType) → overlaps a b s t ≡ false → isPiece a b (busyPeriod y s t) ≡ false
-unfolding isPiece clipped
-piece-in a b s t y h = not-so _ (λ q. clash (piece-overlaps a b s t (ltb-true (max a s) (min b t) (and-right (isBusy y) _ q))) h)
-
 -- an instance that is not in range has no piece
+out-of-range-piece : (e : Event) (a b k : ℕ) → instanceIn e a b k ≡ false → occurs e k ≡ true → isPiece a b (busyPeriod (e .busy) (startOf e k) (endOf e k)) ≡ false
+unfolding isPiece clipped
+out-of-range-piece e a b k h o =
+    let s = startOf e k in
+    let t = endOf e k in
+    not-so _
+    (λ q.
+    let m = ltb-true (max a s) (min b t) (and-right (isBusy (e .busy)) _ q) in
+    clash (covering-in e a b k (max a s) o (omega arith) (omega arith) (omega arith) (omega arith)) h)
+
 out-of-range : (e : Event) (a b k : ℕ) → instanceIn e a b k ≡ false → piecesOf a b (instancePeriod e k) ≡ []
-unfolding instanceIn
 out-of-range e a b k h = go (occurs e k) refl
   where
     go : (t : Bool) → occurs e k ≡ t → piecesOf a b (instancePeriod e k) ≡ []
-    go true q =
-        ap (piecesOf a b) (occurs-period e k q)
-        ∙ one-piece a b _
-        ∙ is-none a b _ (piece-in a b (startOf e k) (endOf e k) (e .busy) (sym (ap (λ (t : Bool). t && overlaps a b (startOf e k) (endOf e k)) q) ∙ h))
+    go true q = ap (piecesOf a b) (occurs-period e k q) ∙ one-piece a b _ ∙ is-none a b _ (out-of-range-piece e a b k h q)
     go false q = ap (piecesOf a b) (fails-period e k q) ∙ piecesOf-none a b
 
 silent : (e : Event) (a b k : ℕ) (o : List ℕ) (n : ℕ) → instanceIn e a b k ≡ false → Stored o n (piecesOf a b (instancePeriod e k)) o n
@@ -224,22 +217,22 @@ module _ (e : Event) (a b : ℕ) (h : (k : ℕ) → isPiece a b (busyPeriod (e .
 pub free-event : (e : Event) → isBusy (e .busy) ≡ false → (a b : ℕ) → piecesOf a b (eventPeriods e) ≡ []
 free-event e h a b = event-none e a b (λ k. free-none a b (startOf e k) (endOf e k) (e .busy) h)
 
-pub empty-event : (e : Event) → lengthBy e (e .ending) ≡ 0 → (a b : ℕ) → piecesOf a b (eventPeriods e) ≡ []
-empty-event e h a b = event-none e a b (λ k. empty-none a b (startOf e k) (endOf e k) (e .busy) (no-length-end e k h))
+pub empty-event : (e : Event) → isZeroLength e ≡ true → (a b : ℕ) → piecesOf a b (eventPeriods e) ≡ []
+empty-event e h a b = event-none e a b (λ k. empty-none a b (startOf e k) (endOf e k) (e .busy) (zero-length-end e k h))
 
 -- such an event by itself, in any range
-pub no-pieces : (a b : ℕ) (e : Event) → lengthBy e (e .ending) ≡ 0 → busyPieces a b (event e ∷ []) ≡ []
+pub no-pieces : (a b : ℕ) (e : Event) → isZeroLength e ≡ true → busyPieces a b (event e ∷ []) ≡ []
 unfolding busyPieces busyPeriods entryPeriods
 no-pieces a b e h = ap (piecesOf a b) (append-nil (eventPeriods e)) ∙ empty-event e h a b
 
 -- by the test that the code makes of its place in a report and of its length
-pub no-event-pieces : (e : Event) {p n : ℕ} → p ≡ reportPlace (e .busy) → n ≡ lengthBy e (e .ending) → (ltb p 3 && ltb 0 n) ≡ false
+pub no-event-pieces : (e : Event) {p : ℕ} {z : Bool} → p ≡ reportPlace (e .busy) → z ≡ isZeroLength e → (ltb p 3 && not z) ≡ false
     → (a b : ℕ) → piecesOf a b (eventPeriods e) ≡ []
 unfolding isBusy
-no-event-pieces e {p} {n} q l h = go (ltb p 3) refl h
+no-event-pieces e {p} {z} q l h = go (ltb p 3) refl h
   where
-    go : (t : Bool) → ltb p 3 ≡ t → (t && ltb 0 n) ≡ false → (a b : ℕ) → piecesOf a b (eventPeriods e) ≡ []
-    go true u v = let z : n ≤ 0 = ltb-false 0 n v in empty-event e (omega arith)
+    go : (t : Bool) → ltb p 3 ≡ t → (t && not z) ≡ false → (a b : ℕ) → piecesOf a b (eventPeriods e) ≡ []
+    go true u v = empty-event e (sym l ∙ not-false z v)
     go false u v = free-event e (ap (λ (i : ℕ). ltb i 3) (sym q) ∙ u)
 
 pub unstored : {o : List ℕ} {n : ℕ} {ps : List BusyPeriod} → ps ≡ [] → Stored o n ps o n

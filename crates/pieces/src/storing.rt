@@ -113,13 +113,13 @@ fn store_instances(column: &mut [u32], first: usize, e: Event, a: u64, b: u64) -
     n
 }
 
-// Can the event have a piece in any range? Not where it is free, and not where its instances have no length.
+// Can the event have a piece in any range? Not where it is free, and not where it is of zero length.
 fn may_have_pieces(e: Event) -> bool
     requires { ⌜ EventSmall e ⌝ }
     ensures { λ r. ⌜ (r ≡ false → (a b : ℕ) → piecesOf a b (eventPeriods e) ≡ []) ⌝ }
 {
     let busy = e.busy;
-    (periods::report_place(busy) < 3) & (0 < instance::length_of(e))
+    (periods::report_place(busy) < 3) & !instance::is_zero_length(e)
 }
 
 // The pieces of an event. Where it can have none, none of its instances is looked at.

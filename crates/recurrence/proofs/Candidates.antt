@@ -11,11 +11,11 @@ use Rattle.ascii.proofs.Bools.{and-left, and-right, and-both, clash, not-so}
 use Rattle.time.specs.Limits.{lastSecond}
 use Rattle.events.specs.declared.Event.{Event}
 use Rattle.events.specs.Sizes.{EventSmall}
-use Rattle.recurrence.specs.Instances.{lengthBy, startOf, isInstance, occurs, endOf, stepOf}
+use Rattle.recurrence.specs.Instances.{lengthBy, isZeroLength, startOf, isInstance, endOf, stepOf}
 use Rattle.recurrence.specs.Candidates.{firstAt, spanOf, startsBefore, candidateOf, FirstCandidate}
 use Rattle.recurrence.specs.TimeRange.{instanceIn, EventIn, Decides}
 use Rattle.recurrence.proofs.Instances.{length-small, starts-rise, instance-before, occurs-instance, step-long, starts-long}
-use Rattle.recurrence.proofs.TimeRange.{overlapping-ends, starts-early}
+use Rattle.recurrence.proofs.TimeRange.{in-range-occurs, starts-early, ends-late}
 
 cond-span : (l : ℕ) (t : Bool) → l ≤ lastSecond → cond t 1 l ≤ lastSecond
 cond-span l true p = omega arith
@@ -23,7 +23,7 @@ cond-span l false p = p
 
 pub span-small : {e : Event} → EventSmall e → spanOf e ≤ lastSecond
 unfolding spanOf
-span-small {e} h = cond-span _ (eqb (lengthBy e (e .ending)) 0) (length-small h)
+span-small {e} h = cond-span _ (isZeroLength e) (length-small h)
 
 span-by : (l : ℕ) (t : Bool) → eqb l 0 ≡ t → (0 < cond t 1 l) × (l ≤ cond t 1 l)
 span-by l true q = (omega arith, omega (arith, eqb-true l 0 q))
@@ -31,12 +31,12 @@ span-by l false q = let n = eqb-false l 0 q in (omega arith, omega arith)
 
 -- the span is a second at least
 pub span-some : (e : Event) → 0 < spanOf e
-unfolding spanOf
+unfolding spanOf isZeroLength
 span-some e = span-by (lengthBy e (e .ending)) _ refl .0
 
 -- and no instance ends later than its span after its start
 pub end-by-span : (e : Event) (k : ℕ) → endOf e k ≤ startOf e k + spanOf e
-unfolding endOf spanOf
+unfolding endOf spanOf isZeroLength
 end-by-span e k = omega (arith, span-by (lengthBy e (e .ending)) _ refl .1)
 
 -- ---- the division
@@ -76,15 +76,11 @@ first-few s d span a g h = few-by s d span a (ltb a (s + span)) g h
 -- ---- instances in range
 
 pub in-range-ends : (e : Event) (a b k : ℕ) → instanceIn e a b k ≡ true → a < startOf e k + spanOf e
-unfolding instanceIn
-in-range-ends e a b k h =
-    overlapping-ends a b (startOf e k) (endOf e k) _ (and-right (occurs e k) _ h) (omega (arith, span-some e)) (end-by-span e k)
+in-range-ends e a b k h = ends-late e a b k _ h (omega (arith, span-some e)) (end-by-span e k)
 
 pub in-range-starts : (e : Event) (a b k : ℕ) → instanceIn e a b k ≡ true → startsBefore e b k ≡ true
-unfolding instanceIn startsBefore
-in-range-starts e a b k h =
-    and-both (occurs-instance e k (and-left (occurs e k) _ h))
-    (lt-ltb _ b (starts-early e a b k h))
+unfolding startsBefore
+in-range-starts e a b k h = and-both (occurs-instance e k (in-range-occurs e a b k h)) (lt-ltb _ b (starts-early e a b k h))
 
 pub starts-before-too : (e : Event) (b j k : ℕ) → j ≤ k → startsBefore e b k ≡ true → startsBefore e b j ≡ true
 unfolding startsBefore

@@ -15,7 +15,7 @@ use Rattle.events.specs.declared.Repeat.{Repeat}
 use Rattle.events.specs.declared.Event.{Event}
 use Rattle.events.specs.declared.Ending.{Ending}
 use Rattle.events.specs.Sizes.{EventSmall, EndingSmall}
-use Rattle.recurrence.specs.Instances.{stepOf, startOf, repeats, isInstance, occurs, defaultLength, lengthBy, endOf}
+use Rattle.recurrence.specs.Instances.{stepOf, startOf, repeats, isInstance, occurs, defaultLength, lengthBy, isZeroLength, endOf}
 
 pub starts-rise : (e : Event) {j k : ℕ} → j ≤ k → startOf e j ≤ startOf e k
 unfolding startOf
@@ -95,7 +95,7 @@ length-small h = length-by-small h _ refl
 
 -- ---- when an instance ends
 
--- of no length, where it starts
-pub no-length-end : (e : Event) (k : ℕ) → lengthBy e (e .ending) ≡ 0 → endOf e k ≡ startOf e k
-unfolding endOf
-no-length-end e k h = omega arith
+-- of zero length, where it starts
+pub zero-length-end : (e : Event) (k : ℕ) → isZeroLength e ≡ true → endOf e k ≡ startOf e k
+unfolding isZeroLength endOf
+zero-length-end e k h = omega (arith, eqb-true (lengthBy e (e .ending)) 0 h)

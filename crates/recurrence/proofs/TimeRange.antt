@@ -1,40 +1,51 @@
--- What overlaps a range begins before its end and ends after its start; lists of periods,
--- and what a test that decides a statement says.
+-- An instance in range starts before its end and ends after its start, and one that covers a second of it is in range;
+-- lists of periods, and what a test that decides a statement says.
 use Prim.Native.Nat.{ℕ, _≤_, _<_}
 use mathlib.Core.Path.{_≡_, refl, sym, ap, _∙_}
 use mathlib.Core.Bool.{Bool, true, false, cond, _&&_, _||_, or-assoc}
 use mathlib.Core.List.{List, [], _∷_, _++_}
 use native.Mathlib.Omega.{arith}
-use lib.Dec.{eqb, ltb, leb}
-use borrow.Author.Tests.{ltb-true, leb-true}
-use Rattle.ascii.proofs.Bools.{and-left, and-right, not-so}
+use lib.Dec.{ltb, leb}
+use borrow.Author.Tests.{ltb-true, leb-true, lt-ltb}
+use Rattle.ascii.proofs.Bools.{and-left, and-right, and-both, not-so}
 use Rattle.periods.specs.declared.Period.{Period}
 use Rattle.events.specs.declared.Event.{Event}
-use Rattle.recurrence.specs.Instances.{startOf, occurs, endOf}
-use Rattle.recurrence.specs.TimeRange.{overlaps, instanceIn, periodsOverlap, Decides}
-use Rattle.recurrence.proofs.Instances.{starts-rise}
+use Rattle.recurrence.specs.Instances.{startOf, endOf, isZeroLength, occurs}
+use Rattle.recurrence.specs.TimeRange.{overlaps, endsAfter, instanceIn, periodsOverlap, Decides}
+use Rattle.recurrence.proofs.Instances.{starts-rise, zero-length-end}
 
--- what touches a range starts before its end
-overlaps-start : (a b s t : ℕ) (x : Bool) → cond x (leb a s && ltb s b) (ltb a t && ltb s b) ≡ true → s < b
-overlaps-start a b s t true h = ltb-true s b (and-right (leb a s) _ h)
-overlaps-start a b s t false h = ltb-true s b (and-right (ltb a t) _ h)
+-- it stands
+pub in-range-occurs : (e : Event) (a b k : ℕ) → instanceIn e a b k ≡ true → occurs e k ≡ true
+unfolding instanceIn
+in-range-occurs e a b k h = and-left (occurs e k) _ (and-left (occurs e k && endsAfter e a k) _ h)
 
-pub overlapping-starts : (a b s t : ℕ) → overlaps a b s t ≡ true → s < b
-unfolding overlaps
-overlapping-starts a b s t h = overlaps-start a b s t (eqb s t) h
-
--- and ends after its start, or starts there: whatever is past both ends of it is past that start
-overlaps-end : (a b s t n : ℕ) (x : Bool) → cond x (leb a s && ltb s b) (ltb a t && ltb s b) ≡ true → s < n → t ≤ n → a < n
-overlaps-end a b s t n true h p q = omega (arith, leb-true a s (and-left (leb a s) _ h))
-overlaps-end a b s t n false h p q = omega (arith, ltb-true a t (and-left (ltb a t) _ h))
-
-pub overlapping-ends : (a b s t n : ℕ) → overlaps a b s t ≡ true → s < n → t ≤ n → a < n
-unfolding overlaps
-overlapping-ends a b s t n h p q = overlaps-end a b s t n (eqb s t) h p q
-
+-- it starts before the range's end
 pub starts-early : (e : Event) (a b k : ℕ) → instanceIn e a b k ≡ true → startOf e k < b
 unfolding instanceIn
-starts-early e a b k h = overlapping-starts a b (startOf e k) (endOf e k) (and-right (occurs e k) _ h)
+starts-early e a b k h = ltb-true (startOf e k) b (and-right (occurs e k && endsAfter e a k) _ h)
+
+ends-by : (a s t n : ℕ) (z : Bool) → cond z (leb a s) (ltb a t) ≡ true → s < n → t ≤ n → a < n
+ends-by a s t n true h p q = omega (arith, leb-true a s h)
+ends-by a s t n false h p q = omega (arith, ltb-true a t h)
+
+-- and what is past its start and not before its end is past the range's start
+pub ends-late : (e : Event) (a b k n : ℕ) → instanceIn e a b k ≡ true → startOf e k < n → endOf e k ≤ n → a < n
+unfolding instanceIn endsAfter
+ends-late e a b k n h p q =
+    ends-by a (startOf e k) (endOf e k) n (isZeroLength e) (and-right (occurs e k) _ (and-left (occurs e k && endsAfter e a k) _ h)) p q
+
+covering-ends : (e : Event) (a k : ℕ) → a < endOf e k → startOf e k < endOf e k → endsAfter e a k ≡ true
+unfolding endsAfter
+covering-ends e a k p q = go (isZeroLength e) refl
+  where
+    go : (z : Bool) → isZeroLength e ≡ z → cond z (leb a (startOf e k)) (ltb a (endOf e k)) ≡ true
+    go true h = absurd (omega (arith, zero-length-end e k h))
+    go false h = lt-ltb a (endOf e k) p
+
+-- an instance that covers a second of the range is in range
+pub covering-in : (e : Event) (a b k x : ℕ) → occurs e k ≡ true → startOf e k ≤ x → x < endOf e k → a ≤ x → x < b → instanceIn e a b k ≡ true
+unfolding instanceIn
+covering-in e a b k x o f t p q = and-both (and-both o (covering-ends e a k (omega arith) (omega arith))) (lt-ltb (startOf e k) b (omega arith))
 
 -- once an instance starts at b or later, none is in range
 pub none-late : (e : Event) (a b j k : ℕ) → k ≤ j → b ≤ startOf e k → instanceIn e a b j ≡ false

@@ -2,18 +2,18 @@
 use Prim.Native.Nat.{ℕ, _+_, _-_, _*_, _/_, _≤_, _<_}
 use mathlib.Core.Path.{_≡_}
 use mathlib.Core.Bool.{Bool, false, cond, _&&_}
-use lib.Dec.{eqb, ltb}
+use lib.Dec.{ltb}
 use Rattle.events.specs.declared.Event.{Event}
-use Rattle.recurrence.specs.Instances.{stepOf, startOf, isInstance, lengthBy}
+use Rattle.recurrence.specs.Instances.{stepOf, startOf, isInstance, lengthBy, isZeroLength}
 use Rattle.recurrence.specs.TimeRange.{instanceIn}
 
 -- the least k with a < s + span + k * d
 unfoldable pub firstAt : ℕ → ℕ → ℕ → ℕ → ℕ
 firstAt s d span a = cond (ltb a (s + span)) 0 ((a - (s + span)) / d + 1)
 
--- an instance without a length is in range where one of a second is
+-- an instance of zero length is in range where one of a second is
 unfoldable pub spanOf : Event → ℕ
-spanOf e = cond (eqb (lengthBy e (e .ending)) 0) 1 (lengthBy e (e .ending))
+spanOf e = cond (isZeroLength e) 1 (lengthBy e (e .ending))
 
 -- the number that the division finds
 abbrev pub candidateOf : Event → ℕ → ℕ

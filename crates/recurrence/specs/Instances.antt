@@ -46,6 +46,10 @@ lengthBy e (Ending.End t) = t - e .start
 lengthBy e (Ending.Lasts d) = durationSeconds d
 lengthBy e Ending.None = defaultLength (e .kind)
 
+-- zero length: an instance ends where it starts
+unfoldable pub isZeroLength : Event → Bool
+isZeroLength e = eqb (lengthBy e (e .ending)) 0
+
 -- instance k ends its length after its start
 unfoldable pub endOf : Event → ℕ → ℕ
 endOf e k = startOf e k + lengthBy e (e .ending)

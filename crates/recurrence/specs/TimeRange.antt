@@ -9,15 +9,19 @@ use Rattle.periods.specs.BusyTypes.{BusyPeriod, periodsOf}
 use Rattle.events.specs.declared.Event.{Event}
 use Rattle.events.specs.declared.Bound.{Bound}
 use Rattle.events.specs.declared.Block.{Block}
-use Rattle.recurrence.specs.Instances.{startOf, endOf, occurs}
+use Rattle.recurrence.specs.Instances.{startOf, endOf, isZeroLength, occurs}
 
 -- what stands from s to t, against the range: start < t and end > s; where it has no length, start ≤ s and s < end
 unfoldable pub overlaps : ℕ → ℕ → ℕ → ℕ → Bool
 overlaps a b s t = cond (eqb s t) (leb a s && ltb s b) (ltb a t && ltb s b)
 
--- instance k of an event is in range
+-- instance k ends after a; of zero length, it starts at a or later
+unfoldable pub endsAfter : Event → ℕ → ℕ → Bool
+endsAfter e a k = cond (isZeroLength e) (leb a (startOf e k)) (ltb a (endOf e k))
+
+-- instance k of an event is in range: it stands, ends after the range's start, and starts before its end
 unfoldable pub instanceIn : Event → ℕ → ℕ → ℕ → Bool
-instanceIn e a b k = occurs e k && overlaps a b (startOf e k) (endOf e k)
+instanceIn e a b k = occurs e k && endsAfter e a k && ltb (startOf e k) b
 
 -- an event is in range where some instance is
 pub record EventIn (e : Event) (a b : ℕ) : Type 0 where

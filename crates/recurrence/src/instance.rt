@@ -7,7 +7,7 @@ use time::date_time::Kind;
 use time::duration;
 ghost use mathlib.Core.Path.{_≡_};
 ghost use Prim.Native.Nat.{_≤_};
-ghost use Rattle.recurrence.specs.Instances.{stepOf, startOf, repeats, isInstance, occurs, defaultLength, lengthBy, endOf};
+ghost use Rattle.recurrence.specs.Instances.{stepOf, startOf, repeats, isInstance, occurs, defaultLength, lengthBy, isZeroLength, endOf};
 ghost use Rattle.events.specs.Sizes.{EventSmall};
 
 // The seconds from one start to the next.
@@ -52,6 +52,14 @@ pub fn length_of(e: Event) -> u64
             default_length(kind)
         }
     }
+}
+
+// Do its instances end where they start?
+pub fn is_zero_length(e: Event) -> bool
+    requires { ⌜ EventSmall e ⌝ }
+    ensures { λ r. ⌜ r ≡ isZeroLength e ⌝ }
+{
+    length_of(e) == 0
 }
 
 // Instance k ends its length after its start.

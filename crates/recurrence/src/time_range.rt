@@ -6,7 +6,7 @@ ghost use mathlib.Core.Path.{_≡_};
 ghost use Prim.Native.Nat.{_≤_};
 ghost use Rattle.time.specs.Limits.{lastSecond};
 ghost use Rattle.events.specs.Sizes.{EventSmall};
-ghost use Rattle.recurrence.specs.TimeRange.{overlaps, instanceIn, betweenIn};
+ghost use Rattle.recurrence.specs.TimeRange.{overlaps, endsAfter, instanceIn, betweenIn};
 ghost use Rattle.recurrence.specs.Candidates.{firstAt, spanOf, FirstCandidate, startsBefore};
 
 // What stands from s to t, against the range.
@@ -27,15 +27,26 @@ pub fn between_in(a: u64, b: u64, s: u64, t: u64) -> bool
     overlaps(a, b, s, t)
 }
 
+// Does instance k end after a, or, of zero length, start at a or later?
+fn ends_after(e: Event, a: u64, k: u64) -> bool
+    requires { ⌜ EventSmall e ⌝ }
+    requires { ⌜ k ≤ 100000 ⌝ }
+    ensures { λ r. ⌜ r ≡ endsAfter e a k ⌝ }
+{
+    if instance::is_zero_length(e) {
+        a <= instance::start_of(e, k)
+    } else {
+        a < instance::end_of(e, k)
+    }
+}
+
 // Is instance k in range?
 pub fn instance_in(e: Event, a: u64, b: u64, k: u64) -> bool
     requires { ⌜ EventSmall e ⌝ }
     requires { ⌜ k ≤ 100000 ⌝ }
     ensures { λ r. ⌜ r ≡ instanceIn e a b k ⌝ }
 {
-    let start = instance::start_of(e, k);
-    let end = instance::end_of(e, k);
-    instance::occurs(e, k) & overlaps(a, b, start, end)
+    instance::occurs(e, k) & ends_after(e, a, k) & (instance::start_of(e, k) < b)
 }
 
 // The least k with a < s + span + k * d.
@@ -50,13 +61,16 @@ fn first_at(s: u64, d: u64, span: u64, a: u64) -> u64
     if a < end { 0 } else { (a - end) / d + 1 }
 }
 
-// The length, and one second where there is none.
+// The length, and one second where it is zero.
 fn span_of(e: Event) -> u64
     requires { ⌜ EventSmall e ⌝ }
     ensures { λ r. ⌜ r ≡ spanOf e ⌝ }
 {
-    let length = instance::length_of(e);
-    if length == 0 { 1 } else { length }
+    if instance::is_zero_length(e) {
+        1
+    } else {
+        instance::length_of(e)
+    }
 }
 
 // The first instance that ends after a, by one division.
