@@ -8,7 +8,7 @@ use lib.Dec.{eqb, ltb}
 use borrow.Author.Tests.{eqb-true, ltb-true, not-true}
 use Rattle.ascii.specs.Bytes.{isDigit, isLetter, isNameByte, isControl, upper}
 use Rattle.ascii.specs.Names.{sameName, isName}
-use Rattle.ascii.proofs.Bools.{and-left, and-right, clash, not-so}
+use Rattle.ascii.proofs.Bools.{and-left, and-right, clash}
 use Rattle.text.specs.Unfolding.{isBreak, isBlank, isFold, unfolded}
 use Rattle.text.specs.Lines.{cut, contentLines}
 use Rattle.time.specs.DateTime.{digitPair, pairAt, joined, yearAt, checkedDay, three, dateAt, checkedTime, timeAt, clockOf, clockAt, readDateTime}
@@ -41,8 +41,8 @@ use Rattle.calendar.specs.Meaning.{Meaning, fault, calendar, scopeOf, component
 use Rattle.recurrence.specs.Candidates.{firstAt, spanOf, candidateOf, startsBefore}
 use Rattle.recurrence.specs.Instances.{stepOf, startOf, repeats, isInstance, occurs, defaultLength, lengthBy, isZeroLength, endOf}
 use Rattle.recurrence.specs.TimeRange.{EventIn, Decides, endsAfter, instanceIn}
-use Rattle.recurrence.proofs.Instances.{instance-before, occurs-instance}
-use Rattle.recurrence.proofs.Candidates.{before-candidate, search-finds, search-ends}
+use Rattle.recurrence.proofs.Instances.{none-stands}
+use Rattle.recurrence.proofs.Candidates.{before-candidate, none-after, search-finds, search-ends}
 use Rattle.pieces.specs.BusyPeriods.{entryPeriods, busyPeriods}
 use Rattle.pieces.specs.Covered.{ofType, coveredBy, covered}
 use Rattle.examples.specs.Examples.{seconds, refused, Claim, time, duration, range, noPiece, periods, last, calendarBytes, meaningWith, eventWith, blockWith, startingAt, lasting, OneEvent, Entries, Last, Holds, All, table}
@@ -76,16 +76,13 @@ same-periods (p ∷ ps) (q ∷ qs) h =
 
 -- ---- the last instance
 
-none-later-by : (e : Event) (k : ℕ) → isInstance e (k + 1) ≡ false → (j : ℕ) → k < j → occurs e j ≡ false
-none-later-by e k q j p = not-so _ (λ h. clash (instance-before e (k + 1) j (omega arith) (occurs-instance e j h)) q)
-
 last-by : (e : Event) (k s : ℕ) → (occurs e k && (eqb (startOf e k) s && not (isInstance e (k + 1)))) ≡ true → Last e k s
 last-by e k s h =
     let m = and-right (occurs e k) _ h in
     record {
       there = and-left (occurs e k) _ h;
       starts = eqb-true _ s (and-left (eqb (startOf e k) s) _ m);
-      none-later = none-later-by e k (not-true _ (and-right (eqb (startOf e k) s) _ m));
+      none-later = λ j p. none-stands e (k + 1) (not-true _ (and-right (eqb (startOf e k) s) _ m)) j (omega arith);
     }
 
 -- ---- what a calendar means
@@ -163,7 +160,7 @@ unfolding inRange
 in-range a b true e h = search-finds _ h
 in-range a b false e h =
     let some-step = ltb-true 0 (stepOf e) (and-right (not (startsBefore e b (candidateOf e a))) _ h) in
-    search-ends _ (before-candidate e a some-step b) (not-true _ (and-left _ (ltb 0 (stepOf e)) h))
+    search-ends _ (before-candidate e a some-step b) (none-after e b _ (not-true _ (and-left _ (ltb 0 (stepOf e)) h)) a)
 
 isLast : ℕ → ℕ → Event → Bool
 isLast k s e = occurs e k && (eqb (startOf e k) s && not (isInstance e (k + 1)))

@@ -40,8 +40,8 @@ use Rattle.calendar.proofs.Periods.{periods-all}
 use Rattle.calendar.proofs.Meaning.{eventOf-small}
 use Rattle.events.specs.Sizes.{EventSmall}
 use Rattle.recurrence.specs.TimeRange.{overlaps, instanceIn, EventIn, betweenIn, periodsOverlap, boundsIn, blockIn, Decides}
-use Rattle.recurrence.specs.Candidates.{FirstCandidate, startsBefore}
-use Rattle.recurrence.proofs.Candidates.{few-before, in-range-starts, search-ends}
+use Rattle.recurrence.specs.Candidates.{FirstCandidate, MoreCandidates}
+use Rattle.recurrence.proofs.Candidates.{in-range-few, search-ends}
 use Rattle.recurrence.proofs.TimeRange.{decided-once, periods-append}
 use Rattle.recurrence.specs.Instances.{instancesAtMost}
 use Rattle.contents.specs.EntryRows.{EntryRows}
@@ -177,18 +177,15 @@ some-at e a b (suc n) h = go (instanceIn e a b n) refl (some-at e a b n)
 pub some-decides : {e : Event} (a b : ℕ) → EventSmall e → b ≤ lastSecond → Decides (someBelow instancesAtMost (instanceIn e a b)) (EventIn e a b)
 some-decides {e} a b h p = go (someBelow instancesAtMost (instanceIn e a b)) refl
   where
-    few : (k : ℕ) → instanceIn e a b k ≡ true → k < instancesAtMost
-    few k q = omega (arith, few-before h p (in-range-starts e a b k q))
-
     go : (t : Bool) → someBelow instancesAtMost (instanceIn e a b) ≡ t → Decides t (EventIn e a b)
     go true q = record { holds = λ z. some-at e a b instancesAtMost q; fails = λ z i. clash refl z }
-    go false q = record { holds = λ z. clash z refl; fails = λ z i. clash (i .passes) (none-at (instanceIn e a b) instancesAtMost (i .number) (few (i .number) (i .passes)) q) }
+    go false q = record { holds = λ z. clash z refl; fails = λ z i. clash (i .passes) (none-at (instanceIn e a b) instancesAtMost (i .number) (in-range-few a b (i .number) h p (i .passes)) q) }
 
 -- an event without an instance from the first candidate on is in no range
-pub none-from : {e : Event} {a b k : ℕ} {r : Bool} → EventSmall e → b ≤ lastSecond → FirstCandidate e a k → r ≡ startsBefore e b k → not r ≡ true
+pub none-from : {e : Event} {a b k : ℕ} {r : Bool} → EventSmall e → b ≤ lastSecond → FirstCandidate e a k → MoreCandidates e b k r → not r ≡ true
     → someBelow instancesAtMost (instanceIn e a b) ≡ false
-none-from {e} {a} {b} {k} h p f q n =
-    sym (decided-once false _ (search-ends k (f .none-before b) (sym q ∙ not-true _ n)) (some-decides a b h p))
+none-from {e} {a} {b} {k} h p f m n =
+    sym (decided-once false _ (search-ends k (f .none-before b) (m .none-from (not-true _ n) a)) (some-decides a b h p))
 
 -- ---- what a component is, by its row
 

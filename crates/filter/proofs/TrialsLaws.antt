@@ -1,15 +1,15 @@
 -- Laws of what is tried of a component: what a trial decides, what one look at a row rules out, and the search through the instances.
 use Prim.Native.Nat.{ℕ, zero, suc, _+_, _-_, _*_, _≤_, _<_}
 use mathlib.Core.Path.{_≡_, refl, sym, ap, _∙_, subst}
-use mathlib.Core.Bool.{Bool, true, false, not, _&&_, _||_, and-false}
+use mathlib.Core.Bool.{Bool, true, false, not, _&&_, _||_, and-true, and-false}
 use mathlib.Core.List.{List, _∷_}
 use native.Mathlib.Omega.{arith}
 use lib.Dec.{eqb}
 use lib.ListN.{getD}
 use borrow.Author.Count.{below-more}
-use borrow.Author.Tests.{eqb-true, eqb-false}
+use borrow.Author.Tests.{eqb-true, eqb-false, ne-eqb}
 use Rattle.time.specs.Limits.{lastSecond}
-use Rattle.ascii.proofs.Bools.{clash}
+use Rattle.ascii.proofs.Bools.{and-left, clash}
 use Rattle.query.specs.Records.{rangeStart, rangeEnd, textOf, componentAt}
 use Rattle.query.specs.Counting.{someBelow}
 use Rattle.query.specs.declared.Sections.{Sections}
@@ -28,9 +28,9 @@ use Rattle.events.specs.Sizes.{EventSmall}
 use Rattle.calendar.specs.Meaning.{componentScope, eventOf, blockPeriods}
 use Rattle.calendar.proofs.Meaning.{eventOf-small}
 use Rattle.recurrence.specs.TimeRange.{instanceIn, blockIn}
-use Rattle.recurrence.specs.Candidates.{FirstCandidate, startsBefore}
+use Rattle.recurrence.specs.Candidates.{FirstCandidate, MoreCandidates}
 use Rattle.recurrence.specs.Instances.{instancesAtMost}
-use Rattle.recurrence.proofs.Candidates.{search-finds, search-ends, few-before}
+use Rattle.recurrence.proofs.Candidates.{search-finds, search-ends}
 use Rattle.recurrence.proofs.TimeRange.{decided-once}
 use Rattle.ascii.specs.Names.{sameName}
 use Rattle.query.specs.declared.ComponentRecord.{ComponentRecord}
@@ -38,7 +38,7 @@ use Rattle.structure.proofs.RowsLaws.{inner-list}
 use Rattle.property_tests.specs.PropertyTests.{propertiesHold}
 use Rattle.filter.specs.Tests.{eventIn, blockRangeIn, componentIn, rangeHolds, someComponent, childrenHold}
 use Rattle.filter.specs.Ranges.{Given, Here, RowSmall, EndsOutside, RowOutside, RuledOut}
-use Rattle.filter.specs.Trials.{trialHolds, trialPasses, trialGoesOn, Tried, SmallTrial, TrialOf, isCalled, componentFits, Unfit, other-name, out-of-range, other-lines, Alone}
+use Rattle.filter.specs.Trials.{trialHolds, trialPasses, Tried, MoreTrials, SmallTrial, TrialOf, isCalled, componentFits, Unfit, other-name, out-of-range, other-lines, Alone}
 use Rattle.filter.specs.declared.trials.Trial.{Trial}
 use Rattle.filter.proofs.RangesLaws.{some-decides, none-from, by-kind, event-of, block-of, ruled-out-fails}
 use Rattle.filter.proofs.Tests.{someHere}
@@ -126,7 +126,7 @@ module _ {rows column : List ℕ} {k : ℕ} (m : RowSmall rows column k) {n : �
   pub looked-small : {e : Event} → n ≡ 1 → e ≡ eventAt column k → EventSmall e
   looked-small o x = subst (λ (y : Event). EventSmall y) (sym x) (m .event-small (sym z ∙ o))
 
-  pub looked-event : {e : Event} {a b i : ℕ} {r : Bool} → n ≡ 1 → e ≡ eventAt column k → b ≤ lastSecond → FirstCandidate e a i → r ≡ startsBefore e b i
+  pub looked-event : {e : Event} {a b i : ℕ} {r : Bool} → n ≡ 1 → e ≡ eventAt column k → b ≤ lastSecond → FirstCandidate e a i → MoreCandidates e b i r
       → not r ≡ true → RowOutside rows column k a b
   looked-event {e} {a} {b} o x l f q y =
       record {
@@ -157,54 +157,54 @@ module _ {t : Trial} where
 
     pub instances-tried : (k : ℕ) → FirstCandidate e a k → Tried t k
     instances-tried k f =
-        subst (λ (x : Trial). Tried x k) (sym q) (record { few = omega (arith, f .few); none = unfold trialPasses in f .none-before b })
+        subst (λ (x : Trial). Tried x k) (sym q) (record { none-before = unfold trialPasses in f .none-before b; few = omega (arith, f .few) })
 
-    pub instances-on : {r : Bool} (k : ℕ) → r ≡ trialGoesOn (Trial.Instances e a b) k → r ≡ trialGoesOn t k
-    instances-on k h = h ∙ ap (λ (x : Trial). trialGoesOn x k) (sym q)
+    pub instances-on : {r : Bool} (k : ℕ) → MoreCandidates e b k r → MoreTrials t k r
+    instances-on {r} k m =
+        subst (λ (x : Trial). MoreTrials x k r) (sym q) (record { none-from = unfold trialPasses in λ z j p. m .none-from z a j p; few = m .few })
 
     pub instances-pass : {r : Bool} (k : ℕ) → r ≡ trialPasses (Trial.Instances e a b) k → r ≡ trialPasses t k
     instances-pass k h = h ∙ ap (λ (x : Trial). trialPasses x k) (sym q)
 
   module _ (b : Bool) (q : t ≡ Trial.Once b) where
     pub once-tried : Tried t 0
-    once-tried = record { few = omega arith; none = λ j h. absurd (omega arith) }
+    once-tried = record { none-before = λ j h. absurd (omega arith); few = omega arith }
 
-    pub once-on : (k : ℕ) → eqb k 0 ≡ trialGoesOn t k
-    unfolding trialGoesOn
-    once-on k = ap (λ (x : Trial). trialGoesOn x k) (sym q)
+    none-later : (k : ℕ) → eqb k 0 ≡ false → (j : ℕ) → k ≤ j → trialPasses (Trial.Once b) j ≡ false
+    unfolding trialPasses
+    none-later k z j p =
+        let n = eqb-false k 0 z in
+        ap (λ (x : Bool). b && x) (ne-eqb j 0 (λ y. n (omega arith))) ∙ and-false b
 
-    pub once-passes : (k : ℕ) → b ≡ trialPasses t k
+    pub once-on : (k : ℕ) → MoreTrials t k (eqb k 0)
+    once-on k =
+        subst (λ (x : Trial). MoreTrials x k (eqb k 0)) (sym q) (record { none-from = none-later k; few = λ z. omega (arith, eqb-true k 0 z) })
+
+    pub once-passes : (k : ℕ) → (b && eqb k 0) ≡ trialPasses t k
     unfolding trialPasses
     once-passes k = ap (λ (x : Trial). trialPasses x k) (sym q)
-
-tried-few : (t : Trial) {k : ℕ} → SmallTrial t → trialGoesOn t k ≡ true → k ≤ 47482
-unfolding trialGoesOn
-tried-few (Trial.Instances e a b) h q = few-before (h .0) (h .2) q
-tried-few (Trial.Once t) {k} h q = omega (arith, eqb-true k 0 q)
 
 found-holds : (t : Trial) (k : ℕ) → SmallTrial t → trialPasses t k ≡ true → trialHolds t ≡ true
 unfolding trialPasses trialHolds
 found-holds (Trial.Instances e a b) k h q = sym (decided-once true _ (search-finds k q) (some-decides a b (h .0) (h .2)))
-found-holds (Trial.Once t) k h q = q
+found-holds (Trial.Once t) k h q = and-left t (eqb k 0) q
 
-ended-fails : (t : Trial) (k : ℕ) → SmallTrial t → Tried t k → trialGoesOn t k ≡ false → trialHolds t ≡ false
-unfolding trialGoesOn trialPasses trialHolds
-ended-fails (Trial.Instances e a b) k h w q = sym (decided-once false _ (search-ends k (w .none) q) (some-decides a b (h .0) (h .2)))
-ended-fails (Trial.Once t) k h w q = let z = eqb-false k 0 q in w .none 0 (omega arith)
+-- none before k passes and none from k on
+ended-fails : (t : Trial) (k : ℕ) → SmallTrial t → Tried t k → ((j : ℕ) → k ≤ j → trialPasses t j ≡ false) → trialHolds t ≡ false
+unfolding trialPasses trialHolds
+ended-fails (Trial.Instances e a b) k h w r = sym (decided-once false _ (search-ends k (w .none-before) r) (some-decides a b (h .0) (h .2)))
+ended-fails (Trial.Once t) zero h w r = sym (and-true t) ∙ r 0 (omega arith)
+ended-fails (Trial.Once t) (suc k) h w r = sym (and-true t) ∙ w .none-before 0 (omega arith)
 
 module _ (t : Trial) (k : ℕ) {r : Bool} where
-  -- an instance to try is one of those up to 2099
-  pub tried-counted : SmallTrial t → r ≡ trialGoesOn t k → r ≡ true → k ≤ 47482
-  tried-counted h e z = tried-few t h (sym e ∙ z)
-
   pub tried-found : SmallTrial t → r ≡ trialPasses t k → r ≡ true → trialHolds t ≡ true
   tried-found h e z = found-holds t k h (sym e ∙ z)
 
-  pub tried-more : k ≤ 47482 → Tried t k → r ≡ trialPasses t k → r ≡ false → Tried t (k + 1)
-  tried-more p w e z = record { few = omega arith; none = below-more _ _ (w .none) (sym e ∙ z) }
+  pub tried-more : k < instancesAtMost → Tried t k → r ≡ trialPasses t k → r ≡ false → Tried t (k + 1)
+  tried-more p w e z = record { none-before = below-more _ _ (w .none-before) (sym e ∙ z); few = omega arith }
 
-  pub tried-end : SmallTrial t → Tried t k → r ≡ trialGoesOn t k → r ≡ false → trialHolds t ≡ false
-  tried-end h w e z = ended-fails t k h w (sym e ∙ z)
+  pub tried-end : SmallTrial t → Tried t k → MoreTrials t k r → r ≡ false → trialHolds t ≡ false
+  tried-end h w m z = ended-fails t k h w (m .none-from z)
 
 -- ---- one component: its name, what its row rules out, and its own lines
 

@@ -15,7 +15,6 @@ use Rattle.structure.specs.Rows.{componentBy}
 use Rattle.property_tests.specs.PropertyTests.{propertiesHold}
 use Rattle.events.specs.Sizes.{EventSmall}
 use Rattle.recurrence.specs.TimeRange.{instanceIn}
-use Rattle.recurrence.specs.Candidates.{startsBefore}
 use Rattle.recurrence.specs.Instances.{instancesAtMost}
 use Rattle.filter.specs.Tests.{rangeHolds, childrenHold}
 use Rattle.filter.specs.Ranges.{RuledOut}
@@ -26,20 +25,20 @@ unfoldable pub trialHolds : Trial → Bool
 trialHolds (Trial.Instances e a b) = someBelow instancesAtMost (instanceIn e a b)
 trialHolds (Trial.Once t) = t
 
--- does instance k pass?
+-- does instance k pass? What is tried once has number 0
 unfoldable pub trialPasses : Trial → ℕ → Bool
 trialPasses (Trial.Instances e a b) k = instanceIn e a b k
-trialPasses (Trial.Once t) k = t
-
--- is there an instance k to try? Where not, no later one passes
-unfoldable pub trialGoesOn : Trial → ℕ → Bool
-trialGoesOn (Trial.Instances e a b) k = startsBefore e b k
-trialGoesOn (Trial.Once t) k = eqb k 0
+trialPasses (Trial.Once t) k = t && eqb k 0
 
 -- none before k passes
 pub record Tried (t : Trial) (k : ℕ) : Type 0 where
-  pub few : k ≤ 47483
-  pub none : (j : ℕ) → j < k → trialPasses t j ≡ false
+  pub none-before : (j : ℕ) → j < k → trialPasses t j ≡ false
+  pub few : k ≤ instancesAtMost
+
+-- is there an instance k to try? Where not, none from k on passes
+pub record MoreTrials (t : Trial) (k : ℕ) (r : Bool) : Type 0 where
+  pub none-from : r ≡ false → (j : ℕ) → k ≤ j → trialPasses t j ≡ false
+  pub few : r ≡ true → k < instancesAtMost
 
 -- the sizes that the sums and products of a trial want
 abbrev pub SmallTrial : Trial → Type 0

@@ -18,7 +18,7 @@ ghost use Rattle.query_check.specs.WellFormed.{recordsGood};
 ghost use Rattle.calendar.specs.Meaning.{componentScope};
 ghost use Rattle.filter.specs.Tests.{componentIn, rangeHolds};
 ghost use Rattle.filter.specs.Ranges.{Given, Here, RowSmall, RowOutside, RuledOut};
-ghost use Rattle.filter.specs.Trials.{trialGoesOn, trialPasses, Tried, SmallTrial, TrialOf};
+ghost use Rattle.filter.specs.Trials.{trialPasses, Tried, MoreTrials, SmallTrial, TrialOf};
 
 // The trial of one component.
 pub enum Trial {
@@ -137,11 +137,11 @@ pub fn first_tried(t: Trial) -> u64
     }
 }
 
-// Is there an instance k to try?
+// Is there an instance k to try? Where not, none from k on passes.
 pub fn goes_on(t: Trial, k: u64) -> bool
     requires { ⌜ SmallTrial t ⌝ }
     requires { ⌜ k ≤ 100000 ⌝ }
-    ensures { λ r. ⌜ r ≡ trialGoesOn t k ⌝ }
+    ensures { λ r. ⌜ MoreTrials t k r ⌝ }
 {
     match t {
         Trial::Instances(e, _, b) => time_range::starts_before(e, b, k),
@@ -149,7 +149,7 @@ pub fn goes_on(t: Trial, k: u64) -> bool
     }
 }
 
-// Does instance k pass?
+// Does instance k pass? What is tried once has number 0.
 pub fn passes(t: Trial, k: u64) -> bool
     requires { ⌜ SmallTrial t ⌝ }
     requires { ⌜ k ≤ 100000 ⌝ }
@@ -157,6 +157,6 @@ pub fn passes(t: Trial, k: u64) -> bool
 {
     match t {
         Trial::Instances(e, a, b) => time_range::instance_in(e, a, b, k),
-        Trial::Once(good) => good,
+        Trial::Once(good) => good & (k == 0),
     }
 }

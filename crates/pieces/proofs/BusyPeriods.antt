@@ -13,14 +13,12 @@ use Rattle.time.specs.Limits.{lastSecond}
 use Rattle.periods.specs.declared.BusyType.{BusyType}
 use Rattle.periods.specs.BusyTypes.{reportPlace, isBusy, BusyPeriod}
 use Rattle.events.specs.declared.Event.{Event}
-use Rattle.events.specs.Sizes.{EventSmall}
 use Rattle.events.specs.Events.{event}
 use Rattle.recurrence.specs.Instances.{startOf, endOf, occurs, isZeroLength, instancesAtMost}
 use Rattle.recurrence.specs.TimeRange.{instanceIn}
-use Rattle.recurrence.specs.Candidates.{FirstCandidate, startsBefore}
+use Rattle.recurrence.specs.Candidates.{FirstCandidate, MoreCandidates}
 use Rattle.recurrence.proofs.Instances.{zero-length-end}
 use Rattle.recurrence.proofs.TimeRange.{covering-in}
-use Rattle.recurrence.proofs.Candidates.{few-before, none-after}
 use Rattle.pieces.specs.BusyPeriods.{listBelow, instancePeriod, eventPeriods, busyPeriod, entryPeriods, busyPeriods}
 use Rattle.pieces.specs.Columns.{Stored}
 use Rattle.pieces.specs.Pieces.{clipped, isPiece, pieceOf, piecesOf, busyPieces}
@@ -138,7 +136,7 @@ below-none a b f o n = stored-as (stored-none o n) (sym (piecesOf-none a b))
 
 -- the pieces of the instances below k are stored
 pub record Walked (e : Event) (a b : ℕ) (o₀ : List ℕ) (first : ℕ) (o : List ℕ) (n k : ℕ) : Type 0 where
-  pub few : k ≤ 47483
+  pub few : k ≤ instancesAtMost
   pub so-far : Stored o₀ first (piecesOf a b (listBelow k (instancePeriod e))) o n
 
 pub walked-start : (e : Event) (a b : ℕ) (o : List ℕ) (first k : ℕ) → FirstCandidate e a k → Walked e a b o first o first k
@@ -152,7 +150,7 @@ walked-start e a b o first k h =
     }
 
 module _ {e : Event} {a b : ℕ} {o₀ : List ℕ} {first : ℕ} {o : List ℕ} {n k : ℕ} (w : Walked e a b o₀ first o n k) where
-  pub walked-more : {o′ : List ℕ} {r : ℕ} → k ≤ 47482 → Stored o n (piecesOf a b (instancePeriod e k)) o′ r → Walked e a b o₀ first o′ r (k + 1)
+  pub walked-more : {o′ : List ℕ} {r : ℕ} → k < instancesAtMost → Stored o n (piecesOf a b (instancePeriod e k)) o′ r → Walked e a b o₀ first o′ r (k + 1)
   walked-more {o′} {r} h m =
       record {
         few = omega arith;
@@ -169,11 +167,11 @@ module _ {e : Event} {a b : ℕ} {o₀ : List ℕ} {first : ℕ} {o : List ℕ} 
       (below-over a b (instancePeriod e) k (instancesAtMost - k) (w .so-far) (λ i p q. s i p))
 
   -- no room is left, or no later instance is in range
-  pub walked-end : {t : Bool} → t ≡ startsBefore e b k → (ltb n 513 && t) ≡ false → Stored o₀ first (piecesOf a b (eventPeriods e)) o n
-  walked-end {t} q h = go (ltb n 513) refl h
+  pub walked-end : {t : Bool} → MoreCandidates e b k t → (ltb n 513 && t) ≡ false → Stored o₀ first (piecesOf a b (eventPeriods e)) o n
+  walked-end {t} x h = go (ltb n 513) refl h
     where
       go : (y : Bool) → ltb n 513 ≡ y → (y && t) ≡ false → Stored o₀ first (piecesOf a b (eventPeriods e)) o n
-      go true z m = to-the-end (λ i p. silent e a b i o n (none-after e a b i k p (sym q ∙ m)))
+      go true z m = to-the-end (λ i p. silent e a b i o n (x .none-from m a i p))
       go false z m = to-the-end (λ i p. stored-full o n _ (ltb-false n 513 z))
 
   pub walked-few : first ≤ 513 → n ≤ 513
@@ -238,6 +236,6 @@ no-event-pieces e {p} {z} q l h = go (ltb p 3) refl h
 pub unstored : {o : List ℕ} {n : ℕ} {ps : List BusyPeriod} → ps ≡ [] → Stored o n ps o n
 unstored {o} {n} e = stored-as (stored-none o n) (sym e)
 
--- an instance that starts before b is one of those up to 2099
-pub walked-days : {e : Event} {b k : ℕ} {t : Bool} (n : ℕ) → EventSmall e → b ≤ lastSecond → t ≡ startsBefore e b k → (ltb n 513 && t) ≡ true → k ≤ 47482
-walked-days n h p q m = few-before h p (sym q ∙ and-right (ltb n 513) _ m)
+-- while the walk goes on, instances are left
+pub walked-on : {e : Event} {b k : ℕ} {t : Bool} (n : ℕ) → MoreCandidates e b k t → (ltb n 513 && t) ≡ true → k < instancesAtMost
+walked-on n x m = x .few (and-right (ltb n 513) _ m)

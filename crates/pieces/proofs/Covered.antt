@@ -18,7 +18,7 @@ use Rattle.events.specs.declared.Event.{Event}
 use Rattle.events.specs.declared.Block.{Block}
 use Rattle.periods.proofs.BusyTypes.{sameBusy-iff}
 use Rattle.recurrence.specs.Instances.{startOf, endOf, occurs, instancesAtMost}
-use Rattle.recurrence.proofs.Instances.{starts-long}
+use Rattle.recurrence.proofs.Instances.{starts-few}
 use Rattle.pieces.specs.BusyPeriods.{listBelow, instancePeriod, eventPeriods, entryPeriods, busyPeriods, busyPeriod}
 use Rattle.pieces.specs.Covered.{coveredBy, covered, Covers, by-instance, by-period}
 use Rattle.pieces.proofs.Pieces.{covers-none, hits, hits-first}
@@ -145,10 +145,6 @@ entry-listed {p} y (z ∷ es) d m = go (List·Memᴰ·cases-cons d) (λ i. entry
     go (inl i) r = Memᴰ·append-left (busyPeriods es) (subst (λ (w : Entry). List·Memᴰ p (entryPeriods w)) i m)
     go (inr i) r = Memᴰ·append-right (entryPeriods z) (r i)
 
--- an instance that starts by the last second is one of those below the bound
-few-starts : {e : Event} (k x : ℕ) → EventSmall e → startOf e k ≤ x → x ≤ lastSecond → k < instancesAtMost
-few-starts k x h p q = omega (arith, starts-long k h)
-
 instance-listed : (e : Event) (k : ℕ) → k < instancesAtMost → occurs e k ≡ true
     → List·Memᴰ (busyPeriod (e .busy) (startOf e k) (endOf e k)) (entryPeriods (event e))
 unfolding entryPeriods eventPeriods
@@ -164,7 +160,7 @@ module _ (b : BusyType) (es : List Entry) (x : ℕ) where
   covers-covered : x ≤ lastSecond → ((e : Event) → List·Memᴰ (event e) es → EventSmall e) → Covers es b x → covered b es x ≡ true
   unfolding covered
   covers-covered l small (by-instance e d t k s f g) =
-      listed-covered b x (busyPeriods es) (entry-listed (event e) es d (instance-listed e k (few-starts k x (small e d) f l) s)) t f g
+      listed-covered b x (busyPeriods es) (entry-listed (event e) es d (instance-listed e k (starts-few k (small e d) (omega arith)) s)) t f g
   covers-covered l small (by-period k ps d p m t f g) =
       listed-covered b x (busyPeriods es) (entry-listed (block k ps) es d (block-listed k ps m)) t f g
 

@@ -1,8 +1,8 @@
 -- The search for an instance in range: from the first candidate on, which a division finds,
 -- while instances start before the range's end.
 use Prim.Native.Nat.{ℕ, _+_, _-_, _*_, _/_, _≤_, _<_}
-use mathlib.Core.Path.{_≡_, refl}
-use mathlib.Core.Bool.{Bool, true, false, cond}
+use mathlib.Core.Path.{_≡_, refl, sym, ap, _∙_}
+use mathlib.Core.Bool.{Bool, true, false, cond, _&&_}
 use native.Mathlib.Omega.{arith}
 use native.Mathlib.Nat.{mul-le-mul-right, mul-le-mul-left, div-mul-le-self, lt-div-mul-add, add-mul}
 use lib.Dec.{eqb, ltb}
@@ -11,10 +11,10 @@ use Rattle.ascii.proofs.Bools.{and-left, and-right, and-both, clash, not-so}
 use Rattle.time.specs.Limits.{lastSecond}
 use Rattle.events.specs.declared.Event.{Event}
 use Rattle.events.specs.Sizes.{EventSmall}
-use Rattle.recurrence.specs.Instances.{lengthBy, isZeroLength, startOf, isInstance, endOf, stepOf}
-use Rattle.recurrence.specs.Candidates.{firstAt, spanOf, startsBefore, candidateOf, FirstCandidate}
+use Rattle.recurrence.specs.Instances.{lengthBy, isZeroLength, startOf, isInstance, instancesAtMost, endOf, stepOf}
+use Rattle.recurrence.specs.Candidates.{firstAt, spanOf, startsBefore, candidateOf, NoneBefore, NoneFrom, FirstCandidate, MoreCandidates}
 use Rattle.recurrence.specs.TimeRange.{instanceIn, EventIn, Decides}
-use Rattle.recurrence.proofs.Instances.{length-small, starts-rise, instance-before, occurs-instance, step-long, starts-long}
+use Rattle.recurrence.proofs.Instances.{length-small, starts-rise, instance-before, occurs-instance, step-long, starts-few}
 use Rattle.recurrence.proofs.TimeRange.{in-range-occurs, starts-early, ends-late}
 
 cond-span : (l : ℕ) (t : Bool) → l ≤ lastSecond → cond t 1 l ≤ lastSecond
@@ -73,61 +73,65 @@ pub first-few : (s d span a : ℕ) → 86400 ≤ d → a ≤ lastSecond → firs
 unfolding firstAt
 first-few s d span a g h = few-by s d span a (ltb a (s + span)) g h
 
--- ---- instances in range
+-- ---- what the search promises
 
-pub in-range-ends : (e : Event) (a b k : ℕ) → instanceIn e a b k ≡ true → a < startOf e k + spanOf e
+in-range-ends : (e : Event) (a b k : ℕ) → instanceIn e a b k ≡ true → a < startOf e k + spanOf e
 in-range-ends e a b k h = ends-late e a b k _ h (omega (arith, span-some e)) (end-by-span e k)
 
-pub in-range-starts : (e : Event) (a b k : ℕ) → instanceIn e a b k ≡ true → startsBefore e b k ≡ true
+-- none before what the division finds is in range
+pub before-candidate : (e : Event) (a : ℕ) → 0 < stepOf e → NoneBefore e a (candidateOf e a)
+unfolding startOf
+before-candidate e a g b j p =
+    not-so _ (λ q. omega (arith, in-range-ends e a b j q, before-first j (e .start) (stepOf e) (spanOf e) a g p))
+
+-- the division finds where the search starts
+pub first-is-candidate : {e : Event} {a : ℕ} → EventSmall e → a ≤ lastSecond → FirstCandidate e a (candidateOf e a)
+first-is-candidate {e} {a} h p =
+    record {
+      none-before = before-candidate e a (omega (arith, step-long h));
+      few = omega (arith, first-few (e .start) (stepOf e) (spanOf e) a (step-long h) p);
+    }
+
+in-range-starts : (e : Event) (a b k : ℕ) → instanceIn e a b k ≡ true → startsBefore e b k ≡ true
 unfolding startsBefore
 in-range-starts e a b k h = and-both (occurs-instance e k (in-range-occurs e a b k h)) (lt-ltb _ b (starts-early e a b k h))
 
-pub starts-before-too : (e : Event) (b j k : ℕ) → j ≤ k → startsBefore e b k ≡ true → startsBefore e b j ≡ true
+starts-before-too : (e : Event) (b j k : ℕ) → j ≤ k → startsBefore e b k ≡ true → startsBefore e b j ≡ true
 unfolding startsBefore
 starts-before-too e b j k p h =
     and-both (instance-before e j k p (and-left (isInstance e k) _ h))
     (lt-ltb _ b (omega (arith, starts-rise e p, ltb-true (startOf e k) b (and-right (isInstance e k) _ h))))
 
 -- from the first that is not the rule's, or starts at b or later, none is in range
-pub none-after : (e : Event) (a b j k : ℕ) → k ≤ j → startsBefore e b k ≡ false → instanceIn e a b j ≡ false
-none-after e a b j k p h = not-so _ (λ q. clash (starts-before-too e b k j p (in-range-starts e a b j q)) h)
+pub none-after : (e : Event) (b k : ℕ) → startsBefore e b k ≡ false → NoneFrom e b k
+none-after e b k h a j p = not-so _ (λ q. clash (starts-before-too e b k j p (in-range-starts e a b j q)) h)
 
--- ---- the search
-
--- none before what the division finds is in range
-pub before-candidate : (e : Event) (a : ℕ) → 0 < stepOf e → (b j : ℕ) → j < candidateOf e a → instanceIn e a b j ≡ false
-unfolding startOf
-before-candidate e a g b j p =
-    not-so _ (λ q. omega (arith, in-range-ends e a b j q, before-first j (e .start) (stepOf e) (spanOf e) a g p))
-
-ends-after-first : {e : Event} (a : ℕ) → EventSmall e → a < startOf e (candidateOf e a) + spanOf e
-unfolding startOf
-ends-after-first {e} a h = from-first (e .start) (stepOf e) (spanOf e) a (omega (arith, step-long h))
-
--- the division finds the first candidate
-pub first-is-candidate : {e : Event} {a : ℕ} → EventSmall e → a ≤ lastSecond → FirstCandidate e a (candidateOf e a)
-first-is-candidate {e} {a} h p =
+-- the code's test tells whether the search goes on
+pub more-by : {e : Event} {b k s : ℕ} {t : Bool} → EventSmall e → b ≤ lastSecond → t ≡ isInstance e k → s ≡ startOf e k → MoreCandidates e b k (t && ltb s b)
+more-by {e} {b} {k} {s} {t} h p q r =
     record {
-      none-before = before-candidate e a (omega (arith, step-long h));
-      ends-after = ends-after-first a h;
-      few = first-few (e .start) (stepOf e) (spanOf e) a (step-long h) p;
+      none-from = λ n. none-after e b k (unfold startsBefore in sym told ∙ n);
+      few = λ y. starts-few k h (omega (arith, ltb-true (startOf e k) b (and-right (isInstance e k) _ (sym told ∙ y))));
     }
+  where
+    told : (t && ltb s b) ≡ (isInstance e k && ltb (startOf e k) b)
+    told = ap (λ (x : Bool). x && ltb s b) q ∙ ap (λ (n : ℕ). isInstance e k && ltb n b) r
 
--- an instance that starts by 2099 is one of so many
-pub few-before : {e : Event} {b k : ℕ} → EventSmall e → b ≤ lastSecond → startsBefore e b k ≡ true → k ≤ 47482
-unfolding startsBefore
-few-before {e} {b} {k} h p q = omega (arith, starts-long k h, ltb-true (startOf e k) b (and-right (isInstance e k) _ q))
+-- an instance in a range up to 2099 is one of so many
+pub in-range-few : {e : Event} (a b k : ℕ) → EventSmall e → b ≤ lastSecond → instanceIn e a b k ≡ true → k < instancesAtMost
+in-range-few {e} a b k h p q = starts-few k h (omega (arith, starts-early e a b k q))
+
+-- ---- what it decides
 
 pub search-finds : {e : Event} {a b : ℕ} (k : ℕ) → instanceIn e a b k ≡ true → Decides true (EventIn e a b)
 search-finds k q = record { holds = λ _. record { number = k; passes = q }; fails = λ z _. clash refl z }
 
-none-at : (e : Event) (a b k j : ℕ) (t : Bool)
-    → ((i : ℕ) → i < k → instanceIn e a b i ≡ false) → startsBefore e b k ≡ false → ltb j k ≡ t → instanceIn e a b j ≡ false
-none-at e a b k j true s q r = s j (ltb-true j k r)
-none-at e a b k j false s q r = none-after e a b j k (ltb-false j k r) q
-
--- none before k and none after
+-- none before k and none from k on
 pub search-ends : {e : Event} {a b : ℕ} (k : ℕ)
-    → ((j : ℕ) → j < k → instanceIn e a b j ≡ false) → startsBefore e b k ≡ false → Decides false (EventIn e a b)
-search-ends {e} {a} {b} k s q =
-    record { holds = λ z. clash z refl; fails = λ _ i. clash (i .passes) (none-at e a b k (i .number) (ltb (i .number) k) s q refl) }
+    → ((j : ℕ) → j < k → instanceIn e a b j ≡ false) → ((j : ℕ) → k ≤ j → instanceIn e a b j ≡ false) → Decides false (EventIn e a b)
+search-ends {e} {a} {b} k s r =
+    record { holds = λ z. clash z refl; fails = λ _ i. clash (i .passes) (none-at (i .number) (ltb (i .number) k) refl) }
+  where
+    none-at : (j : ℕ) (t : Bool) → ltb j k ≡ t → instanceIn e a b j ≡ false
+    none-at j true q = s j (ltb-true j k q)
+    none-at j false q = r j (ltb-false j k q)

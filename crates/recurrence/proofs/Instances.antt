@@ -15,7 +15,7 @@ use Rattle.events.specs.declared.Repeat.{Repeat}
 use Rattle.events.specs.declared.Event.{Event}
 use Rattle.events.specs.declared.Ending.{Ending}
 use Rattle.events.specs.Sizes.{EventSmall, EndingSmall}
-use Rattle.recurrence.specs.Instances.{stepOf, startOf, repeats, isInstance, occurs, defaultLength, lengthBy, isZeroLength, endOf}
+use Rattle.recurrence.specs.Instances.{stepOf, startOf, repeats, isInstance, occurs, instancesAtMost, defaultLength, lengthBy, isZeroLength, endOf}
 
 pub starts-rise : (e : Event) {j k : ℕ} → j ≤ k → startOf e j ≤ startOf e k
 unfolding startOf
@@ -33,14 +33,14 @@ pub instance-before : (e : Event) (j k : ℕ) → j ≤ k → isInstance e k ≡
 unfolding isInstance
 instance-before e j k p h = repeats-before (e .repeat) (startOf e j) (startOf e k) j k (starts-rise e p) p h
 
--- where the rule has no instance k, it has none after
-pub instance-after : (e : Event) (j k : ℕ) → k ≤ j → isInstance e k ≡ false → isInstance e j ≡ false
-instance-after e j k p h = not-so _ (λ q. clash (instance-before e k j p q) h)
-
 -- only the rule's instances stand
 pub occurs-instance : (e : Event) (k : ℕ) → occurs e k ≡ true → isInstance e k ≡ true
 unfolding occurs
 occurs-instance e k h = h
+
+-- where the rule has no instance k, none from k on stands
+pub none-stands : (e : Event) (k : ℕ) → isInstance e k ≡ false → (j : ℕ) → k ≤ j → occurs e j ≡ false
+none-stands e k h j p = not-so _ (λ q. clash (instance-before e k j p (occurs-instance e j q)) h)
 
 -- ---- how large the numbers of an event are
 
@@ -67,6 +67,10 @@ start-small {e} {k} h p = omega (arith, steps-small {k = k} {d = stepOf e} h p r
 pub starts-long : {e : Event} (k : ℕ) → EventSmall e → k * 86400 ≤ startOf e k
 unfolding startOf
 starts-long {e} k h = let p : k * 86400 ≤ k * stepOf e = mul-le-mul-left k (step-long h) in omega arith
+
+-- so one that starts by 2099 is one of so many
+pub starts-few : {e : Event} (k : ℕ) → EventSmall e → startOf e k ≤ lastSecond → k < instancesAtMost
+starts-few k h p = omega (arith, starts-long k h)
 
 -- the ending of an event that is small, by its case
 ending-by : {e : Event} {x : Ending} → EventSmall e → e .ending ≡ x → EndingSmall (e .start) x

@@ -7,12 +7,12 @@ use mathlib.Core.List.{List, [], _∷_, _++_}
 use native.Mathlib.Omega.{arith}
 use lib.Dec.{ltb, leb}
 use borrow.Author.Tests.{ltb-true, leb-true, lt-ltb}
-use Rattle.ascii.proofs.Bools.{and-left, and-right, and-both, not-so}
+use Rattle.ascii.proofs.Bools.{and-left, and-right, and-both}
 use Rattle.periods.specs.declared.Period.{Period}
 use Rattle.events.specs.declared.Event.{Event}
 use Rattle.recurrence.specs.Instances.{startOf, endOf, isZeroLength, occurs}
 use Rattle.recurrence.specs.TimeRange.{overlaps, endsAfter, instanceIn, periodsOverlap, Decides}
-use Rattle.recurrence.proofs.Instances.{starts-rise, zero-length-end}
+use Rattle.recurrence.proofs.Instances.{zero-length-end}
 
 -- it stands
 pub in-range-occurs : (e : Event) (a b k : ℕ) → instanceIn e a b k ≡ true → occurs e k ≡ true
@@ -46,10 +46,6 @@ covering-ends e a k p q = go (isZeroLength e) refl
 pub covering-in : (e : Event) (a b k x : ℕ) → occurs e k ≡ true → startOf e k ≤ x → x < endOf e k → a ≤ x → x < b → instanceIn e a b k ≡ true
 unfolding instanceIn
 covering-in e a b k x o f t p q = and-both (and-both o (covering-ends e a k (omega arith) (omega arith))) (lt-ltb (startOf e k) b (omega arith))
-
--- once an instance starts at b or later, none is in range
-pub none-late : (e : Event) (a b j k : ℕ) → k ≤ j → b ≤ startOf e k → instanceIn e a b j ≡ false
-none-late e a b j k p h = not-so _ (λ q. omega (arith, starts-rise e p, starts-early e a b j q))
 
 -- two lists after each other: one or the other
 pub periods-append : (a b : ℕ) (ps qs : List Period) → periodsOverlap a b (ps ++ qs) ≡ (periodsOverlap a b ps || periodsOverlap a b qs)

@@ -1,10 +1,10 @@
--- Which instances of an event can be in a range: an interval of numbers, found by a division.
+-- The search for instances of an event in a range: from the first candidate on, which a division finds, while they start before its end.
 use Prim.Native.Nat.{ℕ, _+_, _-_, _*_, _/_, _≤_, _<_}
 use mathlib.Core.Path.{_≡_}
-use mathlib.Core.Bool.{Bool, false, cond, _&&_}
+use mathlib.Core.Bool.{Bool, true, false, cond, _&&_}
 use lib.Dec.{ltb}
 use Rattle.events.specs.declared.Event.{Event}
-use Rattle.recurrence.specs.Instances.{stepOf, startOf, isInstance, lengthBy, isZeroLength}
+use Rattle.recurrence.specs.Instances.{stepOf, startOf, isInstance, instancesAtMost, lengthBy, isZeroLength}
 use Rattle.recurrence.specs.TimeRange.{instanceIn}
 
 -- the least k with a < s + span + k * d
@@ -19,12 +19,26 @@ spanOf e = cond (isZeroLength e) 1 (lengthBy e (e .ending))
 abbrev pub candidateOf : Event → ℕ → ℕ
 candidateOf e a = firstAt (e .start) (stepOf e) (spanOf e) a
 
--- the first instance that ends after a: none before it is in a range from a
-pub record FirstCandidate (e : Event) (a k : ℕ) : Type 0 where
-  pub none-before : (b j : ℕ) → j < k → instanceIn e a b j ≡ false
-  pub ends-after : a < startOf e k + spanOf e
-  pub few : k ≤ 47482
-
--- is it the rule's, and does it start before b? where not, no later one is in a range up to b
+-- it is the rule's, and starts before b
 unfoldable pub startsBefore : Event → ℕ → ℕ → Bool
 startsBefore e b k = isInstance e k && ltb (startOf e k) b
+
+-- ---- what the search promises
+
+-- none before k is in a range from a
+abbrev pub NoneBefore : Event → ℕ → ℕ → Type 0
+NoneBefore e a k = (b j : ℕ) → j < k → instanceIn e a b j ≡ false
+
+-- none from k on is in a range up to b
+abbrev pub NoneFrom : Event → ℕ → ℕ → Type 0
+NoneFrom e b k = (a j : ℕ) → k ≤ j → instanceIn e a b j ≡ false
+
+-- where it starts
+pub record FirstCandidate (e : Event) (a k : ℕ) : Type 0 where
+  pub none-before : NoneBefore e a k
+  pub few : k < instancesAtMost
+
+-- whether it goes on at k
+pub record MoreCandidates (e : Event) (b k : ℕ) (t : Bool) : Type 0 where
+  pub none-from : t ≡ false → NoneFrom e b k
+  pub few : t ≡ true → k < instancesAtMost

@@ -1,5 +1,5 @@
 // The time range test: is an instance of an event, or a block with both ends, in the range from a up to, but not including, b?
-// One division finds the first instance that can be in a range; from there on each is tested.
+// One division finds the first instance that can be in a range; from there on each is tested, while they start before its end.
 use crate::instance;
 use events::Event;
 ghost use mathlib.Core.Path.{_≡_};
@@ -7,7 +7,7 @@ ghost use Prim.Native.Nat.{_≤_};
 ghost use Rattle.time.specs.Limits.{lastSecond};
 ghost use Rattle.events.specs.Sizes.{EventSmall};
 ghost use Rattle.recurrence.specs.TimeRange.{overlaps, endsAfter, instanceIn, betweenIn};
-ghost use Rattle.recurrence.specs.Candidates.{firstAt, spanOf, FirstCandidate, startsBefore};
+ghost use Rattle.recurrence.specs.Candidates.{firstAt, spanOf, FirstCandidate, MoreCandidates};
 
 // What stands from s to t, against the range.
 pub fn overlaps(a: u64, b: u64, s: u64, t: u64) -> bool
@@ -73,7 +73,7 @@ fn span_of(e: Event) -> u64
     }
 }
 
-// The first instance that ends after a, by one division.
+// The first instance that ends after a, by one division: none before it is in a range from a.
 pub fn first_candidate(e: Event, a: u64) -> u64
     requires { ⌜ EventSmall e ⌝ }
     requires { ⌜ a ≤ lastSecond ⌝ }
@@ -82,11 +82,12 @@ pub fn first_candidate(e: Event, a: u64) -> u64
     first_at(e.start, instance::step_of(e), span_of(e), a)
 }
 
-// Is instance k the rule's, and does it start before b?
+// Is instance k the rule's, and does it start before b? Where not, none from k on is in a range up to b.
 pub fn starts_before(e: Event, b: u64, k: u64) -> bool
     requires { ⌜ EventSmall e ⌝ }
+    requires { ⌜ b ≤ lastSecond ⌝ }
     requires { ⌜ k ≤ 100000 ⌝ }
-    ensures { λ r. ⌜ r ≡ startsBefore e b k ⌝ }
+    ensures { λ r. ⌜ MoreCandidates e b k r ⌝ }
 {
     instance::is_instance(e, k) & (instance::start_of(e, k) < b)
 }

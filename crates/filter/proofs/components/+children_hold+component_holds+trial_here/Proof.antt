@@ -8,10 +8,11 @@ use borrow.Author.Tests.{not-true, not-false}
 use borrow.Fn.Kinds.{In}
 use borrow.Fn.PlainCycle.{Measures, is, falls, and}
 use Rattle.structure.specs.Rows.{componentsBy}
+use Rattle.recurrence.specs.Instances.{instancesAtMost}
 use Rattle.filter.specs.Trials.{Tried}
 use Rattle.filter.proofs.Tests.{Beside, beside-start, beside-here, beside-next, beside-found, beside-end, component-name, component-range, record-name, someHere, here-none, test-absent, test-there, child-as, Descending, descending-start, descending-other, descending-next, descending-stop, descending-end}
 use Rattle.filter.proofs.RangesLaws.{row-small, beside-file, inner-among}
-use Rattle.filter.proofs.TrialsLaws.{tried-counted, tried-found, tried-more, tried-end, here-not, here-childless, here-tried, here-found, here-passed}
+use Rattle.filter.proofs.TrialsLaws.{tried-found, tried-more, tried-end, here-not, here-childless, here-tried, here-found, here-passed}
 use Rattle.filter.proofs.components.children_hold.Reads as children-hold
 use Rattle.filter.proofs.components.children_hold.Kinds as children-hold-kinds
 use Rattle.filter.proofs.components.+children_hold+component_holds+trial_here.Lts-children_hold as children-hold-lts
@@ -171,7 +172,7 @@ abbrev component-holds-Inv-loop : component-holds-lts.InvT-loop
 component-holds-Inv-loop query q j s index rows column first end c name row t k₀ k = Tried t k
 
 abbrev component-holds-μ-loop : component-holds-lts.MeasureT-loop
-component-holds-μ-loop query q j s index rows column first end c name row t k₀ k = 47483 - k
+component-holds-μ-loop query q j s index rows column first end c name row t k₀ k = instancesAtMost - k
 
 abbrev component-holds-Inv-search : component-holds-lts.InvT-search
 component-holds-Inv-search query q j s index rows column first end c name row₀ row = Beside (someHere c query q j) s rows first end row
@@ -232,12 +233,12 @@ component-holds-add-k : (t : ℕ) → component-holds-lts.Need-add-k (component-
 component-holds-add-k t c = omega (arith, c .before .before .before .before .loop .inv .few)
 
 component-holds-loop-less : (t : ℕ) → component-holds-lts.Need-loop-less (component-holds-claims t) (component-holds-at t) component-holds.Post component-holds-Inv-loop component-holds-μ-loop component-holds-Inv-search component-holds-μ-search
-component-holds-loop-less t c = omega (arith, tried-counted _ _ (c .before .before .before .before .before .before .trial-here .ensures .small) (c .before .before .before .goes-on .ensures) (c .before .before .if3 .taken))
+component-holds-loop-less t c = omega (arith, c .before .before .before .goes-on .ensures .few (c .before .before .if3 .taken))
 
 component-holds-loop-again : (t : ℕ) → component-holds-lts.Need-loop-again (component-holds-claims t) (component-holds-at t) component-holds.Post component-holds-Inv-loop component-holds-μ-loop component-holds-Inv-search component-holds-μ-search
 component-holds-loop-again t c =
     tried-more _ _
-    (tried-counted _ _ (c .before .before .before .before .before .before .trial-here .ensures .small) (c .before .before .before .goes-on .ensures) (c .before .before .if3 .taken))
+    (c .before .before .before .goes-on .ensures .few (c .before .before .if3 .taken))
     (c .before .before .before .before .loop .inv)
     (c .before .passes .ensures) (c .if4 .left)
 

@@ -1,5 +1,4 @@
--- Each arm is one clause of the definition.
-use Rattle.filter.specs.Trials.{trialGoesOn}
+-- The search of an event's instances tells it; what is tried once has number 0 alone.
 use borrow.Author.Needs.{needs}
 use Rattle.filter.proofs.TrialsLaws.{instances-small, instances-on, once-on}
 use Rattle.filter.proofs.trials.goes_on.Statement.{statement}
@@ -9,13 +8,14 @@ enum-known-t : tie.Need-enum-known-t
 enum-known-t c = search needs
 
 starts-before-requires : tie.Need-starts-before-requires
-starts-before-requires c κs = (instances-small _ _ _ (c .before .t .given .1) (c .before .before .before .pre .0) .0, c .before .before .before .pre .1)
+starts-before-requires c κs =
+    let h = instances-small _ _ _ (c .before .t .given .1) (c .before .before .before .pre .0) in
+    (h .0, (h .2, c .before .before .before .pre .1))
 
 enum-told : tie.Need-enum-told
 enum-told c = search needs
 
 returns : tie.Need-returns
-unfolding trialGoesOn
 returns c = instances-on _ _ _ (c .before .before .t .given .1) _ (c .starts-before .ensures)
 
 returns-2 : tie.Need-returns-2

@@ -20,7 +20,7 @@ first-candidate-requires c κs = (
 starts-before-requires : tie.Need-starts-before-requires
 starts-before-requires c κs = (
   looked-small (c .before .before .before .before .before .before .pre .0) (c .before .before .before .kind-at .ensures) (c .before .before .if1 .taken) (c .before .event-at .ensures),
-  omega (arith, c .first-candidate .ensures .few),
+  (c .before .before .before .before .before .before .pre .1 .1, omega (arith, c .first-candidate .ensures .few)),
 )
 
 returns : tie.Need-returns

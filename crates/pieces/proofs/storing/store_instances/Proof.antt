@@ -1,7 +1,8 @@
 -- The instances below k have their pieces stored; those before the first candidate have none, and at the end no later one has, or no room is left.
 use mathlib.Core.Path.{_∙_}
 use Prim.Native.Nat.{_-_}
-use Rattle.pieces.proofs.BusyPeriods.{Walked, walked-start, walked-more, walked-end, walked-few, walked-long, walked-days}
+use Rattle.recurrence.specs.Instances.{instancesAtMost}
+use Rattle.pieces.proofs.BusyPeriods.{Walked, walked-start, walked-more, walked-end, walked-few, walked-long, walked-on}
 use native.Mathlib.Omega.{arith}
 use Rattle.pieces.proofs.storing.store_instances.Statement.{statement}
 use Rattle.pieces.proofs.storing.store_instances.Tie as tie
@@ -10,7 +11,7 @@ abbrev Inv-loop : tie.InvT-loop
 Inv-loop column₀ first e a b n₀ k₀ column n k = Walked e a b column₀ first column n k
 
 abbrev μ-loop : tie.MeasureT-loop
-μ-loop column₀ first e a b n₀ k₀ column n k = 47483 - k
+μ-loop column₀ first e a b n₀ k₀ column n k = instancesAtMost - k
 
 first-candidate-requires : tie.Need-first-candidate-requires Inv-loop μ-loop
 first-candidate-requires c κs = (c .before .pre .1 .1 .0, omega arith)
@@ -19,19 +20,29 @@ loop-holds : tie.Need-loop-holds Inv-loop μ-loop
 loop-holds c = walked-start _ _ _ _ _ _ (c .first-candidate .ensures)
 
 starts-before-requires : tie.Need-starts-before-requires Inv-loop μ-loop
-starts-before-requires c κs = (c .before .before .before .pre .1 .1 .0, omega (arith, c .loop .inv .few))
+starts-before-requires c κs =
+    let h = c .before .before .before .pre .1 .1 in
+    (h .0, (h .1 .1, omega (arith, c .loop .inv .few)))
 
 store-instance-requires : tie.Need-store-instance-requires Inv-loop μ-loop
-store-instance-requires c κs = (walked-long (c .before .before .before .loop .inv) ∙ c .before .before .before .before .before .before .pre .0, (walked-few (c .before .before .before .loop .inv) (c .before .before .before .before .before .before .pre .1 .0), (c .before .before .before .before .before .before .pre .1 .1 .0, (omega (arith, c .before .before .before .loop .inv .few), c .before .before .before .before .before .before .pre .1 .1 .1 .1))))
+store-instance-requires c κs =
+    let w = c .before .before .before .loop .inv in
+    let h = c .before .before .before .before .before .before .pre in
+    (walked-long w ∙ h .0, (walked-few w (h .1 .0), (h .1 .1 .0, (omega (arith, w .few), h .1 .1 .1 .1))))
 
 add-k : tie.Need-add-k Inv-loop μ-loop
 add-k c = omega (arith, c .before .before .before .before .before .before .loop .inv .few)
 
 loop-less : tie.Need-loop-less Inv-loop μ-loop
-loop-less c = omega (arith, walked-days (c .before .before .before .before .before .before .loop .n) (c .before .before .before .before .before .before .before .before .before .pre .1 .1 .0) (c .before .before .before .before .before .before .before .before .before .pre .1 .1 .1 .1) (c .before .before .before .before .before .starts-before .ensures) (c .before .before .before .before .if1 .taken))
+loop-less c =
+    let tested = c .before .before .before .before in
+    omega (arith, walked-on (tested .before .before .loop .n) (tested .before .starts-before .ensures) (tested .if1 .taken))
 
 loop-again : tie.Need-loop-again Inv-loop μ-loop
-loop-again c = walked-more (c .before .before .before .before .before .before .loop .inv) (walked-days (c .before .before .before .before .before .before .loop .n) (c .before .before .before .before .before .before .before .before .before .pre .1 .1 .0) (c .before .before .before .before .before .before .before .before .before .pre .1 .1 .1 .1) (c .before .before .before .before .before .starts-before .ensures) (c .before .before .before .before .if1 .taken)) (c .before .before .store-instance .ensures)
+loop-again c =
+    let tested = c .before .before .before .before in
+    let loop = tested .before .before .loop in
+    walked-more (loop .inv) (walked-on (loop .n) (tested .before .starts-before .ensures) (tested .if1 .taken)) (c .before .before .store-instance .ensures)
 
 same-length : tie.Need-same-length Inv-loop μ-loop
 same-length c = walked-long (c .before .before .loop .inv)

@@ -1,5 +1,5 @@
--- The two tests are the definition's own.
-use Rattle.recurrence.specs.Candidates.{startsBefore}
+-- The test tells whether the search goes on.
+use Rattle.recurrence.proofs.Candidates.{more-by}
 use borrow.Author.Needs.{needs}
 use Rattle.recurrence.proofs.time_range.starts_before.Statement.{statement}
 use Rattle.recurrence.proofs.time_range.starts_before.Tie as tie
@@ -11,8 +11,7 @@ start-of-requires : tie.Need-start-of-requires
 start-of-requires c κs = search needs
 
 returns : tie.Need-returns
-unfolding startsBefore
-returns c = simp (c .before .is-instance .ensures, c .start-of .ensures)
+returns c = let h = c .before .before .pre in more-by (h .0) (h .1 .0) (c .before .is-instance .ensures) (c .start-of .ensures)
 
 pub starts-before-spec : {M : Type 1} → statement M
 starts-before-spec = tie.close (tie.spec is-instance-requires start-of-requires returns)
