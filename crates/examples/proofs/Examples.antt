@@ -46,7 +46,7 @@ use Rattle.recurrence.proofs.Candidates.{before-candidate, none-after, search-f
 use Rattle.pieces.specs.BusyPeriods.{entryPeriods, busyPeriods}
 use Rattle.pieces.specs.Covered.{ofType, coveredBy, covered}
 use Rattle.examples.specs.Examples.{seconds, refused, Claim, time, duration, range, noPiece, periods, last, calendarBytes, meaningWith, eventWith, blockWith, startingAt, lasting, OneEvent, Entries, Last, Holds, All, table}
-use Rattle.pieces.proofs.BusyPeriods.{no-pieces}
+use Rattle.pieces.proofs.Pieces.{no-pieces}
 
 -- ---- lists of periods
 

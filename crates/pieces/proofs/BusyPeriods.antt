@@ -1,76 +1,30 @@
--- Storing the piece of a period and the pieces of an event: instances that are not in range have none.
-use Prim.Native.Nat.{ℕ, zero, suc, _+_, _-_, _*_, _≤_, _<_, min, max}
-use mathlib.Core.Path.{_≡_, refl, sym, ap, _∙_, subst}
-use mathlib.Core.Bool.{Bool, true, false, not, _&&_}
-use mathlib.Core.List.{List, [], _∷_, _++_, append-nil}
+-- The periods of an instance, of an event and of a calendar: which stand in the lists.
+use Prim.Native.Nat.{ℕ, zero, suc, _<_}
+use mathlib.Core.Path.{_≡_, refl, sym, subst}
+use mathlib.Core.Bool.{Bool, true, false}
+use mathlib.Core.Logic.{_⊎_, inl, inr}
+use mathlib.Core.List.{List, [], _∷_, _++_, List·Memᴰ, List·Memᴰ·head, List·Memᴰ·not-nil, List·Memᴰ·cases-cons, Memᴰ·append-left, Memᴰ·append-right, List·Memᴰ·append-cases}
 use native.Mathlib.Omega.{arith}
 use lib.Dec.{ltb}
-use lib.ListN.{length}
-use lib.Seq.{sets}
-use borrow.Author.Tests.{ltb-true, ltb-false, not-false}
-use Rattle.ascii.proofs.Bools.{and-left, and-right, and-both, clash, not-so}
-use Rattle.time.specs.Limits.{lastSecond}
-use Rattle.periods.specs.declared.BusyType.{BusyType}
-use Rattle.periods.specs.BusyTypes.{reportPlace, isBusy, BusyPeriod}
+use borrow.Author.Tests.{ltb-true, ltb-false}
+use Rattle.ascii.proofs.Bools.{clash}
+use Rattle.periods.specs.BusyTypes.{BusyPeriod}
+use Rattle.events.specs.Events.{Entry, event, block}
 use Rattle.events.specs.declared.Event.{Event}
-use Rattle.events.specs.Events.{event}
-use Rattle.recurrence.specs.Instances.{startOf, endOf, occurs, isZeroLength, instancesAtMost}
-use Rattle.recurrence.specs.TimeRange.{instanceIn}
-use Rattle.recurrence.specs.Candidates.{FirstCandidate, MoreCandidates}
-use Rattle.recurrence.proofs.Instances.{zero-length-end}
-use Rattle.recurrence.proofs.TimeRange.{covering-in}
-use Rattle.pieces.specs.BusyPeriods.{listBelow, instancePeriod, eventPeriods, busyPeriod, entryPeriods, busyPeriods}
-use Rattle.pieces.specs.Columns.{Stored}
-use Rattle.pieces.specs.Pieces.{clipped, isPiece, pieceOf, piecesOf, busyPieces}
-use Rattle.pieces.proofs.Columns.{stored-none, stored-full, stored-piece, stored-as, stored-then, stored-few, stored-long}
-use Rattle.pieces.proofs.Pieces.{chosen, left-out, is-piece, is-none, one-piece, piecesOf-none, piecesOf-append}
+use Rattle.events.specs.declared.Block.{Block}
+use Rattle.recurrence.specs.Instances.{startOf, endOf, occurs, instancesAtMost}
+use Rattle.pieces.specs.BusyPeriods.{busyPeriod, listBelow, instancePeriod, eventPeriods, entryPeriods, busyPeriods}
 
--- ---- one period
+-- ---- an instance
 
-module _ {place from to : ℕ} (busy : BusyType) (start end a b : ℕ) (e : place ≡ reportPlace busy) (f : from ≡ max a start) (t : to ≡ min b end) where
-  tested : (ltb place 3 && ltb from to) ≡ isPiece a b (busyPeriod busy start end)
-  unfolding isPiece isBusy clipped
-  tested =
-      ap (λ (i : ℕ). ltb i 3 && ltb from to) e
-      ∙ ap (λ (i : ℕ). ltb (reportPlace busy) 3 && ltb i to) f
-      ∙ ap (λ (i : ℕ). ltb (reportPlace busy) 3 && ltb (max a start) i) t
+-- a list of one or of none, by a test
+pub chosen : (t : Bool) (c : BusyPeriod) → t ≡ true → _≡_ {A = List BusyPeriod} (elim t [ true ↦ c ∷ [] | false ↦ [] ]) (c ∷ [])
+chosen true c h = refl
+chosen false c h = clash h refl
 
-  clipped-numbers : (o : List ℕ) (i : ℕ) → sets o i (from ∷ to ∷ place ∷ []) ≡ sets o i (max a start ∷ min b end ∷ reportPlace busy ∷ [])
-  clipped-numbers o i =
-      ap (λ (x : ℕ). sets o i (x ∷ to ∷ place ∷ [])) f
-      ∙ ap (λ (x : ℕ). sets o i (max a start ∷ x ∷ place ∷ [])) t
-      ∙ ap (λ (x : ℕ). sets o i (max a start ∷ min b end ∷ x ∷ [])) e
-
-  module _ {o : List ℕ} {n : ℕ} where
-    pub piece-stored : {o′ : List ℕ} → (ltb n 513 && ltb place 3 && ltb from to) ≡ true → o′ ≡ sets o (3 * n) (from ∷ to ∷ place ∷ [])
-        → Stored o n (pieceOf a b (busyPeriod busy start end)) o′ (n + 1)
-    unfolding clipped
-    piece-stored {o′} h q =
-        let m = and-left (ltb n 513 && ltb place 3) _ h in
-        let k = and-both (and-right (ltb n 513) _ m) (and-right (ltb n 513 && ltb place 3) _ h) in
-        stored-as
-        (stored-piece {o = o} {o′ = o′} {n = n} {r = n + 1}
-        (record { busy = busy; period = clipped a b (busyPeriod busy start end .period) })
-        (ltb-true n 513 (and-left (ltb n 513) _ m)) (q ∙ clipped-numbers o (3 * n)) refl)
-        (sym (is-piece a b (busyPeriod busy start end) (sym tested ∙ k)))
-
-    pub piece-left : (ltb n 513 && ltb place 3 && ltb from to) ≡ false → Stored o n (pieceOf a b (busyPeriod busy start end)) o n
-    piece-left h = go (ltb n 513) refl h
-      where
-        go : (y : Bool) → ltb n 513 ≡ y → (y && ltb place 3 && ltb from to) ≡ false → Stored o n (pieceOf a b (busyPeriod busy start end)) o n
-        go true q k = stored-as (stored-none o n) (sym (is-none a b (busyPeriod busy start end) (sym tested ∙ k)))
-        go false q k = stored-full o n _ (ltb-false n 513 q)
-
--- the numbers of a piece are small
-pub piece-small : {to : ℕ} (place from n b end : ℕ) → to ≡ min b end → b ≤ lastSecond → (ltb n 513 && ltb place 3 && ltb from to) ≡ true
-    → (n < 513) × (from ≤ lastSecond) × (to ≤ lastSecond) × (place ≤ 3)
-piece-small {to} place from n b end t l h =
-    let m = and-left (ltb n 513 && ltb place 3) _ h in
-    let r = ltb-true from to (and-right (ltb n 513 && ltb place 3) _ h) in
-    let s : to ≤ lastSecond = omega (arith) in
-    (ltb-true n 513 (and-left (ltb n 513) _ m), omega arith, s, omega (arith, ltb-true place 3 (and-right (ltb n 513) _ m)))
-
--- ---- one instance
+pub left-out : (t : Bool) (c : BusyPeriod) → t ≡ false → _≡_ {A = List BusyPeriod} (elim t [ true ↦ c ∷ [] | false ↦ [] ]) []
+left-out true c h = clash refl h
+left-out false c h = refl
 
 pub occurs-period : (e : Event) (k : ℕ) → occurs e k ≡ true → instancePeriod e k ≡ busyPeriod (e .busy) (startOf e k) (endOf e k) ∷ []
 unfolding instancePeriod
@@ -80,162 +34,50 @@ pub fails-period : (e : Event) (k : ℕ) → occurs e k ≡ false → instancePe
 unfolding instancePeriod
 fails-period e k h = left-out (occurs e k) (busyPeriod (e .busy) (startOf e k) (endOf e k)) h
 
-module _ (e : Event) (k a b : ℕ) {o : List ℕ} {n : ℕ} {t : Bool} (h : t ≡ occurs e k) where
-  pub instance-stored : {o′ : List ℕ} {r s f : ℕ} → t ≡ true → s ≡ startOf e k → f ≡ endOf e k
-      → Stored o n (pieceOf a b (busyPeriod (e .busy) s f)) o′ r → Stored o n (piecesOf a b (instancePeriod e k)) o′ r
-  instance-stored {s = s} {f = f} q x y m =
-      stored-as m
-      (ap (λ (i : ℕ). pieceOf a b (busyPeriod (e .busy) i f)) x
-      ∙ ap (λ (i : ℕ). pieceOf a b (busyPeriod (e .busy) (startOf e k) i)) y
-      ∙ sym (ap (piecesOf a b) (occurs-period e k (sym h ∙ q)) ∙ one-piece a b _))
+-- ---- the lists below a number
 
-  pub instance-left : t ≡ false → Stored o n (piecesOf a b (instancePeriod e k)) o n
-  instance-left q = stored-as (stored-none o n) (sym (ap (piecesOf a b) (fails-period e k (sym h ∙ q)) ∙ piecesOf-none a b))
-
--- ---- an event
-
--- an instance that is not in range has no piece
-out-of-range-piece : (e : Event) (a b k : ℕ) → instanceIn e a b k ≡ false → occurs e k ≡ true → isPiece a b (busyPeriod (e .busy) (startOf e k) (endOf e k)) ≡ false
-unfolding isPiece clipped
-out-of-range-piece e a b k h o =
-    let s = startOf e k in
-    let t = endOf e k in
-    not-so _
-    (λ q.
-    let m = ltb-true (max a s) (min b t) (and-right (isBusy (e .busy)) _ q) in
-    clash (covering-in e a b k (max a s) o (omega arith) (omega arith) (omega arith) (omega arith)) h)
-
-out-of-range : (e : Event) (a b k : ℕ) → instanceIn e a b k ≡ false → piecesOf a b (instancePeriod e k) ≡ []
-out-of-range e a b k h = go (occurs e k) refl
-  where
-    go : (t : Bool) → occurs e k ≡ t → piecesOf a b (instancePeriod e k) ≡ []
-    go true q = ap (piecesOf a b) (occurs-period e k q) ∙ one-piece a b _ ∙ is-none a b _ (out-of-range-piece e a b k h q)
-    go false q = ap (piecesOf a b) (fails-period e k q) ∙ piecesOf-none a b
-
-silent : (e : Event) (a b k : ℕ) (o : List ℕ) (n : ℕ) → instanceIn e a b k ≡ false → Stored o n (piecesOf a b (instancePeriod e k)) o n
-silent e a b k o n h = stored-as (stored-none o n) (sym (out-of-range e a b k h))
-
-module _ (a b : ℕ) (f : ℕ → List BusyPeriod) {o₀ : List ℕ} {first : ℕ} where
-  -- the pieces of one number more
-  below-then : {o o′ : List ℕ} {n r : ℕ} (k : ℕ) → Stored o₀ first (piecesOf a b (listBelow k f)) o n → Stored o n (piecesOf a b (f k)) o′ r
-      → Stored o₀ first (piecesOf a b (listBelow (suc k) f)) o′ r
-  unfolding listBelow
-  below-then k h m = stored-as (stored-then h m) (sym (piecesOf-append a b (listBelow k f) (f k)))
-
-  -- numbers that add nothing
-  below-over : {o : List ℕ} {n : ℕ} (k j : ℕ) → Stored o₀ first (piecesOf a b (listBelow k f)) o n
-      → ((i : ℕ) → k ≤ i → i < k + j → Stored o n (piecesOf a b (f i)) o n) → Stored o₀ first (piecesOf a b (listBelow (k + j) f)) o n
-  below-over {o} {n} k zero h s = subst (λ (i : ℕ). Stored o₀ first (piecesOf a b (listBelow i f)) o n) (let z : k ≡ k + 0 = omega arith in z) h
-  below-over {o} {n} k (suc j) h s =
-      subst (λ (i : ℕ). Stored o₀ first (piecesOf a b (listBelow i f)) o n) (let z : suc (k + j) ≡ k + suc j = omega arith in z)
-      (below-then (k + j) (below-over k j h (λ i p q. s i p (omega arith))) (s (k + j) (omega arith) (omega arith)))
-
-below-none : (a b : ℕ) (f : ℕ → List BusyPeriod) (o : List ℕ) (n : ℕ) → Stored o n (piecesOf a b (listBelow 0 f)) o n
+pub below-listed : {p : BusyPeriod} (f : ℕ → List BusyPeriod) (n k : ℕ) → k < n → List·Memᴰ p (f k) → List·Memᴰ p (listBelow n f)
 unfolding listBelow
-below-none a b f o n = stored-as (stored-none o n) (sym (piecesOf-none a b))
-
--- the pieces of the instances below k are stored
-pub record Walked (e : Event) (a b : ℕ) (o₀ : List ℕ) (first : ℕ) (o : List ℕ) (n k : ℕ) : Type 0 where
-  pub few : k ≤ instancesAtMost
-  pub so-far : Stored o₀ first (piecesOf a b (listBelow k (instancePeriod e))) o n
-
-pub walked-start : (e : Event) (a b : ℕ) (o : List ℕ) (first k : ℕ) → FirstCandidate e a k → Walked e a b o first o first k
-walked-start e a b o first k h =
-    record {
-      few = omega (arith, h .few);
-      so-far =
-          subst (λ (i : ℕ). Stored o first (piecesOf a b (listBelow i (instancePeriod e))) o first) (let z : 0 + k ≡ k = omega arith in z)
-          (below-over a b (instancePeriod e) 0 k (below-none a b (instancePeriod e) o first)
-          (λ i p q. silent e a b i o first (h .none-before b i (omega arith))));
-    }
-
-module _ {e : Event} {a b : ℕ} {o₀ : List ℕ} {first : ℕ} {o : List ℕ} {n k : ℕ} (w : Walked e a b o₀ first o n k) where
-  pub walked-more : {o′ : List ℕ} {r : ℕ} → k < instancesAtMost → Stored o n (piecesOf a b (instancePeriod e k)) o′ r → Walked e a b o₀ first o′ r (k + 1)
-  walked-more {o′} {r} h m =
-      record {
-        few = omega arith;
-        so-far =
-            subst (λ (i : ℕ). Stored o₀ first (piecesOf a b (listBelow i (instancePeriod e))) o′ r) (let z : suc k ≡ k + 1 = omega arith in z)
-            (below-then a b (instancePeriod e) k (w .so-far) m);
-      }
-
-  to-the-end : ((i : ℕ) → k ≤ i → Stored o n (piecesOf a b (instancePeriod e i)) o n) → Stored o₀ first (piecesOf a b (eventPeriods e)) o n
-  unfolding eventPeriods
-  to-the-end s =
-      subst (λ (i : ℕ). Stored o₀ first (piecesOf a b (listBelow i (instancePeriod e))) o n)
-      (let z : k + (instancesAtMost - k) ≡ instancesAtMost = omega (arith, w .few) in z)
-      (below-over a b (instancePeriod e) k (instancesAtMost - k) (w .so-far) (λ i p q. s i p))
-
-  -- no room is left, or no later instance is in range
-  pub walked-end : {t : Bool} → MoreCandidates e b k t → (ltb n 513 && t) ≡ false → Stored o₀ first (piecesOf a b (eventPeriods e)) o n
-  walked-end {t} x h = go (ltb n 513) refl h
-    where
-      go : (y : Bool) → ltb n 513 ≡ y → (y && t) ≡ false → Stored o₀ first (piecesOf a b (eventPeriods e)) o n
-      go true z m = to-the-end (λ i p. silent e a b i o n (x .none-from m a i p))
-      go false z m = to-the-end (λ i p. stored-full o n _ (ltb-false n 513 z))
-
-  pub walked-few : first ≤ 513 → n ≤ 513
-  walked-few = stored-few (w .so-far)
-
-  pub walked-long : length o ≡ length o₀
-  walked-long = stored-long (w .so-far)
-
--- ---- an event that can have no piece, in any range
-
--- free time is no piece
-free-none : (a b s t : ℕ) (y : BusyType) → isBusy y ≡ false → isPiece a b (busyPeriod y s t) ≡ false
-unfolding isPiece
-free-none a b s t y h = rw h
-
--- nor is what has no length
-empty-none : (a b s t : ℕ) (y : BusyType) → t ≡ s → isPiece a b (busyPeriod y s t) ≡ false
-unfolding isPiece clipped
-empty-none a b s t y q = not-so _ (λ h. omega (arith, ltb-true (max a s) (min b t) (and-right (isBusy y) _ h)))
-
-module _ (e : Event) (a b : ℕ) (h : (k : ℕ) → isPiece a b (busyPeriod (e .busy) (startOf e k) (endOf e k)) ≡ false) where
-  instance-none : (k : ℕ) → piecesOf a b (instancePeriod e k) ≡ []
-  instance-none k = go (occurs e k) refl
-    where
-      go : (t : Bool) → occurs e k ≡ t → piecesOf a b (instancePeriod e k) ≡ []
-      go true q = ap (piecesOf a b) (occurs-period e k q) ∙ one-piece a b _ ∙ is-none a b _ (h k)
-      go false q = ap (piecesOf a b) (fails-period e k q) ∙ piecesOf-none a b
-
-  instances-none : (n : ℕ) → piecesOf a b (listBelow n (instancePeriod e)) ≡ []
-  unfolding listBelow
-  instances-none zero = piecesOf-none a b
-  instances-none (suc n) =
-      piecesOf-append a b (listBelow n (instancePeriod e)) (instancePeriod e n)
-      ∙ ap (λ (l : List BusyPeriod). l ++ piecesOf a b (instancePeriod e n)) (instances-none n)
-      ∙ instance-none n
-
-  event-none : piecesOf a b (eventPeriods e) ≡ []
-  unfolding eventPeriods
-  event-none = instances-none instancesAtMost
-
-pub free-event : (e : Event) → isBusy (e .busy) ≡ false → (a b : ℕ) → piecesOf a b (eventPeriods e) ≡ []
-free-event e h a b = event-none e a b (λ k. free-none a b (startOf e k) (endOf e k) (e .busy) h)
-
-pub empty-event : (e : Event) → isZeroLength e ≡ true → (a b : ℕ) → piecesOf a b (eventPeriods e) ≡ []
-empty-event e h a b = event-none e a b (λ k. empty-none a b (startOf e k) (endOf e k) (e .busy) (zero-length-end e k h))
-
--- such an event by itself, in any range
-pub no-pieces : (a b : ℕ) (e : Event) → isZeroLength e ≡ true → busyPieces a b (event e ∷ []) ≡ []
-unfolding busyPieces busyPeriods entryPeriods
-no-pieces a b e h = ap (piecesOf a b) (append-nil (eventPeriods e)) ∙ empty-event e h a b
-
--- by the test that the code makes of its place in a report and of its length
-pub no-event-pieces : (e : Event) {p : ℕ} {z : Bool} → p ≡ reportPlace (e .busy) → z ≡ isZeroLength e → (ltb p 3 && not z) ≡ false
-    → (a b : ℕ) → piecesOf a b (eventPeriods e) ≡ []
-unfolding isBusy
-no-event-pieces e {p} {z} q l h = go (ltb p 3) refl h
+below-listed f zero k h m = absurd (omega arith)
+below-listed {p} f (suc n) k h m = go (ltb k n) refl (λ l. below-listed f n k l m)
   where
-    go : (t : Bool) → ltb p 3 ≡ t → (t && not z) ≡ false → (a b : ℕ) → piecesOf a b (eventPeriods e) ≡ []
-    go true u v = empty-event e (sym l ∙ not-false z v)
-    go false u v = free-event e (ap (λ (i : ℕ). ltb i 3) (sym q) ∙ u)
+    go : (t : Bool) → ltb k n ≡ t → (k < n → List·Memᴰ p (listBelow n f)) → List·Memᴰ p (listBelow n f ++ f n)
+    go true q r = Memᴰ·append-left (f n) (r (ltb-true k n q))
+    go false q r =
+        Memᴰ·append-right (listBelow n f) (subst (λ (i : ℕ). List·Memᴰ p (f i)) (let z : k ≡ n = omega (arith, ltb-false k n q) in z) m)
 
-pub unstored : {o : List ℕ} {n : ℕ} {ps : List BusyPeriod} → ps ≡ [] → Stored o n ps o n
-unstored {o} {n} e = stored-as (stored-none o n) (sym e)
+pub record AtSome (p : BusyPeriod) (f : ℕ → List BusyPeriod) : Type 0 where
+  pub number : ℕ
+  pub there : List·Memᴰ p (f number)
 
--- while the walk goes on, instances are left
-pub walked-on : {e : Event} {b k : ℕ} {t : Bool} (n : ℕ) → MoreCandidates e b k t → (ltb n 513 && t) ≡ true → k < instancesAtMost
-walked-on n x m = x .few (and-right (ltb n 513) _ m)
+pub listed-below : {p : BusyPeriod} (f : ℕ → List BusyPeriod) (n : ℕ) → List·Memᴰ p (listBelow n f) → AtSome p f
+unfolding listBelow
+listed-below f zero m = absurd (List·Memᴰ·not-nil m)
+listed-below {p} f (suc n) m = go (List·Memᴰ·append-cases (listBelow n f) m) (listed-below f n)
+  where
+    go : List·Memᴰ p (listBelow n f) ⊎ List·Memᴰ p (f n) → (List·Memᴰ p (listBelow n f) → AtSome p f) → AtSome p f
+    go (inl d) r = r d
+    go (inr d) r = record { number = n; there = d }
+
+-- ---- an entry
+
+-- what an entry gives the calendar has
+pub entry-listed : {p : BusyPeriod} (y : Entry) (es : List Entry) → List·Memᴰ y es → List·Memᴰ p (entryPeriods y) → List·Memᴰ p (busyPeriods es)
+unfolding busyPeriods
+entry-listed y [] d m = absurd (List·Memᴰ·not-nil d)
+entry-listed {p} y (z ∷ es) d m = go (List·Memᴰ·cases-cons d) (λ i. entry-listed y es i m)
+  where
+    go : (y ≡ z) ⊎ List·Memᴰ y es → (List·Memᴰ y es → List·Memᴰ p (busyPeriods es)) → List·Memᴰ p (entryPeriods z ++ busyPeriods es)
+    go (inl i) r = Memᴰ·append-left (busyPeriods es) (subst (λ (w : Entry). List·Memᴰ p (entryPeriods w)) i m)
+    go (inr i) r = Memᴰ·append-right (entryPeriods z) (r i)
+
+pub instance-listed : (e : Event) (k : ℕ) → k < instancesAtMost → occurs e k ≡ true
+    → List·Memᴰ (busyPeriod (e .busy) (startOf e k) (endOf e k)) (entryPeriods (event e))
+unfolding entryPeriods eventPeriods
+instance-listed e k l h =
+    below-listed (instancePeriod e) instancesAtMost k l
+    (subst (λ (w : List BusyPeriod). List·Memᴰ (busyPeriod (e .busy) (startOf e k) (endOf e k)) w) (sym (occurs-period e k h)) (List·Memᴰ·head refl))
+
+pub block-listed : (k : Block) (ps : List BusyPeriod) {p : BusyPeriod} → List·Memᴰ p ps → List·Memᴰ p (entryPeriods (block k ps))
+unfolding entryPeriods
+block-listed k ps m = m

@@ -1,28 +1,73 @@
--- The covered seconds for the reader: some instance that stands, or some FREEBUSY period, covers the second.
-use Prim.Native.Nat.{ℕ, zero, suc, _+_, _≤_, _<_}
+-- The covered seconds: list by list, and for the reader, that some instance that stands, or some FREEBUSY period, covers the second;
+-- and how many periods of each type there are.
+use Prim.Native.Nat.{ℕ, suc, _+_, _≤_, _<_}
 use mathlib.Core.Path.{_≡_, refl, sym, ap, _∙_, subst}
-use mathlib.Core.Bool.{Bool, true, false, _||_}
+use mathlib.Core.Bool.{Bool, true, false, cond, _&&_, _||_, or-assoc}
 use mathlib.Core.Logic.{_↔_, _⊎_, inl, inr}
-use mathlib.Core.List.{List, [], _∷_, _++_, List·Memᴰ, List·Memᴰ·head, List·Memᴰ·tail, List·Memᴰ·not-nil, List·Memᴰ·cases-cons, Memᴰ·append-left, Memᴰ·append-right, List·Memᴰ·append-cases, List·Memᴰ·eq-of-singleton}
+use mathlib.Core.List.{List, [], _∷_, _++_, List·Memᴰ, List·Memᴰ·head, List·Memᴰ·tail, List·Memᴰ·not-nil, List·Memᴰ·cases-cons, List·Memᴰ·append-cases, List·Memᴰ·eq-of-singleton}
 use native.Mathlib.Omega.{arith}
-use lib.Dec.{ltb}
-use borrow.Author.Tests.{ltb-true, ltb-false}
+use lib.ListN.{length}
 use Rattle.time.specs.Limits.{lastSecond}
 use Rattle.ascii.proofs.Bools.{and-left, and-right, and-both, clash}
+use Rattle.periods.specs.declared.Period.{Period}
 use Rattle.periods.specs.declared.BusyType.{BusyType}
+use Rattle.periods.specs.Periods.{secondIn, covers}
 use Rattle.periods.proofs.Periods.{secondIn-ends, secondIn-true}
-use Rattle.periods.specs.BusyTypes.{sameBusy, BusyPeriod}
+use Rattle.periods.specs.BusyTypes.{reportPlace, isBusy, sameBusy, BusyPeriod}
+use Rattle.periods.proofs.BusyTypes.{sameBusy-iff}
 use Rattle.events.specs.Events.{Entry, event, block}
 use Rattle.events.specs.Sizes.{EventSmall}
 use Rattle.events.specs.declared.Event.{Event}
-use Rattle.events.specs.declared.Block.{Block}
-use Rattle.periods.proofs.BusyTypes.{sameBusy-iff}
-use Rattle.recurrence.specs.Instances.{startOf, endOf, occurs, instancesAtMost}
+use Rattle.recurrence.specs.Instances.{startOf, occurs, instancesAtMost}
 use Rattle.recurrence.proofs.Instances.{starts-few}
-use Rattle.pieces.specs.BusyPeriods.{listBelow, instancePeriod, eventPeriods, entryPeriods, busyPeriods, busyPeriod}
-use Rattle.pieces.specs.Covered.{coveredBy, covered, Covers, by-instance, by-period}
-use Rattle.pieces.proofs.Pieces.{covers-none, hits, hits-first}
-use Rattle.pieces.proofs.BusyPeriods.{occurs-period, fails-period}
+use Rattle.pieces.specs.BusyPeriods.{instancePeriod, eventPeriods, entryPeriods, busyPeriods}
+use Rattle.pieces.specs.Covered.{ofType, coveredBy, covered, Covers, by-instance, by-period}
+use Rattle.pieces.proofs.BusyPeriods.{occurs-period, fails-period, listed-below, entry-listed, instance-listed, block-listed}
+
+-- ---- lists after each other
+
+pub covers-none : (b : BusyType) (x : ℕ) → coveredBy b [] x ≡ false
+unfolding coveredBy ofType covers
+covers-none b x = refl
+
+pub ofType-append : (b : BusyType) (ps qs : List BusyPeriod) → ofType b (ps ++ qs) ≡ ofType b ps ++ ofType b qs
+unfolding ofType
+ofType-append b [] qs = refl
+ofType-append b (p ∷ ps) qs = go (sameBusy b (p .busy)) (ofType-append b ps qs)
+  where
+    go : (t : Bool) → ofType b (ps ++ qs) ≡ ofType b ps ++ ofType b qs
+        → (elim t [ true ↦ p .period ∷ ofType b (ps ++ qs) | false ↦ ofType b (ps ++ qs) ])
+        ≡ (elim t [ true ↦ p .period ∷ ofType b ps | false ↦ ofType b ps ]) ++ ofType b qs
+    go true e = ap (λ (l : List Period). p .period ∷ l) e
+    go false e = e
+
+covers-append : (x : ℕ) (ps qs : List Period) → covers (ps ++ qs) x ≡ (covers ps x || covers qs x)
+unfolding covers
+covers-append x [] qs = refl
+covers-append x (p ∷ ps) qs =
+    ap (λ (t : Bool). secondIn (p .start) (p .end) x || t) (covers-append x ps qs)
+    ∙ sym (or-assoc (secondIn (p .start) (p .end) x) (covers ps x) (covers qs x))
+
+pub coveredBy-append : (b : BusyType) (x : ℕ) (ps qs : List BusyPeriod) → coveredBy b (ps ++ qs) x ≡ (coveredBy b ps x || coveredBy b qs x)
+unfolding coveredBy
+coveredBy-append b x ps qs = ap (λ (l : List Period). covers l x) (ofType-append b ps qs) ∙ covers-append x (ofType b ps) (ofType b qs)
+
+-- ---- one period
+
+-- does the period, of its type, cover the second?
+unfoldable pub hits : BusyType → BusyPeriod → ℕ → Bool
+hits b p x = sameBusy b (p .busy) && secondIn (p .period .start) (p .period .end) x
+
+pub hits-first : (b : BusyType) (p : BusyPeriod) (ps : List BusyPeriod) (x : ℕ) → coveredBy b (p ∷ ps) x ≡ (hits b p x || coveredBy b ps x)
+unfolding coveredBy ofType covers hits
+hits-first b p ps x = go (sameBusy b (p .busy))
+  where
+    go : (t : Bool) → covers (elim t [ true ↦ p .period ∷ ofType b ps | false ↦ ofType b ps ]) x
+        ≡ (t && secondIn (p .period .start) (p .period .end) x || covers (ofType b ps) x)
+    go true = refl
+    go false = refl
+
+-- ---- some period of a list
 
 -- some period of the list has the type and covers the second
 pub record CoveredIn (ps : List BusyPeriod) (b : BusyType) (x : ℕ) : Type 0 where
@@ -72,31 +117,6 @@ module _ (b : BusyType) (x : ℕ) where
       go (inl d) k = ap (λ (t : Bool). t || coveredBy b ps x) (subst (λ (w : BusyPeriod). hits b w x ≡ true) d (hits-holds p e f g))
       go (inr d) k = or-right (hits b q x) (k d)
 
--- ---- the lists below a number
-
-below-listed : {p : BusyPeriod} (f : ℕ → List BusyPeriod) (n k : ℕ) → k < n → List·Memᴰ p (f k) → List·Memᴰ p (listBelow n f)
-unfolding listBelow
-below-listed f zero k h m = absurd (omega arith)
-below-listed {p} f (suc n) k h m = go (ltb k n) refl (λ l. below-listed f n k l m)
-  where
-    go : (t : Bool) → ltb k n ≡ t → (k < n → List·Memᴰ p (listBelow n f)) → List·Memᴰ p (listBelow n f ++ f n)
-    go true q r = Memᴰ·append-left (f n) (r (ltb-true k n q))
-    go false q r =
-        Memᴰ·append-right (listBelow n f) (subst (λ (i : ℕ). List·Memᴰ p (f i)) (let z : k ≡ n = omega (arith, ltb-false k n q) in z) m)
-
-record AtSome (p : BusyPeriod) (f : ℕ → List BusyPeriod) : Type 0 where
-  pub number : ℕ
-  pub there : List·Memᴰ p (f number)
-
-listed-below : {p : BusyPeriod} (f : ℕ → List BusyPeriod) (n : ℕ) → List·Memᴰ p (listBelow n f) → AtSome p f
-unfolding listBelow
-listed-below f zero m = absurd (List·Memᴰ·not-nil m)
-listed-below {p} f (suc n) m = go (List·Memᴰ·append-cases (listBelow n f) m) (listed-below f n)
-  where
-    go : List·Memᴰ p (listBelow n f) ⊎ List·Memᴰ p (f n) → (List·Memᴰ p (listBelow n f) → AtSome p f) → AtSome p f
-    go (inl d) r = r d
-    go (inr d) r = record { number = n; there = d }
-
 -- ---- an entry
 
 module _ (b : BusyType) (x : ℕ) where
@@ -135,27 +155,6 @@ module _ (b : BusyType) (x : ℕ) where
       go (inl d) r = entry-covers y d t f g (y ∷ es) (List·Memᴰ·head refl)
       go (inr d) r = covers-more y es (r d)
 
--- what an entry gives the calendar has
-entry-listed : {p : BusyPeriod} (y : Entry) (es : List Entry) → List·Memᴰ y es → List·Memᴰ p (entryPeriods y) → List·Memᴰ p (busyPeriods es)
-unfolding busyPeriods
-entry-listed y [] d m = absurd (List·Memᴰ·not-nil d)
-entry-listed {p} y (z ∷ es) d m = go (List·Memᴰ·cases-cons d) (λ i. entry-listed y es i m)
-  where
-    go : (y ≡ z) ⊎ List·Memᴰ y es → (List·Memᴰ y es → List·Memᴰ p (busyPeriods es)) → List·Memᴰ p (entryPeriods z ++ busyPeriods es)
-    go (inl i) r = Memᴰ·append-left (busyPeriods es) (subst (λ (w : Entry). List·Memᴰ p (entryPeriods w)) i m)
-    go (inr i) r = Memᴰ·append-right (entryPeriods z) (r i)
-
-instance-listed : (e : Event) (k : ℕ) → k < instancesAtMost → occurs e k ≡ true
-    → List·Memᴰ (busyPeriod (e .busy) (startOf e k) (endOf e k)) (entryPeriods (event e))
-unfolding entryPeriods eventPeriods
-instance-listed e k l h =
-    below-listed (instancePeriod e) instancesAtMost k l
-    (subst (λ (w : List BusyPeriod). List·Memᴰ (busyPeriod (e .busy) (startOf e k) (endOf e k)) w) (sym (occurs-period e k h)) (List·Memᴰ·head refl))
-
-block-listed : (k : Block) (ps : List BusyPeriod) {p : BusyPeriod} → List·Memᴰ p ps → List·Memᴰ p (entryPeriods (block k ps))
-unfolding entryPeriods
-block-listed k ps m = m
-
 module _ (b : BusyType) (es : List Entry) (x : ℕ) where
   covers-covered : x ≤ lastSecond → ((e : Event) → List·Memᴰ (event e) es → EventSmall e) → Covers es b x → covered b es x ≡ true
   unfolding covered
@@ -168,3 +167,42 @@ module _ (b : BusyType) (es : List Entry) (x : ℕ) where
   unfolding covered
   covered-iff l small =
       (λ h. let i = covered-listed b x (busyPeriods es) h in entries-cover b x es (i .listed) (i .type) (i .from) (i .to), covers-covered l small)
+
+-- ---- how many
+
+type-first : (b : BusyType) (p : BusyPeriod) (ps : List BusyPeriod)
+    → length (ofType b (p ∷ ps)) ≡ cond (sameBusy b (p .busy)) (1 + length (ofType b ps)) (length (ofType b ps))
+unfolding ofType
+type-first b p ps = go (sameBusy b (p .busy))
+  where
+    go : (t : Bool) → length {A = Period} (elim t [ true ↦ p .period ∷ ofType b ps | false ↦ ofType b ps ]) ≡ cond t (1 + length (ofType b ps)) (length (ofType b ps))
+    go true = omega arith
+    go false = refl
+
+one-type : (c : BusyType) (k m n : ℕ) → isBusy c ≡ true
+    → cond (sameBusy BusyType.Busy c) (1 + k) k + cond (sameBusy BusyType.Tentative c) (1 + m) m + cond (sameBusy BusyType.Unavailable c) (1 + n) n ≡ 1 + (k + m + n)
+unfolding isBusy sameBusy reportPlace
+one-type BusyType.Busy k m n h = omega arith
+one-type BusyType.Tentative k m n h = omega arith
+one-type BusyType.Unavailable k m n h = omega arith
+one-type BusyType.Free k m n h = clash h refl
+
+by-type : (p : BusyPeriod) (ps : List BusyPeriod) → isBusy (p .busy) ≡ true
+    → length (ofType BusyType.Busy (p ∷ ps)) + length (ofType BusyType.Tentative (p ∷ ps)) + length (ofType BusyType.Unavailable (p ∷ ps))
+    ≡ 1 + (length (ofType BusyType.Busy ps) + length (ofType BusyType.Tentative ps) + length (ofType BusyType.Unavailable ps))
+by-type p ps h =
+    rw (type-first BusyType.Busy p ps, type-first BusyType.Tentative p ps, type-first BusyType.Unavailable p ps)
+    (one-type (p .busy) (length (ofType BusyType.Busy ps)) (length (ofType BusyType.Tentative ps)) (length (ofType BusyType.Unavailable ps)) h)
+
+no-type : 0 ≡ length (ofType BusyType.Busy []) + length (ofType BusyType.Tentative []) + length (ofType BusyType.Unavailable [])
+unfolding ofType
+no-type = refl
+
+-- each busy period is of one of three types
+pub types-count : (ps : List BusyPeriod) → ((p : BusyPeriod) → List·Memᴰ p ps → isBusy (p .busy) ≡ true)
+    → length ps ≡ length (ofType BusyType.Busy ps) + length (ofType BusyType.Tentative ps) + length (ofType BusyType.Unavailable ps)
+types-count [] f = no-type
+types-count (p ∷ ps) f =
+    let e = types-count ps (λ q m. f q (List·Memᴰ·tail m)) in
+    let z : suc (length ps) ≡ 1 + length ps = omega arith in
+    z ∙ ap (λ (n : ℕ). 1 + n) e ∙ sym (by-type p ps (f p (List·Memᴰ·head refl)))

@@ -1,4 +1,5 @@
-pub mod Columns
-pub mod Pieces
-pub mod Covered
 pub mod BusyPeriods
+pub mod Covered
+pub mod Pieces
+pub mod Columns
+pub mod ColumnsStoring

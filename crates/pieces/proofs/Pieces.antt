@@ -1,39 +1,37 @@
--- Clipping busy periods to a range: what the pieces cover, and where they stand.
-use Prim.Native.Nat.{ℕ, suc, _+_, _≤_, _<_, min, max}
+-- Clipping busy periods to a range: what the pieces cover, where they stand, and how many there are; which instances and events have none.
+use Prim.Native.Nat.{ℕ, zero, suc, _+_, _≤_, _<_, min, max}
 use mathlib.Core.Path.{_≡_, refl, sym, ap, _∙_, subst}
-use mathlib.Core.Bool.{Bool, true, false, cond, _&&_, _||_, and-false, or-false, or-assoc}
+use mathlib.Core.Bool.{Bool, true, false, not, _&&_, _||_, and-false, or-false}
 use mathlib.Core.Logic.{_⊎_, inl, inr}
 use mathlib.Core.List.{List, [], _∷_, _++_, append-assoc, append-nil, List·Memᴰ, List·Memᴰ·head, List·Memᴰ·tail, List·Memᴰ·not-nil, List·Memᴰ·append-cases, List·Memᴰ·eq-of-singleton}
 use native.Mathlib.Omega.{arith}
 use lib.Dec.{ltb}
 use lib.ListN.{length}
-use borrow.Author.Tests.{ltb-true, lt-ltb, le-ltb, eqb-true}
+use borrow.Author.Tests.{ltb-true, lt-ltb, eqb-true, not-false}
 use Rattle.ascii.proofs.Bools.{and-left, and-right, and-both, clash, not-so}
 use Rattle.periods.specs.declared.Period.{Period}
 use Rattle.periods.specs.declared.BusyType.{BusyType}
-use Rattle.periods.specs.Periods.{period, secondIn, covers}
+use Rattle.periods.specs.Periods.{period, secondIn}
 use Rattle.periods.proofs.Periods.{secondIn-ends, secondIn-true}
 use Rattle.periods.specs.BusyTypes.{reportPlace, isBusy, sameBusy, BusyPeriod}
-use Rattle.events.specs.Events.{Entry}
-use Rattle.pieces.specs.BusyPeriods.{busyPeriods}
+use Rattle.events.specs.Events.{Entry, event}
+use Rattle.events.specs.declared.Event.{Event}
+use Rattle.recurrence.specs.Instances.{startOf, endOf, occurs, isZeroLength, instancesAtMost}
+use Rattle.recurrence.specs.TimeRange.{instanceIn}
+use Rattle.recurrence.proofs.Instances.{zero-length-end}
+use Rattle.recurrence.proofs.TimeRange.{covering-in}
+use Rattle.pieces.specs.BusyPeriods.{busyPeriod, listBelow, instancePeriod, eventPeriods, entryPeriods, busyPeriods}
 use Rattle.pieces.specs.Covered.{ofType, coveredBy, covered}
 use Rattle.pieces.specs.Pieces.{clipped, isPiece, pieceOf, piecesOf, busyPieces}
+use Rattle.pieces.proofs.BusyPeriods.{chosen, left-out, occurs-period, fails-period}
+use Rattle.pieces.proofs.Covered.{covers-none, coveredBy-append, hits, hits-first, types-count}
 
 -- two Bools that follow from each other are one
-pub each-other : (x y : Bool) → (x ≡ true → y ≡ true) → (y ≡ true → x ≡ true) → x ≡ y
+each-other : (x y : Bool) → (x ≡ true → y ≡ true) → (y ≡ true → x ≡ true) → x ≡ y
 each-other true y f g = sym (f refl)
 each-other false y f g = sym (not-so y (λ q. clash (g q) refl))
 
 -- ---- one period, or none
-
--- a list of one or of none, by a test
-pub chosen : (t : Bool) (c : BusyPeriod) → t ≡ true → _≡_ {A = List BusyPeriod} (elim t [ true ↦ c ∷ [] | false ↦ [] ]) (c ∷ [])
-chosen true c h = refl
-chosen false c h = clash h refl
-
-pub left-out : (t : Bool) (c : BusyPeriod) → t ≡ false → _≡_ {A = List BusyPeriod} (elim t [ true ↦ c ∷ [] | false ↦ [] ]) []
-left-out true c h = clash refl h
-left-out false c h = refl
 
 abbrev pub pieceIn : ℕ → ℕ → BusyPeriod → BusyPeriod
 pieceIn a e p = record { busy = p .busy; period = clipped a e (p .period) }
@@ -55,48 +53,13 @@ pub piecesOf-none : (a e : ℕ) → piecesOf a e [] ≡ []
 unfolding piecesOf
 piecesOf-none a e = refl
 
-pub covers-none : (b : BusyType) (x : ℕ) → coveredBy b [] x ≡ false
-unfolding coveredBy ofType covers
-covers-none b x = refl
-
--- ---- lists after each other
-
-pub ofType-append : (b : BusyType) (ps qs : List BusyPeriod) → ofType b (ps ++ qs) ≡ ofType b ps ++ ofType b qs
-unfolding ofType
-ofType-append b [] qs = refl
-ofType-append b (p ∷ ps) qs = go (sameBusy b (p .busy)) (ofType-append b ps qs)
-  where
-    go : (t : Bool) → ofType b (ps ++ qs) ≡ ofType b ps ++ ofType b qs
-        → (elim t [ true ↦ p .period ∷ ofType b (ps ++ qs) | false ↦ ofType b (ps ++ qs) ])
-        ≡ (elim t [ true ↦ p .period ∷ ofType b ps | false ↦ ofType b ps ]) ++ ofType b qs
-    go true e = ap (λ (l : List Period). p .period ∷ l) e
-    go false e = e
-
 pub piecesOf-append : (a e : ℕ) (ps qs : List BusyPeriod) → piecesOf a e (ps ++ qs) ≡ piecesOf a e ps ++ piecesOf a e qs
 unfolding piecesOf
 piecesOf-append a e [] qs = refl
 piecesOf-append a e (p ∷ ps) qs =
     ap (λ (l : List BusyPeriod). pieceOf a e p ++ l) (piecesOf-append a e ps qs) ∙ sym (append-assoc (pieceOf a e p) (piecesOf a e ps) (piecesOf a e qs))
 
-covers-append : (x : ℕ) (ps qs : List Period) → covers (ps ++ qs) x ≡ (covers ps x || covers qs x)
-unfolding covers
-covers-append x [] qs = refl
-covers-append x (p ∷ ps) qs =
-    ap (λ (t : Bool). secondIn (p .start) (p .end) x || t) (covers-append x ps qs)
-    ∙ sym (or-assoc (secondIn (p .start) (p .end) x) (covers ps x) (covers qs x))
-
-pub coveredBy-append : (b : BusyType) (x : ℕ) (ps qs : List BusyPeriod) → coveredBy b (ps ++ qs) x ≡ (coveredBy b ps x || coveredBy b qs x)
-unfolding coveredBy
-coveredBy-append b x ps qs = ap (λ (l : List Period). covers l x) (ofType-append b ps qs) ∙ covers-append x (ofType b ps) (ofType b qs)
-
--- ---- one period
-
--- a choice by its test: max a s and, with the two turned, min
-pub later : {x y t : ℕ} (e : ℕ) → x < y → t ≡ cond (ltb x y) t e
-later {x} {y} {t} e h = sym (ap (λ (z : Bool). cond z t e) (lt-ltb x y h))
-
-pub earlier : {x y e : ℕ} (t : ℕ) → y ≤ x → e ≡ cond (ltb x y) t e
-earlier {x} {y} {e} t h = sym (ap (λ (z : Bool). cond z t e) (le-ltb x y h))
+-- ---- what the pieces cover
 
 min-same : (e t : ℕ) → t ≤ e → min e t ≡ t
 min-same e t p = omega arith
@@ -113,19 +76,6 @@ clipped-secondIn a e x s t =
     let k = secondIn-ends a e x (and-left (secondIn a e x) _ h) in
     let m = secondIn-ends s t x (and-right (secondIn a e x) _ h) in
     secondIn-true _ _ x (omega (arith, k .0, m .0)) (omega (arith, k .1, m .1)))
-
--- does the period, of its type, cover the second?
-unfoldable pub hits : BusyType → BusyPeriod → ℕ → Bool
-hits b p x = sameBusy b (p .busy) && secondIn (p .period .start) (p .period .end) x
-
-pub hits-first : (b : BusyType) (p : BusyPeriod) (ps : List BusyPeriod) (x : ℕ) → coveredBy b (p ∷ ps) x ≡ (hits b p x || coveredBy b ps x)
-unfolding coveredBy ofType covers hits
-hits-first b p ps x = go (sameBusy b (p .busy))
-  where
-    go : (t : Bool) → covers (elim t [ true ↦ p .period ∷ ofType b ps | false ↦ ofType b ps ]) x
-        ≡ (t && secondIn (p .period .start) (p .period .end) x || covers (ofType b ps) x)
-    go true = refl
-    go false = refl
 
 same-is-busy : (b c : BusyType) → isBusy b ≡ true → sameBusy b c ≡ true → isBusy c ≡ true
 unfolding isBusy sameBusy
@@ -248,44 +198,76 @@ module _ (a e : ℕ) where
 
 -- ---- how many
 
-type-first : (b : BusyType) (p : BusyPeriod) (ps : List BusyPeriod)
-    → length (ofType b (p ∷ ps)) ≡ cond (sameBusy b (p .busy)) (1 + length (ofType b ps)) (length (ofType b ps))
-unfolding ofType
-type-first b p ps = go (sameBusy b (p .busy))
-  where
-    go : (t : Bool) → length {A = Period} (elim t [ true ↦ p .period ∷ ofType b ps | false ↦ ofType b ps ]) ≡ cond t (1 + length (ofType b ps)) (length (ofType b ps))
-    go true = omega arith
-    go false = refl
-
-one-type : (c : BusyType) (k m n : ℕ) → isBusy c ≡ true
-    → cond (sameBusy BusyType.Busy c) (1 + k) k + cond (sameBusy BusyType.Tentative c) (1 + m) m + cond (sameBusy BusyType.Unavailable c) (1 + n) n ≡ 1 + (k + m + n)
-unfolding isBusy sameBusy reportPlace
-one-type BusyType.Busy k m n h = omega arith
-one-type BusyType.Tentative k m n h = omega arith
-one-type BusyType.Unavailable k m n h = omega arith
-one-type BusyType.Free k m n h = clash h refl
-
-by-type : (p : BusyPeriod) (ps : List BusyPeriod) → isBusy (p .busy) ≡ true
-    → length (ofType BusyType.Busy (p ∷ ps)) + length (ofType BusyType.Tentative (p ∷ ps)) + length (ofType BusyType.Unavailable (p ∷ ps))
-    ≡ 1 + (length (ofType BusyType.Busy ps) + length (ofType BusyType.Tentative ps) + length (ofType BusyType.Unavailable ps))
-by-type p ps h =
-    rw (type-first BusyType.Busy p ps, type-first BusyType.Tentative p ps, type-first BusyType.Unavailable p ps)
-    (one-type (p .busy) (length (ofType BusyType.Busy ps)) (length (ofType BusyType.Tentative ps)) (length (ofType BusyType.Unavailable ps)) h)
-
-no-type : 0 ≡ length (ofType BusyType.Busy []) + length (ofType BusyType.Tentative []) + length (ofType BusyType.Unavailable [])
-unfolding ofType
-no-type = refl
-
--- each busy period is of one of three types
-pub types-count : (ps : List BusyPeriod) → ((p : BusyPeriod) → List·Memᴰ p ps → isBusy (p .busy) ≡ true)
-    → length ps ≡ length (ofType BusyType.Busy ps) + length (ofType BusyType.Tentative ps) + length (ofType BusyType.Unavailable ps)
-types-count [] f = no-type
-types-count (p ∷ ps) f =
-    let e = types-count ps (λ q m. f q (List·Memᴰ·tail m)) in
-    let z : suc (length ps) ≡ 1 + length ps = omega arith in
-    z ∙ ap (λ (n : ℕ). 1 + n) e ∙ sym (by-type p ps (f p (List·Memᴰ·head refl)))
-
 pub pieces-count : (a e : ℕ) (ps : List BusyPeriod)
     → length (piecesOf a e ps)
     ≡ length (ofType BusyType.Busy (piecesOf a e ps)) + length (ofType BusyType.Tentative (piecesOf a e ps)) + length (ofType BusyType.Unavailable (piecesOf a e ps))
 pieces-count a e ps = types-count (piecesOf a e ps) (λ p m. pieces-inside a e ps m .is-busy)
+
+-- ---- instances and events without a piece
+
+-- an instance whose period is no piece
+instance-none : (e : Event) (a b k : ℕ) → (occurs e k ≡ true → isPiece a b (busyPeriod (e .busy) (startOf e k) (endOf e k)) ≡ false)
+    → piecesOf a b (instancePeriod e k) ≡ []
+instance-none e a b k h = go (occurs e k) refl
+  where
+    go : (t : Bool) → occurs e k ≡ t → piecesOf a b (instancePeriod e k) ≡ []
+    go true q = ap (piecesOf a b) (occurs-period e k q) ∙ one-piece a b _ ∙ is-none a b _ (h q)
+    go false q = ap (piecesOf a b) (fails-period e k q) ∙ piecesOf-none a b
+
+out-of-range-piece : (e : Event) (a b k : ℕ) → instanceIn e a b k ≡ false → occurs e k ≡ true → isPiece a b (busyPeriod (e .busy) (startOf e k) (endOf e k)) ≡ false
+unfolding isPiece clipped
+out-of-range-piece e a b k h o =
+    let s = startOf e k in
+    let t = endOf e k in
+    not-so _
+    (λ q.
+    let m = ltb-true (max a s) (min b t) (and-right (isBusy (e .busy)) _ q) in
+    clash (covering-in e a b k (max a s) o (omega arith) (omega arith) (omega arith) (omega arith)) h)
+
+-- an instance that is not in range
+pub out-of-range : (e : Event) (a b k : ℕ) → instanceIn e a b k ≡ false → piecesOf a b (instancePeriod e k) ≡ []
+out-of-range e a b k h = instance-none e a b k (out-of-range-piece e a b k h)
+
+-- free time is no piece
+free-none : (a b s t : ℕ) (y : BusyType) → isBusy y ≡ false → isPiece a b (busyPeriod y s t) ≡ false
+unfolding isPiece
+free-none a b s t y h = rw h
+
+-- nor is what ends where it starts
+empty-none : (a b s t : ℕ) (y : BusyType) → t ≡ s → isPiece a b (busyPeriod y s t) ≡ false
+unfolding isPiece clipped
+empty-none a b s t y q = not-so _ (λ h. omega (arith, ltb-true (max a s) (min b t) (and-right (isBusy y) _ h)))
+
+module _ (e : Event) (a b : ℕ) (h : (k : ℕ) → isPiece a b (busyPeriod (e .busy) (startOf e k) (endOf e k)) ≡ false) where
+  instances-none : (n : ℕ) → piecesOf a b (listBelow n (instancePeriod e)) ≡ []
+  unfolding listBelow
+  instances-none zero = piecesOf-none a b
+  instances-none (suc n) =
+      piecesOf-append a b (listBelow n (instancePeriod e)) (instancePeriod e n)
+      ∙ ap (λ (l : List BusyPeriod). l ++ piecesOf a b (instancePeriod e n)) (instances-none n)
+      ∙ instance-none e a b n (λ o. h n)
+
+  event-none : piecesOf a b (eventPeriods e) ≡ []
+  unfolding eventPeriods
+  event-none = instances-none instancesAtMost
+
+pub free-event : (e : Event) → isBusy (e .busy) ≡ false → (a b : ℕ) → piecesOf a b (eventPeriods e) ≡ []
+free-event e h a b = event-none e a b (λ k. free-none a b (startOf e k) (endOf e k) (e .busy) h)
+
+pub empty-event : (e : Event) → isZeroLength e ≡ true → (a b : ℕ) → piecesOf a b (eventPeriods e) ≡ []
+empty-event e h a b = event-none e a b (λ k. empty-none a b (startOf e k) (endOf e k) (e .busy) (zero-length-end e k h))
+
+-- such an event by itself, in any range
+pub no-pieces : (a b : ℕ) (e : Event) → isZeroLength e ≡ true → busyPieces a b (event e ∷ []) ≡ []
+unfolding busyPieces busyPeriods entryPeriods
+no-pieces a b e h = ap (piecesOf a b) (append-nil (eventPeriods e)) ∙ empty-event e h a b
+
+-- by the test that the code makes of its place in a report and of its length
+pub no-event-pieces : (e : Event) {p : ℕ} {z : Bool} → p ≡ reportPlace (e .busy) → z ≡ isZeroLength e → (ltb p 3 && not z) ≡ false
+    → (a b : ℕ) → piecesOf a b (eventPeriods e) ≡ []
+unfolding isBusy
+no-event-pieces e {p} {z} q l h = go (ltb p 3) refl h
+  where
+    go : (t : Bool) → ltb p 3 ≡ t → (t && not z) ≡ false → (a b : ℕ) → piecesOf a b (eventPeriods e) ≡ []
+    go true u v = empty-event e (sym l ∙ not-false z v)
+    go false u v = free-event e (ap (λ (i : ℕ). ltb i 3) (sym q) ∙ u)

@@ -45,7 +45,7 @@ use Rattle.calendar.specs.declared.ValueCheck.{ValueCheck}
 use Rattle.calendar.specs.declared.RuleCheck.{RuleCheck}
 use Rattle.calendar.proofs.Meaning.{not-refused}
 use Rattle.pieces.specs.Covered.{ofType}
-use Rattle.pieces.proofs.Pieces.{ofType-append}
+use Rattle.pieces.proofs.Covered.{ofType-append}
 use Rattle.readback.specs.Reading.{reportPeriods, reportMeaning}
 use Rattle.readback.proofs.ReadingLines.{typeWord, plainLine, periodLine, blockContent, report-lines-good}
 use Rattle.readback.proofs.ReadingNested.{blockComponent, flat-properties, report-nested, report-components}

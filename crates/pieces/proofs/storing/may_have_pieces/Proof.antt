@@ -1,5 +1,5 @@
 -- `pieces::storing::may_have_pieces` meets its contract: free time is no piece, and neither is what is of zero length.
-use Rattle.pieces.proofs.BusyPeriods.{no-event-pieces}
+use Rattle.pieces.proofs.Pieces.{no-event-pieces}
 use borrow.Author.Needs.{needs}
 use Rattle.pieces.proofs.storing.may_have_pieces.Statement.{statement}
 use Rattle.pieces.proofs.storing.may_have_pieces.Tie as tie

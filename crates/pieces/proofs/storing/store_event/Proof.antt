@@ -1,5 +1,5 @@
 -- `pieces::storing::store_event` meets its contract: where no instance can have a piece, none is stored.
-use Rattle.pieces.proofs.BusyPeriods.{unstored}
+use Rattle.pieces.proofs.ColumnsStoring.{unstored}
 use borrow.Author.Needs.{needs}
 use Rattle.pieces.proofs.storing.store_event.Statement.{statement}
 use Rattle.pieces.proofs.storing.store_event.Tie as tie

@@ -1,5 +1,5 @@
 -- An instance that stands has the piece of its period, any other none.
-use Rattle.pieces.proofs.BusyPeriods.{instance-stored, instance-left}
+use Rattle.pieces.proofs.ColumnsStoring.{instance-stored, instance-left}
 use borrow.Author.Needs.{needs}
 use Rattle.pieces.proofs.storing.store_instance.Statement.{statement}
 use Rattle.pieces.proofs.storing.store_instance.Tie as tie

@@ -2,7 +2,7 @@
 use mathlib.Core.Path.{_∙_}
 use Prim.Native.Nat.{_-_}
 use Rattle.recurrence.specs.Instances.{instancesAtMost}
-use Rattle.pieces.proofs.BusyPeriods.{Walked, walked-start, walked-more, walked-end, walked-few, walked-long, walked-on}
+use Rattle.pieces.proofs.ColumnsStoring.{Walked, walked-start, walked-more, walked-end, walked-few, walked-long, walked-on}
 use native.Mathlib.Omega.{arith}
 use Rattle.pieces.proofs.storing.store_instances.Statement.{statement}
 use Rattle.pieces.proofs.storing.store_instances.Tie as tie

@@ -1,5 +1,5 @@
 -- The test is that there is room and a piece.
-use Rattle.pieces.proofs.BusyPeriods.{piece-stored, piece-left, piece-small}
+use Rattle.pieces.proofs.ColumnsStoring.{piece-stored, piece-left, piece-small}
 use borrow.Author.Needs.{needs}
 use Rattle.pieces.proofs.storing.store_period.Statement.{statement}
 use Rattle.pieces.proofs.storing.store_period.Tie as tie
@@ -14,7 +14,10 @@ lesser-requires : tie.Need-lesser-requires
 lesser-requires c κs = search needs
 
 put-piece-requires : tie.Need-put-piece-requires
-put-piece-requires c κs = let h = piece-small _ _ _ (c .before .before .before .before .before .before .args .b) (c .before .before .before .before .before .before .args .end) (c .before .before .lesser .ensures) (c .before .before .before .before .before .before .pre .1 .1) (c .before .if1 .taken) in (c .before .before .before .before .before .before .pre .0, (h .0, (h .1, (h .2, h .3))))
+put-piece-requires c κs =
+    let entry = c .before .before .before .before .before .before in
+    let h = piece-small _ _ _ (entry .args .b) (entry .args .end) (c .before .before .lesser .ensures) (entry .pre .1 .1) (c .before .if1 .taken) in
+    (entry .pre .0, (h .0, (h .1, (h .2, h .3))))
 
 add-result : tie.Need-add-result
 add-result c = search needs
@@ -23,7 +26,11 @@ same-length : tie.Need-same-length
 same-length c = search needs
 
 returns : tie.Need-returns
-returns c = piece-stored _ _ _ _ _ (c .before .before .before .before .before .before .before .report-place .ensures) (c .before .before .before .before .before .before .greater .ensures) (c .before .before .before .before .before .lesser .ensures) (c .before .before .before .before .if1 .taken) (c .before .before .put-piece .ensures)
+returns c =
+    let tested = c .before .before .before .before in
+    piece-stored _ _ _ _ _ (tested .before .before .before .report-place .ensures) (tested .before .before .greater .ensures) (tested .before .lesser .ensures)
+    (tested .if1 .taken)
+    (c .before .before .put-piece .ensures)
 
 returns-2 : tie.Need-returns-2
 returns-2 c = piece-left _ _ _ _ _ (c .before .before .before .report-place .ensures) (c .before .before .greater .ensures) (c .before .lesser .ensures) (c .if1 .left)
