@@ -38,8 +38,8 @@ use Rattle.refusals.specs.Offsets.{offsetGood, offsetRead}
 use Rattle.refusals.specs.Stages.{earlyFault, workBy}
 use Rattle.refusals.specs.declared.OffsetRead.{OffsetRead}
 use Rattle.refusals.proofs.Offsets.{read-out, shift-bound, offset-given}
-use Rattle.refusals.proofs.Refusals.{lowest-above, row-applies, row-passed}
-use Rattle.refusals.proofs.Stages.{rises, structure-passed, structure-refused, calendar-rising, work-by, contents-passed, contents-refused}
+use Rattle.refusals.proofs.Refusals.{lowest-above, row-applies, row-passed, rises, structure-passed, structure-refused, calendar-rising, contents-passed, contents-refused}
+use Rattle.refusals.proofs.Stages.{work-by}
 use Rattle.structure.specs.Reading.{StructureRead}
 use Rattle.nesting.specs.declared.Structure.{Structure}
 use Rattle.contents.specs.Contents.{ContentsAre}

@@ -26,8 +26,8 @@ use Rattle.refusals.specs.Offsets.{contextOf, offsetRead}
 use Rattle.refusals.specs.Stages.{sizeFault, earlyFault}
 use Rattle.refusals.specs.declared.OffsetRead.{OffsetRead}
 use Rattle.refusals.proofs.Offsets.{read-good, read-out}
-use Rattle.refusals.proofs.Refusals.{row-applies, row-passed}
-use Rattle.refusals.proofs.Stages.{sizes-early, sizes-passed, sizes-refused, calendar-late, structure-passed, structure-refused, contents-passed, contents-refused}
+use Rattle.refusals.proofs.Refusals.{row-applies, row-passed, calendar-late, structure-passed, structure-refused, contents-passed, contents-refused}
+use Rattle.refusals.proofs.Stages.{sizes-early, sizes-passed, sizes-refused}
 use Rattle.engine.specs.Answers.{Outcome, verdict, refusal, outcomeOf, refusalIn, workAfter, unlessRefused}
 use Rattle.engine.specs.Matching.{MatchCall, queryRows, matchRows, verdictBy, verdictOf, matchOutcome, Matched}
 use Rattle.engine.specs.MatchStages.{Answered, contentsOutcome, unfoldedOutcome, calendarOutcome, queryOutcome}

@@ -14,7 +14,7 @@ use Rattle.query_check.proofs.WellFormed.{read-says}
 use Rattle.calendar.specs.declared.Fault.{Fault}
 use Rattle.refusals.specs.Refusals.{Row, lowest, NumbersRise, ends}
 use Rattle.refusals.specs.Offsets.{contextOf}
-use Rattle.refusals.proofs.Stages.{rises, sizes-rising, calendar-rising}
+use Rattle.refusals.proofs.Refusals.{rises, sizes-rising, calendar-rising}
 use Rattle.engine.specs.Matching.{misplacedIn, queryRows, MatchCall, matchRows}
 
 pub query-rising : (s : List ℕ) (rows : List Row) → NumbersRise 5 rows → NumbersRise 3 (queryRows s rows)

@@ -32,8 +32,8 @@ use Rattle.pieces.proofs.Covered.{covered-iff}
 use Rattle.pieces.proofs.Pieces.{Inside, piecesOf-same}
 use Rattle.refusals.specs.Offsets.{offsetGood, contextOf}
 use Rattle.refusals.specs.Refusals.{NoneApplies, lowest, calendarRows}
-use Rattle.refusals.proofs.Refusals.{none-iff, row-passed}
-use Rattle.refusals.proofs.Stages.{sizes-good, sizes-passed, calendar-lowest, calendar-passed}
+use Rattle.refusals.proofs.Refusals.{none-iff, row-passed, calendar-lowest, calendar-passed}
+use Rattle.refusals.proofs.Stages.{sizes-good, sizes-passed}
 use Rattle.readback.specs.Reading.{reportPeriods, reportMeaning}
 use Rattle.readback.proofs.ReadingLines.{report-unfolds}
 use Rattle.readback.proofs.Reading.{reportBlock, report-entries, report-types, report-means}

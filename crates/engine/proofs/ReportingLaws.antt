@@ -21,8 +21,7 @@ use Rattle.calendar.specs.declared.Fault.{Fault}
 use Rattle.refusals.specs.Refusals.{NoneApplies, Row, NumbersRise, ends, goes-on, sizeRows, calendarRows, contentsRows, lowest}
 use Rattle.refusals.specs.Offsets.{contextOf, offsetGood}
 use Rattle.refusals.specs.Stages.{earlyFault, workBy}
-use Rattle.refusals.proofs.Stages.{rises, sizes-rising, calendar-rising}
-use Rattle.refusals.proofs.Refusals.{none-iff, stage-passed, stage-refused}
+use Rattle.refusals.proofs.Refusals.{none-iff, stage-passed, stage-refused, rises, sizes-rising, calendar-rising}
 use Rattle.collecting.specs.CalendarTerms.{pieceRows, collectRows, stampGood, piecesFor, reportFor, CalendarTerms}
 use Rattle.collecting.specs.Collecting.{periodsBy, Collects}
 use Rattle.collecting.specs.declared.Collected.{Collected}
