@@ -24,14 +24,6 @@ pub enum Next {
     End,
 }
 
-// The lesser of two counts.
-fn lesser(a: u8, b: u8) -> u8
-    ensures { λ r. ⌜ r ≤ a ⌝ }
-    ensures { λ r. ⌜ r ≤ b ⌝ }
-{
-    if a < b { a } else { b }
-}
-
 // How many of the 64 places from this one on come before the first control? 64, where none does.
 // No early return and counts of one byte, so that the machine tests sixteen places at once.
 fn control_in(s: &[u8], i: usize) -> u8
@@ -43,7 +35,7 @@ fn control_in(s: &[u8], i: usize) -> u8
     while k < 64 {
         let b = s[i + (k as usize)];
         let here = if ascii::is_control(b) { k } else { 64 };
-        first = lesser(here, first);
+        first = text::lesser(here, first);
         k += 1;
     }
     first

@@ -161,7 +161,7 @@ fn break_at(s: &[u8], i: usize) -> bool
 }
 
 // The lesser of two counts.
-fn lesser(a: u8, b: u8) -> u8
+pub fn lesser(a: u8, b: u8) -> u8
     ensures { λ r. ⌜ r ≤ a ⌝ }
     ensures { λ r. ⌜ r ≤ b ⌝ }
 {
