@@ -17,11 +17,15 @@ rows (s ∷ ss) (e ∷ es) = period s e ∷ rows ss es
 unfoldable pub listed : Table → List Period
 listed t = take (t .count) (rows (t .starts) (t .ends))
 
--- a table is what it is meant to be: at most 512 periods, and columns that long
+-- the places of a column, more than are used
+abbrev pub places : ℕ
+places = 528
+
+-- a table is what it is meant to be: at most 512 periods, and columns of that many places
 pub record Sound (t : Table) : Type 0 where
   pub few : t .count ≤ 512
-  pub starts-long : length (t .starts) ≡ 512
-  pub ends-long : length (t .ends) ≡ 512
+  pub starts-long : length (t .starts) ≡ places
+  pub ends-long : length (t .ends) ≡ places
 
 -- no period
 pub record Empty (r : Table) : Type 0 where

@@ -3,13 +3,17 @@
 ghost use mathlib.Core.Path.{_≡_};
 ghost use Prim.Native.Nat.{_+_, _≤_, _<_, min, max};
 ghost use lib.ListN.{length, take};
-ghost use Rattle.table.specs.Tables.{Empty, Added};
+ghost use Rattle.table.specs.Tables.{places, Empty, Added};
 ghost use Rattle.table.specs.Columns.{endsBefore, TookIn, Moved, Spliced};
+
+// The places of a column; those above 512 are never used. With 512 a table of 4,104 bytes lay about 4,096 bytes from its copy on the stack,
+// and at such a distance the library's copy is several times slower on some processors.
+const PLACES: usize = 528;
 
 pub struct Table {
     pub count: usize,
-    pub starts: [u32; 512],
-    pub ends: [u32; 512],
+    pub starts: [u32; PLACES],
+    pub ends: [u32; PLACES],
 }
 
 // A span with what it took in, and the first row behind it.
@@ -25,8 +29,8 @@ pub fn empty() -> Table
 {
     Table {
         count: 0,
-        starts: [0; 512],
-        ends: [0; 512],
+        starts: [0; PLACES],
+        ends: [0; PLACES],
     }
 }
 
@@ -84,8 +88,8 @@ fn take_in<'a>(
 }
 
 // Elements to an earlier place, first to last.
-fn move_left(column: &mut [u32; 512], to: usize, from: usize, many: usize)
-    requires { ⌜ (length (now column) ≡ 512) × (to ≤ from) × (from + many ≤ 512) ⌝ }
+fn move_left(column: &mut [u32; PLACES], to: usize, from: usize, many: usize)
+    requires { ⌜ (length (now column) ≡ places) × (to ≤ from) × (from + many ≤ 512) ⌝ }
     ensures { λ r. ⌜ Moved (now (column .entry)) (now (column .exit)) to from many ⌝ }
 {
     let mut m = 0;
@@ -96,8 +100,8 @@ fn move_left(column: &mut [u32; 512], to: usize, from: usize, many: usize)
 }
 
 // Elements to the next place, last to first.
-fn move_right(column: &mut [u32; 512], from: usize, many: usize)
-    requires { ⌜ (length (now column) ≡ 512) × (from + many < 512) ⌝ }
+fn move_right(column: &mut [u32; PLACES], from: usize, many: usize)
+    requires { ⌜ (length (now column) ≡ places) × (from + many < 512) ⌝ }
     ensures { λ r. ⌜ Moved (now (column .entry)) (now (column .exit)) (from + 1) from many ⌝ }
 {
     let mut k = from + many;
@@ -108,8 +112,8 @@ fn move_right(column: &mut [u32; 512], from: usize, many: usize)
 }
 
 // Of the first n elements, one stands for those from i up to j.
-fn splice(column: &mut [u32; 512], i: usize, j: usize, n: usize, v: u32)
-    requires { ⌜ (length (now column) ≡ 512) × (i ≤ j) × (j ≤ n) × (n < 512) ⌝ }
+fn splice(column: &mut [u32; PLACES], i: usize, j: usize, n: usize, v: u32)
+    requires { ⌜ (length (now column) ≡ places) × (i ≤ j) × (j ≤ n) × (n < 512) ⌝ }
     ensures { λ r. ⌜ Spliced (now (column .entry)) (now (column .exit)) i j n v ⌝ }
 {
     if i < j {
