@@ -171,18 +171,20 @@ fn clock_at(kind: Kind, s: &[u8]) -> DateTime
     }
 }
 
-// A DATE-TIME: UTC with Z at its end, else floating.
+// A DATE-TIME: UTC with Z at its end, else floating. The clock is read in one place, so that its reader is compiled into this one.
 pub fn read_date_time(s: &[u8]) -> DateTime
     ensures { λ r. ⌜ r ≡ readDateTime (now (s .entry)) ⌝ }
 {
-    if s.len() == 15 {
-        return clock_at(Kind::Floating, s);
+    let mut kind = Kind::Floating;
+    if s.len() == 16 {
+        if ascii::upper(s[15]) != 90 {
+            return DateTime::Bad;
+        }
+        kind = Kind::Utc;
+    } else {
+        if s.len() != 15 {
+            return DateTime::Bad;
+        }
     }
-    if s.len() != 16 {
-        return DateTime::Bad;
-    }
-    if ascii::upper(s[15]) != 90 {
-        return DateTime::Bad;
-    }
-    clock_at(Kind::Utc, s)
+    clock_at(kind, s)
 }
