@@ -60,6 +60,27 @@ module _ (g : Bool) (sep : ℕ) (q : Bool) (s : List ℕ) (i : ℕ) where
   pub find-end : length s ≤ i → i + firstOutside g sep q (drop i s) ≡ i
   find-end h = rw (drop-end s i h, firstOutside-end g sep q) (omega arith)
 
+-- ---- the loop before it: no quote seen yet
+
+module _ (g : Bool) (sep : ℕ) (s : List ℕ) (i : ℕ) where
+  -- a byte that is neither the separator nor a quote is passed
+  pub usual-next : i < length s → (getD s i 0 ≡ sep → ⊥) → (getD s i 0 ≡ 34 → ⊥) → nextPlace g sep s (i + 1) ≡ nextPlace g sep s i
+  unfolding nextPlace
+  usual-next h p q =
+      ap (λ (t : Bool). (i + 1) + firstOutside g sep t (drop (i + 1) s)) (sym outside)
+      ∙ find-next g sep false s i h (rw (ne-eqb (getD s i 0) sep p))
+    where
+      outside : quotedAfter g false (getD s i 0) ≡ false
+      outside = rw (ne-eqb (getD s i 0) 34 q, and-false g)
+
+  pub usual-here : i < length s → getD s i 0 ≡ sep → i ≡ nextPlace g sep s i
+  unfolding nextPlace
+  usual-here h p = sym (find-here g sep false s i h (rw (eq-eqb (getD s i 0) sep p)))
+
+  pub usual-end : length s ≤ i → i ≡ nextPlace g sep s i
+  unfolding nextPlace
+  usual-end h = sym (find-end g sep false s i h)
+
 -- ---- the first piece
 
 pub firstOutside-le : (g : Bool) (sep : ℕ) (q : Bool) (s : List ℕ) → firstOutside g sep q s ≤ length s

@@ -3,11 +3,42 @@
 ghost use mathlib.Core.Path.{_≡_};
 ghost use mathlib.Core.List.{[]};
 ghost use lib.ListN.{length, getD};
-ghost use mathlib.Core.Bool.{false};
+ghost use mathlib.Core.Bool.{Bool, false};
 ghost use Rattle.line.specs.Splitting.{quotedAfter, nextPlace, before, after, splitParts, quotesOff};
 
-// The place of the first separator from `from` on, or the end.
+// The place of the first separator from `from` on, or the end. Mostly there is no quote before it.
 pub fn find(s: &[u8], from: usize, separator: u8, quoting: bool) -> usize
+    ensures { λ r. ⌜ r ≡ nextPlace quoting separator (now (s .entry)) from ⌝ }
+{
+    let i = skip_usual(s, from, separator);
+    if i < s.len() {
+        if s[i] != separator {
+            return find_outside(s, i, separator, quoting);
+        }
+    }
+    i
+}
+
+// Past bytes that are neither the separator nor a quote.
+fn skip_usual(s: &[u8], from: usize, separator: u8) -> usize
+    ensures { λ r. ⌜ ((g : Bool) → nextPlace g separator (now (s .entry)) r ≡ nextPlace g separator (now (s .entry)) from) ⌝ }
+{
+    let mut i = from;
+    while i < s.len() {
+        let b = s[i];
+        if b == separator {
+            return i;
+        }
+        if b == 34 {
+            return i;
+        }
+        i += 1;
+    }
+    i
+}
+
+// The search byte by byte, with what it knows of quotes.
+fn find_outside(s: &[u8], from: usize, separator: u8, quoting: bool) -> usize
     ensures { λ r. ⌜ r ≡ nextPlace quoting separator (now (s .entry)) from ⌝ }
 {
     let mut quoted = false;

@@ -1,57 +1,35 @@
--- `line::split::find` meets its contract: the bytes passed hold no separator outside quotes, so the place counted from the rest is the place counted from the start.
-use Rattle.line.proofs.Splitting.{find-here, find-next, find-end}
-use Rattle.line.specs.Splitting.{firstOutside, nextPlace}
-use mathlib.Core.Bool.{Bool}
-use lib.ListN.{length, drop}
-use Prim.Native.Nat.{_+_, _-_}
-use mathlib.Core.Path.{_≡_, refl, sym, ap, _∙_}
-use native.Mathlib.Omega.{arith}
+-- `line::split::find` meets its contract: past usual bytes the next place is the same, and there it is at a separator, at the end, or searched byte by byte.
+use Rattle.line.proofs.Splitting.{usual-here, usual-end}
+use mathlib.Core.Path.{_∙_}
 use borrow.Author.Needs.{needs}
 use Rattle.line.proofs.split.find.Statement.{statement}
 use Rattle.line.proofs.split.find.Tie as tie
 
-abbrev Inv-loop : tie.InvT-loop
-Inv-loop s from separator quoting quoted₀ i₀ quoted i = i + firstOutside quoting separator quoted (drop i s) ≡ nextPlace quoting separator s from
+skip-usual-requires : tie.Need-skip-usual-requires
+skip-usual-requires c κs = search needs
 
-abbrev μ-loop : tie.MeasureT-loop
-μ-loop s from separator quoting quoted₀ i₀ quoted i = length s - i
+shared-slice-read-if2 : tie.Need-shared-slice-read-if2
+shared-slice-read-if2 c = search needs
 
-loop-holds : tie.Need-loop-holds Inv-loop μ-loop
-unfolding nextPlace
-loop-holds c = refl
+find-outside-requires : tie.Need-find-outside-requires
+find-outside-requires c κs = search needs
 
-shared-slice-read-b : tie.Need-shared-slice-read-b Inv-loop μ-loop
-shared-slice-read-b c = omega arith
+returns : tie.Need-returns
+returns c = c .find-outside .ensures ∙ c .before .before .before .before .skip-usual .ensures _
 
-returns : tie.Need-returns Inv-loop μ-loop
-returns c = sym (find-here _ _ _ _ _ (c .before .before .loop-test .taken) (c .if1 .taken)) ∙ c .before .before .before .loop .inv
+returns-2 : tie.Need-returns-2
+returns-2 c = usual-here _ _ _ _ (c .before .before .if1 .taken) (c .if2 .left) ∙ c .before .before .before .skip-usual .ensures _
 
-quoted-after-requires : tie.Need-quoted-after-requires Inv-loop μ-loop
-quoted-after-requires c κs = search needs
-
-add-i : tie.Need-add-i Inv-loop μ-loop
-add-i c = omega arith
-
-loop-less : tie.Need-loop-less Inv-loop μ-loop
-loop-less c = omega arith
-
-loop-again : tie.Need-loop-again Inv-loop μ-loop
-loop-again c = ap (λ (q : Bool). (c .before .before .before .before .loop .i + 1) + firstOutside (c .before .before .before .before .before .before .args .quoting) (c .before .before .before .before .before .before .args .separator) q (drop (c .before .before .before .before .loop .i + 1) (c .before .before .before .before .before .before .args .s .now))) (c .quoted-after .ensures) ∙ find-next _ _ _ _ _ (c .before .before .before .loop-test .taken) (c .before .if1 .left) ∙ c .before .before .before .before .loop .inv
-
-returns-2 : tie.Need-returns-2 Inv-loop μ-loop
-returns-2 c = sym (find-end (c .before .before .before .args .quoting) (c .before .before .before .args .separator) (c .before .loop .quoted) _ _ (c .loop-test .left)) ∙ c .before .loop .inv
+returns-3 : tie.Need-returns-3
+returns-3 c = usual-end _ _ _ _ (c .if1 .left) ∙ c .before .skip-usual .ensures _
 
 pub find-spec : {M : Type 1} → statement M
 find-spec =
     tie.close
     (tie.spec
-    Inv-loop
-    μ-loop
-    loop-holds
-    shared-slice-read-b
+    skip-usual-requires
+    shared-slice-read-if2
+    find-outside-requires
     returns
-    quoted-after-requires
-    add-i
-    loop-less
-    loop-again
-    returns-2)
+    returns-2
+    returns-3)
