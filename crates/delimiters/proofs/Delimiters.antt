@@ -11,7 +11,6 @@ use Rattle.ascii.specs.Names.{sameName, isName}
 use Rattle.ascii.specs.Words.{ascii}
 use Rattle.ascii.specs.Bytes.{upper}
 use Rattle.ascii.proofs.Bools.{and-left, and-right}
-use Rattle.ascii.proofs.Names.{sameName-iff}
 use Rattle.line.specs.Grammar.{ContentLine}
 use Rattle.line.specs.Reading.{lineOf, nameOf, valueOf, parameterTexts, parameterOf, Plain}
 use Rattle.line.proofs.Splitting.{suffix}
@@ -55,13 +54,8 @@ module _ {l : List ℕ} {n : ℕ} (p : Plain l n) (m : Delimiter) (b : Bool) (q 
   pub plain-no : b ≡ false → Wrong ≡ delimitedBy (lineOf l) m
   plain-no e = delimited-no l m 0 b plain-count plain-named e
 
--- the same name has the same length
-pub named-length : (w v : List ℕ) (t : Bool) → t ≡ sameName w v → t ≡ true → length v ≡ length w
-named-length w v t q e =
-    sym (length-map v upper) ∙ sym (ap length (sameName-iff w v .0 (sym q ∙ e))) ∙ length-map w upper
-
 -- the delimiter that a line is, whose name is BEGIN, or is END
-abbrev delimiting : ContentLine → Bool → Bool → Delimiter
+abbrev pub delimiting : ContentLine → Bool → Bool → Delimiter
 delimiting x a b = cond a (delimitedBy x Begins) (cond b (delimitedBy x Ends) Property)
 
 module _ (l : List ℕ) (t : Bool) (q : t ≡ sameName (nameOf l) (ascii "BEGIN")) where
@@ -73,7 +67,7 @@ module _ (l : List ℕ) (t : Bool) (q : t ≡ sameName (nameOf l) (ascii "BEGIN"
   delimiter-begin r e h = h ∙ sym (delimiter-is (sameName (nameOf l) (ascii "END")) refl ∙ ap (λ (a : Bool). delimiting (lineOf l) a (sameName (nameOf l) (ascii "END"))) e)
 
   module _ (u : Bool) (v : u ≡ sameName (nameOf l) (ascii "END")) (e : t ≡ false) where
-    delimiter-later : (b : Bool) → u ≡ b → delimiterOf (lineOf l) ≡ delimiting (lineOf l) false b
+    pub delimiter-later : (b : Bool) → u ≡ b → delimiterOf (lineOf l) ≡ delimiting (lineOf l) false b
     delimiter-later b f = delimiter-is u v ∙ ap (λ (a : Bool). delimiting (lineOf l) a u) e ∙ ap (delimiting (lineOf l) false) f
 
     pub delimiter-end : (r : Delimiter) → u ≡ true → r ≡ delimitedBy (lineOf l) Ends → r ≡ delimiterOf (lineOf l)

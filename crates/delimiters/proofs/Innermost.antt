@@ -1,11 +1,14 @@
 -- What a line does to the innermost open component, and the line that begins VCALENDAR.
 use Prim.Native.Nat.{ℕ}
-use mathlib.Core.Path.{_≡_, sym, ap, _∙_}
-use mathlib.Core.Bool.{Bool, true, false}
+use mathlib.Core.Path.{_≡_, refl, sym, ap, _∙_}
+use mathlib.Core.Bool.{Bool, true, false, cond, _&&_}
 use mathlib.Core.List.{List}
-use Rattle.ascii.specs.Names.{sameName}
+use Rattle.ascii.specs.Names.{sameName, isName}
 use Rattle.ascii.specs.Words.{ascii}
-use Rattle.delimiters.specs.Innermost.{isCalendar, mayBegin, nestingStepBy, beginsBy}
+use Rattle.line.specs.Reading.{lineOf, nameOf}
+use Rattle.delimiters.specs.Delimiters.{noParameters}
+use Rattle.delimiters.specs.Innermost.{isCalendar, mayBegin, nestingStepBy, beginsBy, beginsCalendar}
+use Rattle.delimiters.proofs.Delimiters.{delimiter-later}
 use Rattle.delimiters.specs.declared.Delimiter.{Delimiter}
 use Rattle.delimiters.specs.declared.Delimiter.the-variants.{Begins, Ends, Property, Wrong}
 use Rattle.delimiters.specs.declared.NestingStep.the-variants.{Opens, Stays, Closes, Breaks}
@@ -45,3 +48,14 @@ begins-yes t p g b e = rw (sym p ∙ b, sym g) e
 
 pub begins-no : {m r : Delimiter} (v : List ℕ) (q : Delimiter) → r ≡ m → r ≡ q → beginsBy q v ≡ false → false ≡ beginsBy m v
 begins-no v q p b e = sym (ap (λ (j : Delimiter). beginsBy j v) (sym p ∙ b) ∙ e)
+
+-- a line of another name than BEGIN begins nothing
+pub begins-other : (l : List ℕ) (t : Bool) → t ≡ sameName (nameOf l) (ascii "BEGIN") → t ≡ false → false ≡ beginsCalendar (lineOf l)
+unfolding beginsCalendar
+begins-other l t q e =
+    sym (ap (λ (m : Delimiter). beginsBy m (lineOf l .value)) (delimiter-later l t q _ refl e _ refl) ∙ go (sameName (nameOf l) (ascii "END")) (noParameters (lineOf l .parameters) && isName (lineOf l .value)))
+  where
+    go : (u d : Bool) → beginsBy (cond u (cond d Ends Wrong) Property) (lineOf l .value) ≡ false
+    go true true = refl
+    go true false = refl
+    go false d = refl

@@ -27,8 +27,9 @@ pub enum NestingStep {
     Breaks,
 }
 
-// Mostly the first byte tells that a line is a property. Only that is asked here, so that it can stand in the loops over lines.
-fn delimiter_of(line: &[u8]) -> Delimiter
+// The delimiter of a line whose name is n bytes long. Mostly the first byte tells that it is a property.
+fn delimiter_of(line: &[u8], n: usize) -> Delimiter
+    requires { ⌜ n ≡ length (nameOf (now line)) ⌝ }
     ensures { λ r. ⌜ r ≡ delimiterOf (lineOf (now (line .entry))) ⌝ }
 {
     if 0 < line.len() {
@@ -37,18 +38,11 @@ fn delimiter_of(line: &[u8]) -> Delimiter
             return Delimiter::Property;
         }
     }
-    delimiter_named(line)
-}
-
-// The delimiter by the line's name, whatever its first byte.
-fn delimiter_named(line: &[u8]) -> Delimiter
-    ensures { λ r. ⌜ r ≡ delimiterOf (lineOf (now (line .entry))) ⌝ }
-{
-    if line::read::is_called(line, b"BEGIN") {
-        return delimited_by(line, 5, Delimiter::Begins);
+    if line::read::is_called(line, n, b"BEGIN") {
+        return delimited_by(line, n, Delimiter::Begins);
     }
-    if line::read::is_called(line, b"END") {
-        return delimited_by(line, 3, Delimiter::Ends);
+    if line::read::is_called(line, n, b"END") {
+        return delimited_by(line, n, Delimiter::Ends);
     }
     Delimiter::Property
 }
@@ -83,11 +77,12 @@ fn may_begin(name: &[u8], depth: usize, count: usize) -> bool
     !calendar & (depth <= 8) & (count <= 256) & ((depth == 2) | !(event | free_busy))
 }
 
-// What the line does to the innermost open component, of this name; one more would be at this depth, as component number `count`.
-pub fn nesting_step(line: &[u8], name: &[u8], depth: usize, count: usize) -> NestingStep
+// What the line, whose own name is n bytes long, does to the innermost open component, of this name; one more would be at this depth, as component number `count`.
+pub fn nesting_step(line: &[u8], n: usize, name: &[u8], depth: usize, count: usize) -> NestingStep
+    requires { ⌜ n ≡ length (nameOf (now line)) ⌝ }
     ensures { λ r. ⌜ r ≡ nestingStepBy (delimiterOf (lineOf (now (line .entry)))) (valueOf (now (line .entry))) (now (name .entry)) depth count ⌝ }
 {
-    match delimiter_of(line) {
+    match delimiter_of(line, n) {
         Delimiter::Begins => {
             let value = line::read::value(line);
             if may_begin(value, depth, count) {
@@ -109,14 +104,19 @@ pub fn nesting_step(line: &[u8], name: &[u8], depth: usize, count: usize) -> Nes
     }
 }
 
-// Is it the line that begins VCALENDAR?
-pub fn begins_calendar(line: &[u8]) -> bool
+// Is it the line that begins VCALENDAR? Its name is n bytes long.
+pub fn begins_calendar(line: &[u8], n: usize) -> bool
+    requires { ⌜ n ≡ length (nameOf (now line)) ⌝ }
     ensures { λ r. ⌜ r ≡ beginsCalendar (lineOf (now (line .entry))) ⌝ }
 {
-    match delimiter_named(line) {
-        Delimiter::Begins => ascii::same_name(line::read::value(line), b"VCALENDAR"),
-        Delimiter::Ends => false,
-        Delimiter::Property => false,
-        Delimiter::Wrong => false,
+    if line::read::is_called(line, n, b"BEGIN") {
+        match delimited_by(line, n, Delimiter::Begins) {
+            Delimiter::Begins => ascii::same_name(line::read::value(line), b"VCALENDAR"),
+            Delimiter::Ends => false,
+            Delimiter::Property => false,
+            Delimiter::Wrong => false,
+        }
+    } else {
+        false
     }
 }

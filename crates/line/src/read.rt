@@ -47,16 +47,15 @@ pub fn name(line: &[u8]) -> &[u8]
     line
 }
 
-// Is this the line's name, ASCII case disregarded? Mostly the first byte tells.
-pub fn is_called(line: &[u8], name: &[u8]) -> bool
+// Is this the line's name, ASCII case disregarded? The name is n bytes long, and mostly that tells.
+pub fn is_called(line: &[u8], n: usize, name: &[u8]) -> bool
+    requires { ⌜ n ≡ length (nameOf (now line)) ⌝ }
     ensures { λ r. ⌜ r ≡ sameName (nameOf (now (line .entry))) (now (name .entry)) ⌝ }
 {
-    if (0 < line.len()) & (0 < name.len()) {
-        if ascii::upper(line[0]) != ascii::upper(name[0]) {
-            return false;
-        }
+    if n != name.len() {
+        return false;
     }
-    ascii::same_name(crate::read::name(line), name)
+    ascii::same_name(&line[..n], name)
 }
 
 // Does the colon stand right behind the name, which is n bytes long? Then the line has no parameters, and its value is what is left.

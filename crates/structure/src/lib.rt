@@ -40,9 +40,10 @@ fn component(
     let mut k = begun;
     while i < n {
         let line = index::line_at(s, index, i);
+        let length = index::name_length(index, i);
         let next = i + 1;
         let more = k + 1;
-        match delimiters::nesting_step(line, name, 10 - left, more) {
+        match delimiters::nesting_step(line, length, name, 10 - left, more) {
             NestingStep::Opens => {
                 let inner = line::read::value(line);
                 match component(rows, s, index, n, inner, next, more, left - 1) {
@@ -76,7 +77,7 @@ fn read_rows(rows: &mut [u32], s: &[u8], index: &[u32], n: usize) -> Structure
         return Structure::BadNesting(1);
     }
     let line = index::line_at(s, index, 0);
-    if !delimiters::begins_calendar(line) {
+    if !delimiters::begins_calendar(line, index::name_length(index, 0)) {
         return Structure::BadNesting(1);
     }
     let name = line::read::value(line);

@@ -1,6 +1,7 @@
 -- `structure::component` meets its contract: the lines read so far are items whose rows stand, and leave the outcome to the lines that are left;
 -- an inner component is read by the same function with one level less, and its row is written when it has ended.
 use Prim.Native.Nat.{_-_}
+use Rattle.index.proofs.Index.{entry-here, entry-name}
 use Rattle.structure.proofs.Reading.{Reading, reading-start, reading-entry, reading-end, reading-stays, reading-closes, reading-breaks, reading-room, reading-ready, reading-inner, reading-inner-breaks, reading-row}
 use native.Mathlib.Omega.{arith}
 use borrow.Author.Needs.{needs}
@@ -12,6 +13,7 @@ use Rattle.structure.proofs.component.Kinds as component-kinds
 use Rattle.structure.proofs.+component.Lts-component as component-lts
 use Rattle.delimiters.proofs.nesting_step.Reads as nesting-step-reads
 use Rattle.index.proofs.line_at.Reads as line-at-reads
+use Rattle.index.proofs.name_length.Reads as name-length-reads
 use Rattle.line.proofs.read.value.Reads as value-reads
 use Rattle.structure.proofs.rows.kind_of.Reads as kind-of-reads
 use Rattle.structure.proofs.rows.put_row.Reads as put-row-reads
@@ -30,7 +32,7 @@ component-below t =
 
 abbrev claims : ℕ → component-lts.Claims
 claims t =
-    (line-at-reads.Asked, line-at-reads.Learnt, nesting-step-reads.Asked, nesting-step-reads.Learnt, value-reads.Asked, value-reads.Learnt, component-below t, component.Post, kind-of-reads.Asked, kind-of-reads.Learnt, put-row-reads.Asked, put-row-reads.Learnt)
+    (line-at-reads.Asked, line-at-reads.Learnt, name-length-reads.Asked, name-length-reads.Learnt, nesting-step-reads.Asked, nesting-step-reads.Learnt, value-reads.Asked, value-reads.Learnt, component-below t, component.Post, kind-of-reads.Asked, kind-of-reads.Learnt, put-row-reads.Asked, put-row-reads.Learnt)
 
 abbrev component-Inv-loop : component-lts.InvT-loop
 component-Inv-loop rows₀ s index n name first begun left i₀ k₀ rows i k = Reading s index name rows₀ rows n first begun left i k
@@ -44,17 +46,20 @@ component-loop-holds t c = reading-start _ _ (c .before .before .before .before 
 component-line-at-requires : (t : ℕ) → component-lts.Need-line-at-requires (claims t) (component-at t) component.Post component-Inv-loop component-μ-loop
 component-line-at-requires t c κs = reading-entry (c .before .loop .inv) (c .loop-test .taken)
 
+component-name-length-requires : (t : ℕ) → component-lts.Need-name-length-requires (claims t) (component-at t) component.Post component-Inv-loop component-μ-loop
+component-name-length-requires t c κs = entry-here (reading-entry (c .before .before .loop .inv) (c .before .loop-test .taken))
+
 component-add-next : (t : ℕ) → component-lts.Need-add-next (claims t) (component-at t) component.Post component-Inv-loop component-μ-loop
-component-add-next t c = omega (arith, c .before .loop-test .taken, c .before .before .before .before .before .before .before .pre .1 .0 .many)
+component-add-next t c = omega (arith, c .before .before .loop-test .taken, c .before .before .before .before .before .before .before .before .pre .1 .0 .many)
 
 component-add-more : (t : ℕ) → component-lts.Need-add-more (claims t) (component-at t) component.Post component-Inv-loop component-μ-loop
-component-add-more t c = omega (arith, c .before .before .loop .inv .going .few)
+component-add-more t c = omega (arith, c .before .before .before .loop .inv .going .few)
 
 component-sub-nesting-step : (t : ℕ) → component-lts.Need-sub-nesting-step (claims t) (component-at t) component.Post component-Inv-loop component-μ-loop
-component-sub-nesting-step t c = omega (arith, c .before .before .before .before .before .before .before .pre .1 .1)
+component-sub-nesting-step t c = omega (arith, c .before .before .before .before .before .before .before .before .pre .1 .1)
 
 component-nesting-step-requires : (t : ℕ) → component-lts.Need-nesting-step-requires (claims t) (component-at t) component.Post component-Inv-loop component-μ-loop
-component-nesting-step-requires t c κs = search needs
+component-nesting-step-requires t c κs = entry-name (reading-entry (c .before .before .before .loop .inv) (c .before .before .loop-test .taken)) (c .name-length .ensures) (c .before .line-at .ensures)
 
 component-enum-told : (t : ℕ) → component-lts.Need-enum-told (claims t) (component-at t) component.Post component-Inv-loop component-μ-loop
 component-enum-told t c = search needs
@@ -65,10 +70,10 @@ component-value-requires t c κs = search needs
 component-sub-component : (t : ℕ) → component-lts.Need-sub-component (claims t) (component-at t) component.Post component-Inv-loop component-μ-loop
 component-sub-component t c =
     omega
-    (arith, reading-room (c .before .before .before .before .before .before .before .loop .inv) (c .before .before .before .before .before .before .loop-test .taken) (c .before .before .before .before .before .line-at .ensures) (c .before .before .before .before .nesting-step .ensures) (c .before .before .enum-told .given .1) .some)
+    (arith, reading-room (c .before .before .before .before .before .before .before .before .loop .inv) (c .before .before .before .before .before .before .before .loop-test .taken) (c .before .before .before .before .before .before .line-at .ensures) (c .before .before .before .before .nesting-step .ensures) (c .before .before .enum-told .given .1) .some)
 
 component-component-requires : (t : ℕ) → component-lts.Need-component-requires (claims t) (component-at t) component.Post component-Inv-loop component-μ-loop
-component-component-requires t c κs = (omega (arith, reading-room (c .before .before .before .before .before .before .before .loop .inv) (c .before .before .before .before .before .before .loop-test .taken) (c .before .before .before .before .before .line-at .ensures) (c .before .before .before .before .nesting-step .ensures) (c .before .before .enum-told .given .1) .some), (reading-ready (c .before .before .before .before .before .before .before .loop .inv) (c .before .before .before .before .before .before .loop-test .taken) (c .before .before .before .before .before .line-at .ensures) (c .before .before .before .before .nesting-step .ensures) (c .before .before .enum-told .given .1) (omega (arith, c .before .before .before .before .before .before .before .loop .inv .going .long)), omega (arith, c .before .before .before .before .before .before .before .before .before .before .before .before .pre .1 .1)))
+component-component-requires t c κs = (omega (arith, reading-room (c .before .before .before .before .before .before .before .before .loop .inv) (c .before .before .before .before .before .before .before .loop-test .taken) (c .before .before .before .before .before .before .line-at .ensures) (c .before .before .before .before .nesting-step .ensures) (c .before .before .enum-told .given .1) .some), (reading-ready (c .before .before .before .before .before .before .before .before .loop .inv) (c .before .before .before .before .before .before .before .loop-test .taken) (c .before .before .before .before .before .before .line-at .ensures) (c .before .before .before .before .nesting-step .ensures) (c .before .before .enum-told .given .1) (omega (arith, c .before .before .before .before .before .before .before .before .loop .inv .going .long)), omega (arith, c .before .before .before .before .before .before .before .before .before .before .before .before .before .pre .1 .1)))
 
 component-enum-known-j : (t : ℕ) → component-lts.Need-enum-known-j (claims t) (component-at t) component.Post component-Inv-loop component-μ-loop
 component-enum-known-j t c = search needs
@@ -76,33 +81,33 @@ component-enum-known-j t c = search needs
 component-kind-of-requires : (t : ℕ) → component-lts.Need-kind-of-requires (claims t) (component-at t) component.Post component-Inv-loop component-μ-loop
 component-kind-of-requires t c κs = search needs
 
-component-cast-t29 : (t : ℕ) → component-lts.Need-cast-t29 (claims t) (component-at t) component.Post component-Inv-loop component-μ-loop
-component-cast-t29 t c =
-    omega
-    (arith, c .before .before .before .before .before .before .before .before .before .before .before .before .before .before .loop-test .taken, c .before .before .before .before .before .before .before .before .before .before .before .before .before .before .before .before .before .before .before .before .pre .1 .0 .many)
-
 component-cast-t30 : (t : ℕ) → component-lts.Need-cast-t30 (claims t) (component-at t) component.Post component-Inv-loop component-μ-loop
 component-cast-t30 t c =
+    omega
+    (arith, c .before .before .before .before .before .before .before .before .before .before .before .before .before .before .before .loop-test .taken, c .before .before .before .before .before .before .before .before .before .before .before .before .before .before .before .before .before .before .before .before .before .pre .1 .0 .many)
+
+component-cast-t31 : (t : ℕ) → component-lts.Need-cast-t31 (claims t) (component-at t) component.Post component-Inv-loop component-μ-loop
+component-cast-t31 t c =
     let h =
     reading-row
-    (c .before .before .before .before .before .before .before .before .before .before .before .before .before .before .before .loop .inv)
-    (c .before .before .before .before .before .before .before .before .before .before .before .before .before .before .loop-test .taken)
-    (c .before .before .before .before .before .before .before .before .before .before .before .before .before .line-at .ensures)
+    (c .before .before .before .before .before .before .before .before .before .before .before .before .before .before .before .before .loop .inv)
+    (c .before .before .before .before .before .before .before .before .before .before .before .before .before .before .before .loop-test .taken)
+    (c .before .before .before .before .before .before .before .before .before .before .before .before .before .before .line-at .ensures)
     (c .before .before .before .before .before .before .before .before .before .before .before .before .nesting-step .ensures)
     (c .before .before .before .before .before .before .before .before .before .before .enum-told .given .1)
     (c .before .before .before .before .before .before .before .before .before .value .ensures) _
     (c .before .before .before .before .before .before .before .component .ensures) _ _
     (c .before .before .before .j .given .1) (omega arith)
     in
-    omega (arith, h .2, c .before .before .before .before .before .before .before .before .before .before .before .before .before .before .before .before .before .before .before .before .pre .1 .0 .many)
+    omega (arith, h .2, c .before .before .before .before .before .before .before .before .before .before .before .before .before .before .before .before .before .before .before .before .before .pre .1 .0 .many)
 
-component-cast-t31 : (t : ℕ) → component-lts.Need-cast-t31 (claims t) (component-at t) component.Post component-Inv-loop component-μ-loop
-component-cast-t31 t c =
+component-cast-t32 : (t : ℕ) → component-lts.Need-cast-t32 (claims t) (component-at t) component.Post component-Inv-loop component-μ-loop
+component-cast-t32 t c =
     let h =
     reading-row
-    (c .before .before .before .before .before .before .before .before .before .before .before .before .before .before .before .loop .inv)
-    (c .before .before .before .before .before .before .before .before .before .before .before .before .before .before .loop-test .taken)
-    (c .before .before .before .before .before .before .before .before .before .before .before .before .before .line-at .ensures)
+    (c .before .before .before .before .before .before .before .before .before .before .before .before .before .before .before .before .loop .inv)
+    (c .before .before .before .before .before .before .before .before .before .before .before .before .before .before .before .loop-test .taken)
+    (c .before .before .before .before .before .before .before .before .before .before .before .before .before .before .line-at .ensures)
     (c .before .before .before .before .before .before .before .before .before .before .before .before .nesting-step .ensures)
     (c .before .before .before .before .before .before .before .before .before .before .enum-told .given .1)
     (c .before .before .before .before .before .before .before .before .before .value .ensures) _
@@ -112,29 +117,29 @@ component-cast-t31 t c =
     omega (arith, h .3)
 
 component-put-row-requires : (t : ℕ) → component-lts.Need-put-row-requires (claims t) (component-at t) component.Post component-Inv-loop component-μ-loop
-component-put-row-requires t c κs = (reading-row (c .before .before .before .before .before .before .before .before .before .before .before .before .before .before .before .loop .inv) (c .before .before .before .before .before .before .before .before .before .before .before .before .before .before .loop-test .taken) (c .before .before .before .before .before .before .before .before .before .before .before .before .before .line-at .ensures) (c .before .before .before .before .before .before .before .before .before .before .before .before .nesting-step .ensures) (c .before .before .before .before .before .before .before .before .before .before .enum-told .given .1) (c .before .before .before .before .before .before .before .before .before .value .ensures) _ (c .before .before .before .before .before .before .before .component .ensures) _ _ (c .before .before .before .j .given .1) (omega arith)) .0
+component-put-row-requires t c κs = (reading-row (c .before .before .before .before .before .before .before .before .before .before .before .before .before .before .before .before .loop .inv) (c .before .before .before .before .before .before .before .before .before .before .before .before .before .before .before .loop-test .taken) (c .before .before .before .before .before .before .before .before .before .before .before .before .before .before .line-at .ensures) (c .before .before .before .before .before .before .before .before .before .before .before .before .nesting-step .ensures) (c .before .before .before .before .before .before .before .before .before .before .enum-told .given .1) (c .before .before .before .before .before .before .before .before .before .value .ensures) _ (c .before .before .before .before .before .before .before .component .ensures) _ _ (c .before .before .before .j .given .1) (omega arith)) .0
 
 component-loop-less : (t : ℕ) → component-lts.Need-loop-less (claims t) (component-at t) component.Post component-Inv-loop component-μ-loop
 component-loop-less t c =
     let h =
     reading-row
-    (c .before .before .before .before .before .before .before .before .before .before .before .before .before .before .before .before .before .before .loop .inv)
-    (c .before .before .before .before .before .before .before .before .before .before .before .before .before .before .before .before .before .loop-test .taken)
-    (c .before .before .before .before .before .before .before .before .before .before .before .before .before .before .before .before .line-at .ensures)
+    (c .before .before .before .before .before .before .before .before .before .before .before .before .before .before .before .before .before .before .before .loop .inv)
+    (c .before .before .before .before .before .before .before .before .before .before .before .before .before .before .before .before .before .before .loop-test .taken)
+    (c .before .before .before .before .before .before .before .before .before .before .before .before .before .before .before .before .before .line-at .ensures)
     (c .before .before .before .before .before .before .before .before .before .before .before .before .before .before .before .nesting-step .ensures)
     (c .before .before .before .before .before .before .before .before .before .before .before .before .before .enum-told .given .1)
     (c .before .before .before .before .before .before .before .before .before .before .before .before .value .ensures) _
     (c .before .before .before .before .before .before .before .before .before .before .component .ensures) _ _
     (c .before .before .before .before .before .before .j .given .1) (omega arith)
     in
-    omega (arith, c .before .before .before .before .before .before .before .before .before .before .before .before .before .before .before .before .before .loop-test .taken, h .1)
+    omega (arith, c .before .before .before .before .before .before .before .before .before .before .before .before .before .before .before .before .before .before .loop-test .taken, h .1)
 
 component-loop-again : (t : ℕ) → component-lts.Need-loop-again (claims t) (component-at t) component.Post component-Inv-loop component-μ-loop
 component-loop-again t c =
     reading-inner
-    (c .before .before .before .before .before .before .before .before .before .before .before .before .before .before .before .before .before .before .loop .inv)
-    (c .before .before .before .before .before .before .before .before .before .before .before .before .before .before .before .before .before .loop-test .taken)
-    (c .before .before .before .before .before .before .before .before .before .before .before .before .before .before .before .before .line-at .ensures)
+    (c .before .before .before .before .before .before .before .before .before .before .before .before .before .before .before .before .before .before .before .loop .inv)
+    (c .before .before .before .before .before .before .before .before .before .before .before .before .before .before .before .before .before .before .loop-test .taken)
+    (c .before .before .before .before .before .before .before .before .before .before .before .before .before .before .before .before .before .line-at .ensures)
     (c .before .before .before .before .before .before .before .before .before .before .before .before .before .before .before .nesting-step .ensures)
     (c .before .before .before .before .before .before .before .before .before .before .before .before .before .enum-told .given .1)
     (c .before .before .before .before .before .before .before .before .before .before .before .before .value .ensures)
@@ -147,14 +152,14 @@ component-enum-known-j-2 : (t : ℕ) → component-lts.Need-enum-known-j-2 (clai
 component-enum-known-j-2 t c = search needs
 
 component-same-length : (t : ℕ) → component-lts.Need-same-length (claims t) (component-at t) component.Post component-Inv-loop component-μ-loop
-component-same-length t c = omega (arith, c .before .before .before .before .before .before .before .before .before .before .before .before .before .loop .inv .going .long)
+component-same-length t c = omega (arith, c .before .before .before .before .before .before .before .before .before .before .before .before .before .before .loop .inv .going .long)
 
 component-returns : (t : ℕ) → component-lts.Need-returns (claims t) (component-at t) component.Post component-Inv-loop component-μ-loop
 component-returns t c =
     reading-inner-breaks
-    (c .before .before .before .before .before .before .before .before .before .before .before .before .before .loop .inv)
-    (c .before .before .before .before .before .before .before .before .before .before .before .before .loop-test .taken)
-    (c .before .before .before .before .before .before .before .before .before .before .before .line-at .ensures)
+    (c .before .before .before .before .before .before .before .before .before .before .before .before .before .before .loop .inv)
+    (c .before .before .before .before .before .before .before .before .before .before .before .before .before .loop-test .taken)
+    (c .before .before .before .before .before .before .before .before .before .before .before .before .line-at .ensures)
     (c .before .before .before .before .before .before .before .before .before .before .nesting-step .ensures)
     (c .before .before .before .before .before .before .before .before .enum-told .given .1)
     (c .before .before .before .before .before .before .before .value .ensures) _ _
@@ -165,14 +170,14 @@ component-enum-told-2 : (t : ℕ) → component-lts.Need-enum-told-2 (claims t) 
 component-enum-told-2 t c = search needs
 
 component-loop-less-2 : (t : ℕ) → component-lts.Need-loop-less-2 (claims t) (component-at t) component.Post component-Inv-loop component-μ-loop
-component-loop-less-2 t c = omega (arith, c .before .before .before .before .loop-test .taken)
+component-loop-less-2 t c = omega (arith, c .before .before .before .before .before .loop-test .taken)
 
 component-loop-again-2 : (t : ℕ) → component-lts.Need-loop-again-2 (claims t) (component-at t) component.Post component-Inv-loop component-μ-loop
 component-loop-again-2 t c =
     reading-stays
-    (c .before .before .before .before .before .loop .inv)
-    (c .before .before .before .before .loop-test .taken)
-    (c .before .before .before .line-at .ensures)
+    (c .before .before .before .before .before .before .loop .inv)
+    (c .before .before .before .before .before .loop-test .taken)
+    (c .before .before .before .before .line-at .ensures)
     (c .before .before .nesting-step .ensures)
     (c .enum-told2 .given .1)
 
@@ -180,14 +185,14 @@ component-enum-told-3 : (t : ℕ) → component-lts.Need-enum-told-3 (claims t) 
 component-enum-told-3 t c = search needs
 
 component-same-length-2 : (t : ℕ) → component-lts.Need-same-length-2 (claims t) (component-at t) component.Post component-Inv-loop component-μ-loop
-component-same-length-2 t c = c .before .before .before .before .before .loop .inv .going .long
+component-same-length-2 t c = c .before .before .before .before .before .before .loop .inv .going .long
 
 component-returns-2 : (t : ℕ) → component-lts.Need-returns-2 (claims t) (component-at t) component.Post component-Inv-loop component-μ-loop
 component-returns-2 t c =
     reading-closes
-    (c .before .before .before .before .before .loop .inv)
-    (c .before .before .before .before .loop-test .taken)
-    (c .before .before .before .line-at .ensures)
+    (c .before .before .before .before .before .before .loop .inv)
+    (c .before .before .before .before .before .loop-test .taken)
+    (c .before .before .before .before .line-at .ensures)
     (c .before .before .nesting-step .ensures)
     (c .enum-told3 .given .1)
 
@@ -195,19 +200,19 @@ component-enum-told-4 : (t : ℕ) → component-lts.Need-enum-told-4 (claims t) 
 component-enum-told-4 t c = search needs
 
 component-same-length-3 : (t : ℕ) → component-lts.Need-same-length-3 (claims t) (component-at t) component.Post component-Inv-loop component-μ-loop
-component-same-length-3 t c = c .before .before .before .before .before .loop .inv .going .long
+component-same-length-3 t c = c .before .before .before .before .before .before .loop .inv .going .long
 
 component-returns-3 : (t : ℕ) → component-lts.Need-returns-3 (claims t) (component-at t) component.Post component-Inv-loop component-μ-loop
 component-returns-3 t c =
     reading-breaks
-    (c .before .before .before .before .before .loop .inv)
-    (c .before .before .before .before .loop-test .taken)
-    (c .before .before .before .line-at .ensures)
+    (c .before .before .before .before .before .before .loop .inv)
+    (c .before .before .before .before .before .loop-test .taken)
+    (c .before .before .before .before .line-at .ensures)
     (c .before .before .nesting-step .ensures) _
     (c .enum-told4 .given .1)
 
-component-add-t33 : (t : ℕ) → component-lts.Need-add-t33 (claims t) (component-at t) component.Post component-Inv-loop component-μ-loop
-component-add-t33 t c = omega (arith, c .before .before .before .before .before .before .pre .1 .0 .many)
+component-add-t34 : (t : ℕ) → component-lts.Need-add-t34 (claims t) (component-at t) component.Post component-Inv-loop component-μ-loop
+component-add-t34 t c = omega (arith, c .before .before .before .before .before .before .pre .1 .0 .many)
 
 component-same-length-4 : (t : ℕ) → component-lts.Need-same-length-4 (claims t) (component-at t) component.Post component-Inv-loop component-μ-loop
 component-same-length-4 t c = c .before .loop .inv .going .long
@@ -223,6 +228,7 @@ pub +component-spec : {M : Type 1} → statement M
     component-μ-loop
     (component-loop-holds t)
     (component-line-at-requires t)
+    (component-name-length-requires t)
     (component-add-next t)
     (component-add-more t)
     (component-sub-nesting-step t)
@@ -233,9 +239,9 @@ pub +component-spec : {M : Type 1} → statement M
     (component-component-requires t)
     (component-enum-known-j t)
     (component-kind-of-requires t)
-    (component-cast-t29 t)
     (component-cast-t30 t)
     (component-cast-t31 t)
+    (component-cast-t32 t)
     (component-put-row-requires t)
     (component-loop-less t)
     (component-loop-again t)
@@ -251,6 +257,6 @@ pub +component-spec : {M : Type 1} → statement M
     (component-enum-told-4 t)
     (component-same-length-3 t)
     (component-returns-3 t)
-    (component-add-t33 t)
+    (component-add-t34 t)
     (component-same-length-4 t)
     (component-returns-4 t)

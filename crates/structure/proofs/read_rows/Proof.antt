@@ -1,6 +1,7 @@
 -- `structure::read_rows` meets its contract: the first line begins VCALENDAR, which is read as any component is, and behind it no line may stand.
-use Rattle.structure.proofs.Reading.{file-empty, file-entry, file-ready, file-other, file-inner, file-more, file-last, file-good}
 use borrow.Author.Tests.{not-true, not-false}
+use Rattle.index.proofs.Index.{entry-here, entry-name}
+use Rattle.structure.proofs.Reading.{file-empty, file-entry, file-ready, file-other, file-inner, file-more, file-last, file-good}
 use native.Mathlib.Omega.{arith}
 use borrow.Author.Needs.{needs}
 use Rattle.structure.proofs.read_rows.Statement.{statement}
@@ -12,16 +13,23 @@ returns c = file-empty _ (c .before .before .before .before .pre .0) (c .if1 .ta
 line-at-requires : tie.Need-line-at-requires
 line-at-requires c κs = file-entry (c .before .before .before .before .pre .0) (c .before .before .before .before .pre .1 .0) (c .if1 .left)
 
+name-length-requires : tie.Need-name-length-requires
+name-length-requires c κs = entry-here (file-entry (c .before .before .before .before .before .pre .0) (c .before .before .before .before .before .pre .1 .0) (c .before .if1 .left))
+
 begins-calendar-requires : tie.Need-begins-calendar-requires
-begins-calendar-requires c κs = search needs
+begins-calendar-requires c κs =
+    entry-name
+    (file-entry (c .before .before .before .before .before .before .pre .0) (c .before .before .before .before .before .before .pre .1 .0) (c .before .before .if1 .left))
+    (c .name-length .ensures)
+    (c .before .line-at .ensures)
 
 returns-2 : tie.Need-returns-2
 returns-2 c =
     file-other
-    (c .before .before .before .before .before .before .before .pre .0)
-    (c .before .before .before .before .before .before .before .pre .1 .0)
-    (c .before .before .before .if1 .left)
-    (c .before .before .line-at .ensures)
+    (c .before .before .before .before .before .before .before .before .pre .0)
+    (c .before .before .before .before .before .before .before .before .pre .1 .0)
+    (c .before .before .before .before .if1 .left)
+    (c .before .before .before .line-at .ensures)
     (c .before .begins-calendar .ensures) _
     (not-true _ (c .if2 .taken))
 
@@ -29,13 +37,13 @@ value-requires : tie.Need-value-requires
 value-requires c κs = search needs
 
 component-requires : tie.Need-component-requires
-component-requires c κs = (file-ready (c .before .before .before .before .before .before .before .before .before .pre .0) (c .before .before .before .before .before .before .before .before .before .pre .1 .0) (c .before .before .before .before .before .if1 .left) _ (c .before .before .before .before .before .before .before .before .before .pre .1 .1), omega arith)
+component-requires c κs = (file-ready (c .before .before .before .before .before .before .before .before .before .before .pre .0) (c .before .before .before .before .before .before .before .before .before .before .pre .1 .0) (c .before .before .before .before .before .before .if1 .left) _ (c .before .before .before .before .before .before .before .before .before .before .pre .1 .1), omega arith)
 
 enum-known-j : tie.Need-enum-known-j
 enum-known-j c = search needs
 
-add-t17 : tie.Need-add-t17
-add-t17 c = search needs
+add-t18 : tie.Need-add-t18
+add-t18 c = search needs
 
 same-length : tie.Need-same-length
 same-length c = search needs
@@ -43,40 +51,40 @@ same-length c = search needs
 returns-3 : tie.Need-returns-3
 returns-3 c =
     file-more
-    (c .before .before .before .before .before .before .before .before .before .before .before .before .before .before .before .before .pre .0)
-    (c .before .before .before .before .before .before .before .before .before .before .before .before .before .before .before .before .pre .1 .0)
-    (c .before .before .before .before .before .before .before .before .before .before .before .before .if1 .left)
-    (c .before .before .before .before .before .before .before .before .before .before .before .line-at .ensures)
+    (c .before .before .before .before .before .before .before .before .before .before .before .before .before .before .before .before .before .pre .0)
+    (c .before .before .before .before .before .before .before .before .before .before .before .before .before .before .before .before .before .pre .1 .0)
+    (c .before .before .before .before .before .before .before .before .before .before .before .before .before .if1 .left)
+    (c .before .before .before .before .before .before .before .before .before .before .before .before .line-at .ensures)
     (c .before .before .before .before .before .before .before .before .before .before .begins-calendar .ensures)
     (not-false _ (c .before .before .before .before .before .before .before .before .before .if2 .left))
     (c .before .before .before .before .before .before .before .before .value .ensures) _ _
     (c .before .before .before .before .before .before .component .ensures) _ _ _
     (c .before .before .j .given .1) (c .if3 .taken)
 
-cast-t21 : tie.Need-cast-t21
-cast-t21 c =
+cast-t22 : tie.Need-cast-t22
+cast-t22 c =
     let h =
     file-last
-    (c .before .before .before .before .before .before .before .before .before .before .before .before .before .before .before .before .before .pre .0)
-    (c .before .before .before .before .before .before .before .before .before .before .before .before .before .before .before .before .before .pre .1 .0)
-    (c .before .before .before .before .before .before .before .before .before .before .before .before .before .if1 .left)
-    (c .before .before .before .before .before .before .before .before .before .before .before .before .line-at .ensures)
+    (c .before .before .before .before .before .before .before .before .before .before .before .before .before .before .before .before .before .before .pre .0)
+    (c .before .before .before .before .before .before .before .before .before .before .before .before .before .before .before .before .before .before .pre .1 .0)
+    (c .before .before .before .before .before .before .before .before .before .before .before .before .before .before .if1 .left)
+    (c .before .before .before .before .before .before .before .before .before .before .before .before .before .line-at .ensures)
     (c .before .before .before .before .before .before .before .before .before .before .before .begins-calendar .ensures)
     (not-false _ (c .before .before .before .before .before .before .before .before .before .before .if2 .left))
     (c .before .before .before .before .before .before .before .before .before .value .ensures) _ _
     (c .before .before .before .before .before .before .before .component .ensures) _ _
     (c .before .before .before .j .given .1)
     in
-    omega (arith, h .0, c .before .before .before .before .before .before .before .before .before .before .before .before .before .before .before .before .before .pre .0 .few, c .before .before .before .before .before .before .before .before .before .before .before .before .before .before .before .before .before .pre .1 .0)
+    omega (arith, h .0, c .before .before .before .before .before .before .before .before .before .before .before .before .before .before .before .before .before .before .pre .0 .few, c .before .before .before .before .before .before .before .before .before .before .before .before .before .before .before .before .before .before .pre .1 .0)
 
-cast-t22 : tie.Need-cast-t22
-cast-t22 c =
+cast-t23 : tie.Need-cast-t23
+cast-t23 c =
     let h =
     file-last
-    (c .before .before .before .before .before .before .before .before .before .before .before .before .before .before .before .before .before .pre .0)
-    (c .before .before .before .before .before .before .before .before .before .before .before .before .before .before .before .before .before .pre .1 .0)
-    (c .before .before .before .before .before .before .before .before .before .before .before .before .before .if1 .left)
-    (c .before .before .before .before .before .before .before .before .before .before .before .before .line-at .ensures)
+    (c .before .before .before .before .before .before .before .before .before .before .before .before .before .before .before .before .before .before .pre .0)
+    (c .before .before .before .before .before .before .before .before .before .before .before .before .before .before .before .before .before .before .pre .1 .0)
+    (c .before .before .before .before .before .before .before .before .before .before .before .before .before .before .if1 .left)
+    (c .before .before .before .before .before .before .before .before .before .before .before .before .before .line-at .ensures)
     (c .before .before .before .before .before .before .before .before .before .before .before .begins-calendar .ensures)
     (not-false _ (c .before .before .before .before .before .before .before .before .before .before .if2 .left))
     (c .before .before .before .before .before .before .before .before .before .value .ensures) _ _
@@ -100,10 +108,10 @@ same-length-2 c = search needs
 returns-4 : tie.Need-returns-4
 returns-4 c =
     file-good
-    (c .before .before .before .before .before .before .before .before .before .before .before .before .before .before .before .before .before .before .before .before .before .pre .0)
-    (c .before .before .before .before .before .before .before .before .before .before .before .before .before .before .before .before .before .before .before .before .before .pre .1 .0)
-    (c .before .before .before .before .before .before .before .before .before .before .before .before .before .before .before .before .before .if1 .left)
-    (c .before .before .before .before .before .before .before .before .before .before .before .before .before .before .before .before .line-at .ensures)
+    (c .before .before .before .before .before .before .before .before .before .before .before .before .before .before .before .before .before .before .before .before .before .before .pre .0)
+    (c .before .before .before .before .before .before .before .before .before .before .before .before .before .before .before .before .before .before .before .before .before .before .pre .1 .0)
+    (c .before .before .before .before .before .before .before .before .before .before .before .before .before .before .before .before .before .before .if1 .left)
+    (c .before .before .before .before .before .before .before .before .before .before .before .before .before .before .before .before .before .line-at .ensures)
     (c .before .before .before .before .before .before .before .before .before .before .before .before .before .before .before .begins-calendar .ensures)
     (not-false _ (c .before .before .before .before .before .before .before .before .before .before .before .before .before .before .if2 .left))
     (c .before .before .before .before .before .before .before .before .before .before .before .before .before .value .ensures) _ _
@@ -119,10 +127,10 @@ same-length-3 c = search needs
 returns-5 : tie.Need-returns-5
 returns-5 c =
     file-inner
-    (c .before .before .before .before .before .before .before .before .before .before .before .before .before .before .before .pre .0)
-    (c .before .before .before .before .before .before .before .before .before .before .before .before .before .before .before .pre .1 .0)
-    (c .before .before .before .before .before .before .before .before .before .before .before .if1 .left)
-    (c .before .before .before .before .before .before .before .before .before .before .line-at .ensures)
+    (c .before .before .before .before .before .before .before .before .before .before .before .before .before .before .before .before .pre .0)
+    (c .before .before .before .before .before .before .before .before .before .before .before .before .before .before .before .before .pre .1 .0)
+    (c .before .before .before .before .before .before .before .before .before .before .before .before .if1 .left)
+    (c .before .before .before .before .before .before .before .before .before .before .before .line-at .ensures)
     (c .before .before .before .before .before .before .before .before .before .begins-calendar .ensures)
     (not-false _ (c .before .before .before .before .before .before .before .before .if2 .left))
     (c .before .before .before .before .before .before .before .value .ensures) _ _
@@ -135,16 +143,17 @@ read-rows-spec =
     (tie.spec
     returns
     line-at-requires
+    name-length-requires
     begins-calendar-requires
     returns-2
     value-requires
     component-requires
     enum-known-j
-    add-t17
+    add-t18
     same-length
     returns-3
-    cast-t21
     cast-t22
+    cast-t23
     kind-of-requires
     put-row-requires
     enum-known-j-2
