@@ -31,7 +31,7 @@ use Rattle.calendar.specs.Periods.{periodsFrom}
 use Rattle.calendar.specs.declared.ValueCheck.{ValueCheck}
 use Rattle.calendar.proofs.Periods.{periods-all}
 use Rattle.pieces.specs.Pieces.{piecesOf}
-use Rattle.pieces.specs.Columns.{Stored, Room}
+use Rattle.pieces.specs.Columns.{Room}
 use Rattle.pieces.proofs.Pieces.{piecesOf-none, piecesOf-append}
 use Rattle.contents.specs.Lines.{together, linesFault, periodsIn, valuePeriods, ValueIs, LinesGood, LinesAre, good, unsupported, bad}
 use Rattle.contents.specs.declared.lines.LinesRead.{LinesRead}

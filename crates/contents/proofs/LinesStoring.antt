@@ -16,7 +16,7 @@ use Rattle.calendar.specs.Periods.{periodsFrom}
 use Rattle.pieces.specs.BusyPeriods.{busyPeriod}
 use Rattle.pieces.specs.Columns.{Stored, Room}
 use Rattle.pieces.specs.Pieces.{pieceOf, piecesOf}
-use Rattle.pieces.proofs.Columns.{stored-none, stored-full, stored-as, stored-then, stored-few, stored-long}
+use Rattle.pieces.proofs.Columns.{stored-none, stored-as, stored-then, stored-few, stored-long}
 use Rattle.contents.specs.Lines.{valuePeriods, ValueIs, value-good, value-bad}
 use Rattle.contents.specs.declared.lines.ValueStored.{ValueStored}
 
@@ -45,9 +45,6 @@ module _ {o₀ : List ℕ} {n₀ : ℕ} {whole : List BusyPeriod} {o : List ℕ}
 
   pub left-none : left ≡ [] → Stored o₀ n₀ whole o n
   left-none e = l .rest o n (stored-as (stored-none o n) (sym e))
-
-  pub left-full : 513 ≤ n → Stored o₀ n₀ whole o n
-  left-full h = l .rest o n (stored-full o n left h)
 
 -- ---- the periods of a value
 

@@ -1,7 +1,7 @@
 -- A component against a time range, by what is read of it: the periods of a block's lines, and the row of an event or a block.
 use Prim.Native.Nat.{ℕ, _+_, _-_, _*_, _≤_, _<_}
 use mathlib.Core.Path.{_≡_}
-use mathlib.Core.Bool.{Bool, true, false}
+use mathlib.Core.Bool.{Bool, false}
 use mathlib.Core.List.{List}
 use lib.ListN.{length, getD}
 use Rattle.periods.specs.BusyTypes.{BusyPeriod, periodsOf}

@@ -1,7 +1,7 @@
 -- What a line says: which property a name is by its length, the value that is read,
 -- what stands on a line without parameters, and how large what a line says can be.
 use Prim.Native.Nat.{ℕ, _≤_, _+_, _-_}
-use mathlib.Core.Path.{_≡_, refl, sym, ap, _∙_, subst}
+use mathlib.Core.Path.{_≡_, refl, sym, ap, _∙_}
 use mathlib.Core.Bool.{Bool, true, false, cond, _||_, true≢false}
 use mathlib.Core.List.{List, [], _∷_}
 use mathlib.Core.Logic.{_⊎_, ⊎-elim}
@@ -24,7 +24,7 @@ use Rattle.line.specs.Reading.{nameOf, lineOf, valueOf, hasParameter, hasTwice,
 use Rattle.line.specs.Grammar.{ContentLine}
 use Rattle.line.proofs.Splitting.{suffix}
 use Rattle.values.specs.declared.times.Context.{Context}
-use Rattle.values.specs.Times.{formOf, timeOf, readTime}
+use Rattle.values.specs.Times.{formOf, timeOf}
 use Rattle.values.specs.Rule.{ruleOf, RuleSmall}
 use Rattle.values.specs.Period.{periodItems, allPeriods, DurationSmall}
 use Rattle.values.specs.declared.times.Time.{Time}
@@ -399,17 +399,3 @@ valueAs-small Property.Unread c s x = tt
 pub propertyValueOf-small : (c : Context) (s : Scope) (x : ContentLine) → PropertyValueSmall (propertyValueOf c s x)
 unfolding propertyValueOf beforePeriods
 propertyValueOf-small c s x = periods-small (x .value) (beforePeriods c s x) (valueAs-small (propertyOf s (x .name)) c s x)
-
--- the same by what it says
-module _ (c : Context) (s : Scope) (x : ContentLine) where
-  pub start-small : (t : Time) → propertyValueOf c s x ≡ PropertyValue.Start t → t .second ≤ lastSecond
-  start-small t e = subst PropertyValueSmall e (propertyValueOf-small c s x)
-
-  pub end-small : (t : Time) → propertyValueOf c s x ≡ PropertyValue.End t → t .second ≤ lastSecond
-  end-small t e = subst PropertyValueSmall e (propertyValueOf-small c s x)
-
-  pub lasts-small : (d : Duration) → propertyValueOf c s x ≡ PropertyValue.Lasts d → DurationSmall d
-  lasts-small d e = subst PropertyValueSmall e (propertyValueOf-small c s x)
-
-  pub repeats-small : (r : Rule) → propertyValueOf c s x ≡ PropertyValue.Repeats r → RuleSmall r
-  repeats-small r e = subst PropertyValueSmall e (propertyValueOf-small c s x)

@@ -8,7 +8,9 @@ use Rattle.contents.proofs.read_block.Statement.{statement}
 use Rattle.contents.proofs.read_block.Tie as tie
 
 read-lines-requires : tie.Need-read-lines-requires
-read-lines-requires c κs = (c .before .before .before .before .before .before .pre .0, (c .before .before .before .before .before .before .pre .1 .0, (c .before .before .before .before .before .before .pre .1 .1 .1 .0, (c .before .before .before .before .before .before .pre .1 .1 .1 .1 .0, (c .before .before .before .before .before .before .pre .1 .1 .1 .1 .1 .0, c .before .before .before .before .before .before .pre .1 .1 .1 .1 .1 .1 .1 .1)))))
+read-lines-requires c κs =
+    let pre = c .before .before .before .before .before .before .pre in
+    (pre .0, (pre .1 .0, (pre .1 .1 .1 .0, (pre .1 .1 .1 .1 .0, (pre .1 .1 .1 .1 .1 .0, pre .1 .1 .1 .1 .1 .1 .1 .1)))))
 
 enum-known-g : tie.Need-enum-known-g
 enum-known-g c = search needs
@@ -20,7 +22,9 @@ enum-known-x : tie.Need-enum-known-x
 enum-known-x c = search needs
 
 put-block-requires : tie.Need-put-block-requires
-put-block-requires c κs = omega (arith, c .before .before .before .before .before .before .before .before .before .before .before .before .before .before .before .before .before .pre .1 .1 .1 .1 .1 .0 .few, c .before .before .before .before .before .before .before .before .before .before .before .before .before .before .before .before .before .pre .1 .1 .0)
+put-block-requires c κs =
+    let pre = c .before .before .before .before .before .before .before .before .before .before .before .before .before .before .before .before .before .pre in
+    omega (arith, pre .1 .1 .1 .1 .1 .0 .few, pre .1 .1 .0)
 
 enum-told : tie.Need-enum-told
 enum-told c = search needs
@@ -38,25 +42,42 @@ same-length-2 : tie.Need-same-length-2
 same-length-2 c = search needs
 
 returns : tie.Need-returns
-returns c = block-good _ _ (c .before .before .before .before .before .before .before .before .before .before .before .before .before .before .before .before .before .before .before .before .pre .1 .1 .1 .1 .1 .1 .0) (lines-of (c .before .before .before .before .before .before .before .before .before .before .before .before .before .read-lines .ensures) _ _ (c .before .before .before .before .before .before .before .before .before .g .given .1)) (c .before .before .before .before .before .before .before .block-by .ensures) _ (c .before .before .before .before .before .x .given .1) (c .before .before .put-block .ensures)
+returns c =
+    let pre = c .before .before .before .before .before .before .before .before .before .before .before .before .before .before .before .before .before .before .before .before .pre in
+    let read-lines = c .before .before .before .before .before .before .before .before .before .before .before .before .before .read-lines in
+    let g = c .before .before .before .before .before .before .before .before .before .g in
+    let block-by = c .before .before .before .before .before .before .before .block-by in
+    let x = c .before .before .before .before .before .x in
+    block-good _ _ (pre .1 .1 .1 .1 .1 .1 .0) (lines-of (read-lines .ensures) _ _ (g .given .1)) (block-by .ensures) _ (x .given .1)
+    (c .before .before .put-block .ensures)
 
 same-length-3 : tie.Need-same-length-3
 same-length-3 c = search needs
 
 returns-2 : tie.Need-returns-2
-returns-2 c = block-broken _ _ (c .before .before .before .before .before .before .before .before .before .before .before .before .before .before .before .pre .1 .1 .1 .1 .1 .1 .0) (lines-of (c .before .before .before .before .before .before .before .before .read-lines .ensures) _ _ (c .before .before .before .before .g .given .1)) (c .before .before .block-by .ensures) _ _ _ _ (c .enum-told .given .1)
+returns-2 c =
+    let pre = c .before .before .before .before .before .before .before .before .before .before .before .before .before .before .before .pre in
+    let read-lines = c .before .before .before .before .before .before .before .before .read-lines in
+    let g = c .before .before .before .before .g in
+    block-broken _ _ (pre .1 .1 .1 .1 .1 .1 .0) (lines-of (read-lines .ensures) _ _ (g .given .1)) (c .before .before .block-by .ensures) _ _ _ _ (c .enum-told .given .1)
 
 same-length-4 : tie.Need-same-length-4
 same-length-4 c = search needs
 
 returns-3 : tie.Need-returns-3
-returns-3 c = entry-unsupported (block-fault _ _ (c .before .before .before .before .before .before .before .before .before .before .before .before .pre .1 .1 .1 .1 .1 .1 .0) (lines-unsupported (c .before .before .before .before .before .read-lines .ensures) _ (c .before .i .given .1)))
+returns-3 c =
+    let pre = c .before .before .before .before .before .before .before .before .before .before .before .before .pre in
+    let read-lines = c .before .before .before .before .before .read-lines in
+    entry-unsupported (block-fault _ _ (pre .1 .1 .1 .1 .1 .1 .0) (lines-unsupported (read-lines .ensures) _ (c .before .i .given .1)))
 
 same-length-5 : tie.Need-same-length-5
 same-length-5 c = search needs
 
 returns-4 : tie.Need-returns-4
-returns-4 c = entry-bad (block-fault _ _ (c .before .before .before .before .before .before .before .before .before .before .before .before .pre .1 .1 .1 .1 .1 .1 .0) (lines-bad (c .before .before .before .before .before .read-lines .ensures) _ (c .before .i2 .given .1)))
+returns-4 c =
+    let pre = c .before .before .before .before .before .before .before .before .before .before .before .before .pre in
+    let read-lines = c .before .before .before .before .before .read-lines in
+    entry-bad (block-fault _ _ (pre .1 .1 .1 .1 .1 .1 .0) (lines-bad (read-lines .ensures) _ (c .before .i2 .given .1)))
 
 pub read-block-spec : {M : Type 1} → statement M
 read-block-spec =

@@ -24,7 +24,10 @@ loop-holds c =
     (c .before .before .before .before .before .before .pre .1 .0) (c .next-row .ensures)
 
 read-entry-requires : tie.Need-read-entry-requires Inv-loop μ-loop
-read-entry-requires c κs = (c .before .before .before .loop .inv .long, (c .before .before .before .loop .inv .few, (c .before .before .before .loop .inv .size, (c .before .before .before .before .before .before .before .before .before .before .pre .1 .1 .0, (c .before .before .before .before .before .before .before .before .before .before .pre .1 .1 .1 .0 .indexed, (here (c .before .before .before .loop .inv) (c .before .before .loop-test .taken) .here .row, c .before .before .before .before .before .before .before .before .before .before .pre .1 .1 .1 .1))))))
+read-entry-requires c κs =
+    let turn = c .before .before .before .loop in
+    let pre = c .before .before .before .before .before .before .before .before .before .before .pre in
+    (turn .inv .long, (turn .inv .few, (turn .inv .size, (pre .1 .1 .0, (pre .1 .1 .1 .0 .indexed, (here (turn .inv) (c .before .before .loop-test .taken) .here .row, pre .1 .1 .1 .1))))))
 
 enum-known-count : tie.Need-enum-known-count Inv-loop μ-loop
 enum-known-count c = search needs
@@ -94,20 +97,25 @@ answer-requires c κs = search needs
 
 same-length : tie.Need-same-length Inv-loop μ-loop
 same-length c =
-    omega
-    (arith, c .before .before .before .before .before .before .before .before .before .before .before .before .loop .inv .long, c .before .before .before .before .before .before .before .before .before .before .before .before .before .before .before .before .before .before .before .pre .0)
+    let turn = c .before .before .before .before .before .before .before .before .before .before .before .before .loop in
+    let pre = c .before .before .before .before .before .before .before .before .before .before .before .before .before .before .before .before .before .before .before .pre in
+    omega (arith, turn .inv .long, pre .0)
 
 same-length-2 : tie.Need-same-length-2 Inv-loop μ-loop
 same-length-2 c =
-    omega
-    (arith, c .before .before .before .before .before .before .before .before .before .before .before .before .loop .inv .size, c .before .before .before .before .before .before .before .before .before .before .before .before .before .before .before .before .before .before .before .pre .1 .0)
+    let turn = c .before .before .before .before .before .before .before .before .before .before .before .before .loop in
+    let pre = c .before .before .before .before .before .before .before .before .before .before .before .before .before .before .before .before .before .before .before .pre in
+    omega (arith, turn .inv .size, pre .1 .0)
 
 returns : tie.Need-returns Inv-loop μ-loop
 returns c =
-    told-unsupported
-    (c .before .before .before .before .before .before .before .before .before .before .before .before .before .before .before .before .before .before .before .pre .1 .1 .1 .0)
-    (c .before .before .before .before .before .before .before .before .before .before .before .before .before .next-row .ensures) _ _ _ _
-    (contents-unsupported (c .before .before .before .before .before .before .before .before .before .before .before .before .loop .inv) (c .before .before .before .before .before .before .before .before .before .before .before .loop-test .taken) (c .before .before .before .before .before .before .before .before .read-entry .ensures) (omega arith) (omega arith) _ (c .before .before .i .given .1)) (c .answer .ensures .0)
+    let pre = c .before .before .before .before .before .before .before .before .before .before .before .before .before .before .before .before .before .before .before .pre in
+    let next-row = c .before .before .before .before .before .before .before .before .before .before .before .before .before .next-row in
+    let turn = c .before .before .before .before .before .before .before .before .before .before .before .before .loop in
+    let loop-test = c .before .before .before .before .before .before .before .before .before .before .before .loop-test in
+    let read-entry = c .before .before .before .before .before .before .before .before .read-entry in
+    told-unsupported (pre .1 .1 .1 .0) (next-row .ensures) _ _ _ _
+    (contents-unsupported (turn .inv) (loop-test .taken) (read-entry .ensures) (omega arith) (omega arith) _ (c .before .before .i .given .1)) (c .answer .ensures .0)
 
 enum-known-i-2 : tie.Need-enum-known-i-2 Inv-loop μ-loop
 enum-known-i-2 c = search needs
@@ -117,20 +125,25 @@ answer-requires-2 c κs = search needs
 
 same-length-3 : tie.Need-same-length-3 Inv-loop μ-loop
 same-length-3 c =
-    omega
-    (arith, c .before .before .before .before .before .before .before .before .before .before .before .before .loop .inv .long, c .before .before .before .before .before .before .before .before .before .before .before .before .before .before .before .before .before .before .before .pre .0)
+    let turn = c .before .before .before .before .before .before .before .before .before .before .before .before .loop in
+    let pre = c .before .before .before .before .before .before .before .before .before .before .before .before .before .before .before .before .before .before .before .pre in
+    omega (arith, turn .inv .long, pre .0)
 
 same-length-4 : tie.Need-same-length-4 Inv-loop μ-loop
 same-length-4 c =
-    omega
-    (arith, c .before .before .before .before .before .before .before .before .before .before .before .before .loop .inv .size, c .before .before .before .before .before .before .before .before .before .before .before .before .before .before .before .before .before .before .before .pre .1 .0)
+    let turn = c .before .before .before .before .before .before .before .before .before .before .before .before .loop in
+    let pre = c .before .before .before .before .before .before .before .before .before .before .before .before .before .before .before .before .before .before .before .pre in
+    omega (arith, turn .inv .size, pre .1 .0)
 
 returns-2 : tie.Need-returns-2 Inv-loop μ-loop
 returns-2 c =
-    told-bad
-    (c .before .before .before .before .before .before .before .before .before .before .before .before .before .before .before .before .before .before .before .pre .1 .1 .1 .0)
-    (c .before .before .before .before .before .before .before .before .before .before .before .before .before .next-row .ensures) _ _ _ _
-    (contents-bad (c .before .before .before .before .before .before .before .before .before .before .before .before .loop .inv) (c .before .before .before .before .before .before .before .before .before .before .before .loop-test .taken) (c .before .before .before .before .before .before .before .before .read-entry .ensures) (omega arith) (omega arith) _ (c .before .before .i2 .given .1)) (c .answer2 .ensures .0)
+    let pre = c .before .before .before .before .before .before .before .before .before .before .before .before .before .before .before .before .before .before .before .pre in
+    let next-row = c .before .before .before .before .before .before .before .before .before .before .before .before .before .next-row in
+    let turn = c .before .before .before .before .before .before .before .before .before .before .before .before .loop in
+    let loop-test = c .before .before .before .before .before .before .before .before .before .before .before .loop-test in
+    let read-entry = c .before .before .before .before .before .before .before .before .read-entry in
+    told-bad (pre .1 .1 .1 .0) (next-row .ensures) _ _ _ _
+    (contents-bad (turn .inv) (loop-test .taken) (read-entry .ensures) (omega arith) (omega arith) _ (c .before .before .i2 .given .1)) (c .answer2 .ensures .0)
 
 answer-requires-3 : tie.Need-answer-requires-3 Inv-loop μ-loop
 answer-requires-3 c κs = search needs

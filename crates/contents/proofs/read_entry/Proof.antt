@@ -8,10 +8,16 @@ kind-at-requires : tie.Need-kind-at-requires
 kind-at-requires c κs = search needs
 
 read-event-requires : tie.Need-read-event-requires
-read-event-requires c κs = (c .before .before .before .before .before .before .before .before .before .pre .0, (c .before .before .before .before .before .before .before .before .before .pre .1 .0, (c .before .before .before .before .before .before .before .before .before .pre .1 .1 .0, (c .before .before .before .before .before .before .before .before .before .pre .1 .1 .1 .0, (c .before .before .before .before .before .before .before .before .before .pre .1 .1 .1 .1 .0, (c .before .before .before .before .before .before .before .before .before .pre .1 .1 .1 .1 .1 .0, (row-event (c .before .before .before .before .before .before .before .before .before .pre .1 .1 .1 .1 .1 .0) (c .before .before .before .kind-at .ensures) (c .before .before .match .keys1), c .before .before .before .before .before .before .before .before .before .pre .1 .1 .1 .1 .1 .1)))))))
+read-event-requires c κs =
+    let pre = c .before .before .before .before .before .before .before .before .before .pre in
+    let kind-at = c .before .before .before .kind-at in
+    (pre .0, (pre .1 .0, (pre .1 .1 .0, (pre .1 .1 .1 .0, (pre .1 .1 .1 .1 .0, (pre .1 .1 .1 .1 .1 .0, (row-event (pre .1 .1 .1 .1 .1 .0) (kind-at .ensures) (c .before .before .match .keys1), pre .1 .1 .1 .1 .1 .1)))))))
 
 read-block-requires : tie.Need-read-block-requires
-read-block-requires c κs = (c .before .before .before .before .before .before .before .before .before .pre .0, (c .before .before .before .before .before .before .before .before .before .pre .1 .0, (c .before .before .before .before .before .before .before .before .before .pre .1 .1 .0, (c .before .before .before .before .before .before .before .before .before .pre .1 .1 .1 .0, (c .before .before .before .before .before .before .before .before .before .pre .1 .1 .1 .1 .0, (c .before .before .before .before .before .before .before .before .before .pre .1 .1 .1 .1 .1 .0, (row-block (c .before .before .before .before .before .before .before .before .before .pre .1 .1 .1 .1 .1 .0) (c .before .before .before .kind-at .ensures) (c .before .before .match .keys2), c .before .before .before .before .before .before .before .before .before .pre .1 .1 .1 .1 .1 .1)))))))
+read-block-requires c κs =
+    let pre = c .before .before .before .before .before .before .before .before .before .pre in
+    let kind-at = c .before .before .before .kind-at in
+    (pre .0, (pre .1 .0, (pre .1 .1 .0, (pre .1 .1 .1 .0, (pre .1 .1 .1 .1 .0, (pre .1 .1 .1 .1 .1 .0, (row-block (pre .1 .1 .1 .1 .1 .0) (kind-at .ensures) (c .before .before .match .keys2), pre .1 .1 .1 .1 .1 .1)))))))
 
 same-length : tie.Need-same-length
 same-length c = search needs

@@ -10,7 +10,9 @@ use Rattle.contents.proofs.read_event.Statement.{statement}
 use Rattle.contents.proofs.read_event.Tie as tie
 
 read-lines-requires : tie.Need-read-lines-requires
-read-lines-requires c κs = (c .before .before .before .before .before .before .pre .0, (c .before .before .before .before .before .before .pre .1 .0, (c .before .before .before .before .before .before .pre .1 .1 .1 .0, (c .before .before .before .before .before .before .pre .1 .1 .1 .1 .0, (c .before .before .before .before .before .before .pre .1 .1 .1 .1 .1 .0, c .before .before .before .before .before .before .pre .1 .1 .1 .1 .1 .1 .1 .1)))))
+read-lines-requires c κs =
+    let pre = c .before .before .before .before .before .before .pre in
+    (pre .0, (pre .1 .0, (pre .1 .1 .1 .0, (pre .1 .1 .1 .1 .0, (pre .1 .1 .1 .1 .1 .0, pre .1 .1 .1 .1 .1 .1 .1 .1)))))
 
 enum-known-g : tie.Need-enum-known-g
 enum-known-g c = search needs
@@ -22,10 +24,18 @@ enum-known-e : tie.Need-enum-known-e
 enum-known-e c = search needs
 
 put-event-requires : tie.Need-put-event-requires
-put-event-requires c κs = omega (arith, c .before .before .before .before .before .before .before .before .before .before .before .before .before .before .before .before .before .pre .1 .1 .1 .1 .1 .0 .few, c .before .before .before .before .before .before .before .before .before .before .before .before .before .before .before .before .before .pre .1 .1 .0)
+put-event-requires c κs =
+    let pre = c .before .before .before .before .before .before .before .before .before .before .before .before .before .before .before .before .before .pre in
+    omega (arith, pre .1 .1 .1 .1 .1 .0 .few, pre .1 .1 .0)
 
 store-event-requires : tie.Need-store-event-requires
-store-event-requires c κs = (stored-long ((lines-of (c .before .before .before .before .before .before .before .before .before .before .before .before .before .before .read-lines .ensures) _ _ (c .before .before .before .before .before .before .before .before .before .before .g .given .1)) .stored) ∙ c .before .before .before .before .before .before .before .before .before .before .before .before .before .before .before .before .before .before .before .before .before .pre .0, (stored-few ((lines-of (c .before .before .before .before .before .before .before .before .before .before .before .before .before .before .read-lines .ensures) _ _ (c .before .before .before .before .before .before .before .before .before .before .g .given .1)) .stored) (c .before .before .before .before .before .before .before .before .before .before .before .before .before .before .before .before .before .before .before .before .before .pre .1 .0), (event-small _ _ (c .before .before .before .before .before .before .before .before .before .before .before .before .before .before .before .before .before .before .before .before .before .pre .1 .1 .1 .1 .1 .1 .0) (lines-of (c .before .before .before .before .before .before .before .before .before .before .before .before .before .before .read-lines .ensures) _ _ (c .before .before .before .before .before .before .before .before .before .before .g .given .1)) (c .before .before .before .before .before .before .before .before .event-by .ensures) _ (c .before .before .before .before .before .before .e .given .1), (c .before .before .before .before .before .before .before .before .before .before .before .before .before .before .before .before .before .before .before .before .before .pre .1 .1 .1 .1 .1 .1 .1 .0, c .before .before .before .before .before .before .before .before .before .before .before .before .before .before .before .before .before .before .before .before .before .pre .1 .1 .1 .1 .1 .1 .1 .1))))
+store-event-requires c κs =
+    let read-lines = c .before .before .before .before .before .before .before .before .before .before .before .before .before .before .read-lines in
+    let g = c .before .before .before .before .before .before .before .before .before .before .g in
+    let pre = c .before .before .before .before .before .before .before .before .before .before .before .before .before .before .before .before .before .before .before .before .before .pre in
+    let event-by = c .before .before .before .before .before .before .before .before .event-by in
+    let e = c .before .before .before .before .before .before .e in
+    (stored-long ((lines-of (read-lines .ensures) _ _ (g .given .1)) .stored) ∙ pre .0, (stored-few ((lines-of (read-lines .ensures) _ _ (g .given .1)) .stored) (pre .1 .0), (event-small _ _ (pre .1 .1 .1 .1 .1 .1 .0) (lines-of (read-lines .ensures) _ _ (g .given .1)) (event-by .ensures) _ (e .given .1), (pre .1 .1 .1 .1 .1 .1 .1 .0, pre .1 .1 .1 .1 .1 .1 .1 .1))))
 
 enum-told : tie.Need-enum-told
 enum-told c = search needs
@@ -43,25 +53,43 @@ same-length-2 : tie.Need-same-length-2
 same-length-2 c = search needs
 
 returns : tie.Need-returns
-returns c = event-good _ _ (c .before .before .before .before .before .before .before .before .before .before .before .before .before .before .before .before .before .before .before .before .before .before .before .before .pre .1 .1 .1 .1 .1 .1 .0) (lines-of (c .before .before .before .before .before .before .before .before .before .before .before .before .before .before .before .before .before .read-lines .ensures) _ _ (c .before .before .before .before .before .before .before .before .before .before .before .before .before .g .given .1)) (c .before .before .before .before .before .before .before .before .before .before .before .event-by .ensures) _ (c .before .before .before .before .before .before .before .before .before .e .given .1) (c .before .before .before .before .before .before .put-event .ensures) (c .before .before .store-event .ensures)
+returns c =
+    let pre = c .before .before .before .before .before .before .before .before .before .before .before .before .before .before .before .before .before .before .before .before .before .before .before .before .pre in
+    let read-lines = c .before .before .before .before .before .before .before .before .before .before .before .before .before .before .before .before .before .read-lines in
+    let g = c .before .before .before .before .before .before .before .before .before .before .before .before .before .g in
+    let event-by = c .before .before .before .before .before .before .before .before .before .before .before .event-by in
+    let e = c .before .before .before .before .before .before .before .before .before .e in
+    let put-event = c .before .before .before .before .before .before .put-event in
+    event-good _ _ (pre .1 .1 .1 .1 .1 .1 .0) (lines-of (read-lines .ensures) _ _ (g .given .1)) (event-by .ensures) _ (e .given .1) (put-event .ensures)
+    (c .before .before .store-event .ensures)
 
 same-length-3 : tie.Need-same-length-3
 same-length-3 c = search needs
 
 returns-2 : tie.Need-returns-2
-returns-2 c = event-broken _ _ (c .before .before .before .before .before .before .before .before .before .before .before .before .before .before .before .pre .1 .1 .1 .1 .1 .1 .0) (lines-of (c .before .before .before .before .before .before .before .before .read-lines .ensures) _ _ (c .before .before .before .before .g .given .1)) (c .before .before .event-by .ensures) _ _ _ _ (c .enum-told .given .1)
+returns-2 c =
+    let pre = c .before .before .before .before .before .before .before .before .before .before .before .before .before .before .before .pre in
+    let read-lines = c .before .before .before .before .before .before .before .before .read-lines in
+    let g = c .before .before .before .before .g in
+    event-broken _ _ (pre .1 .1 .1 .1 .1 .1 .0) (lines-of (read-lines .ensures) _ _ (g .given .1)) (c .before .before .event-by .ensures) _ _ _ _ (c .enum-told .given .1)
 
 same-length-4 : tie.Need-same-length-4
 same-length-4 c = search needs
 
 returns-3 : tie.Need-returns-3
-returns-3 c = entry-unsupported (event-fault _ _ (c .before .before .before .before .before .before .before .before .before .before .before .before .pre .1 .1 .1 .1 .1 .1 .0) (lines-unsupported (c .before .before .before .before .before .read-lines .ensures) _ (c .before .i .given .1)))
+returns-3 c =
+    let pre = c .before .before .before .before .before .before .before .before .before .before .before .before .pre in
+    let read-lines = c .before .before .before .before .before .read-lines in
+    entry-unsupported (event-fault _ _ (pre .1 .1 .1 .1 .1 .1 .0) (lines-unsupported (read-lines .ensures) _ (c .before .i .given .1)))
 
 same-length-5 : tie.Need-same-length-5
 same-length-5 c = search needs
 
 returns-4 : tie.Need-returns-4
-returns-4 c = entry-bad (event-fault _ _ (c .before .before .before .before .before .before .before .before .before .before .before .before .pre .1 .1 .1 .1 .1 .1 .0) (lines-bad (c .before .before .before .before .before .read-lines .ensures) _ (c .before .i2 .given .1)))
+returns-4 c =
+    let pre = c .before .before .before .before .before .before .before .before .before .before .before .before .pre in
+    let read-lines = c .before .before .before .before .before .read-lines in
+    entry-bad (event-fault _ _ (pre .1 .1 .1 .1 .1 .1 .0) (lines-bad (read-lines .ensures) _ (c .before .i2 .given .1)))
 
 pub read-event-spec : {M : Type 1} → statement M
 read-event-spec =

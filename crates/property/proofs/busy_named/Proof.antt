@@ -33,11 +33,21 @@ same-name-requires-3 c κs = search needs
 
 returns-3 : tie.Need-returns-3
 unfolding busyNamed
-returns-3 c = rw (sym (c .before .before .before .before .before .before .before .same-name .ensures) ∙ c .before .before .before .before .before .before .if1 .left, sym (c .before .before .before .before .same-name2 .ensures) ∙ c .before .before .before .if2 .left, sym (c .before .same-name3 .ensures) ∙ c .if3 .taken)
+returns-3 c =
+    let same-name = c .before .before .before .before .before .before .before .same-name in
+    let if1 = c .before .before .before .before .before .before .if1 in
+    let same-name2 = c .before .before .before .before .same-name2 in
+    let if2 = c .before .before .before .if2 in
+    rw (sym (same-name .ensures) ∙ if1 .left, sym (same-name2 .ensures) ∙ if2 .left, sym (c .before .same-name3 .ensures) ∙ c .if3 .taken)
 
 returns-4 : tie.Need-returns-4
 unfolding busyNamed
-returns-4 c = rw (sym (c .before .before .before .before .before .before .before .same-name .ensures) ∙ c .before .before .before .before .before .before .if1 .left, sym (c .before .before .before .before .same-name2 .ensures) ∙ c .before .before .before .if2 .left, sym (c .before .same-name3 .ensures) ∙ c .if3 .left)
+returns-4 c =
+    let same-name = c .before .before .before .before .before .before .before .same-name in
+    let if1 = c .before .before .before .before .before .before .if1 in
+    let same-name2 = c .before .before .before .before .same-name2 in
+    let if2 = c .before .before .before .if2 in
+    rw (sym (same-name .ensures) ∙ if1 .left, sym (same-name2 .ensures) ∙ if2 .left, sym (c .before .same-name3 .ensures) ∙ c .if3 .left)
 
 pub busy-named-spec : {M : Type 1} → statement M
 busy-named-spec =

@@ -25,7 +25,12 @@ same-name-requires-2 : tie.Need-same-name-requires-2
 same-name-requires-2 c κs = search needs
 
 returns-2 : tie.Need-returns-2
-returns-2 c = rw (by-length Scope.Event (now (c .before .before .before .before .before .before .before .args .name)) 5 (c .before .before .before .before .before .before .before .pre), sym (c .before .before .before .before .same-name .ensures) ∙ c .before .before .before .if1 .left, sym (c .before .same-name2 .ensures) ∙ c .if2 .taken)
+returns-2 c =
+    let args = c .before .before .before .before .before .before .before .args in
+    let pre = c .before .before .before .before .before .before .before .pre in
+    let same-name = c .before .before .before .before .same-name in
+    let if1 = c .before .before .before .if1 in
+    rw (by-length Scope.Event (now (args .name)) 5 (pre), sym (same-name .ensures) ∙ if1 .left, sym (c .before .same-name2 .ensures) ∙ c .if2 .taken)
 
 slice-aggregate-same-name-3 : tie.Need-slice-aggregate-same-name-3
 slice-aggregate-same-name-3 c = search needs
@@ -37,7 +42,15 @@ property-if-requires : tie.Need-property-if-requires
 property-if-requires c κs = search needs
 
 returns-3 : tie.Need-returns-3
-returns-3 c = rw (by-length Scope.Event (now (c .before .before .before .before .before .before .before .before .before .before .args .name)) 5 (c .before .before .before .before .before .before .before .before .before .before .pre), sym (c .before .before .before .before .before .before .before .same-name .ensures) ∙ c .before .before .before .before .before .before .if1 .left, sym (c .before .before .before .before .same-name2 .ensures) ∙ c .before .before .before .if2 .left) (c .property-if .ensures ∙ ap (λ (t : Bool). cond t Property.Unsupported Property.Unread) (c .before .same-name3 .ensures))
+returns-3 c =
+    let args = c .before .before .before .before .before .before .before .before .before .before .args in
+    let pre = c .before .before .before .before .before .before .before .before .before .before .pre in
+    let same-name = c .before .before .before .before .before .before .before .same-name in
+    let if1 = c .before .before .before .before .before .before .if1 in
+    let same-name2 = c .before .before .before .before .same-name2 in
+    let if2 = c .before .before .before .if2 in
+    rw (by-length Scope.Event (now (args .name)) 5 (pre), sym (same-name .ensures) ∙ if1 .left, sym (same-name2 .ensures) ∙ if2 .left)
+    (c .property-if .ensures ∙ ap (λ (t : Bool). cond t Property.Unsupported Property.Unread) (c .before .same-name3 .ensures))
 
 pub event-of-five-spec : {M : Type 1} → statement M
 event-of-five-spec =

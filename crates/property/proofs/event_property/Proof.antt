@@ -49,13 +49,25 @@ returns-2 : tie.Need-returns-2
 returns-2 c = search needs
 
 returns-3 : tie.Need-returns-3
-returns-3 c = rw (by-length Scope.Event (now (c .before .before .before .before .before .args .name)) 7 (c .before .before .before .match .keys3)) (c .property-if .ensures ∙ ap (λ (t : Bool). cond t Property.Start Property.Unread) (c .before .same-name .ensures))
+returns-3 c =
+    let args = c .before .before .before .before .before .args in
+    let arm = c .before .before .before .match in
+    rw (by-length Scope.Event (now (args .name)) 7 (arm .keys3))
+    (c .property-if .ensures ∙ ap (λ (t : Bool). cond t Property.Start Property.Unread) (c .before .same-name .ensures))
 
 returns-4 : tie.Need-returns-4
-returns-4 c = rw (by-length Scope.Event (now (c .before .before .before .before .before .args .name)) 8 (c .before .before .before .match .keys4)) (c .property-if2 .ensures ∙ ap (λ (t : Bool). cond t Property.Duration Property.Unread) (c .before .same-name2 .ensures))
+returns-4 c =
+    let args = c .before .before .before .before .before .args in
+    let arm = c .before .before .before .match in
+    rw (by-length Scope.Event (now (args .name)) 8 (arm .keys4))
+    (c .property-if2 .ensures ∙ ap (λ (t : Bool). cond t Property.Duration Property.Unread) (c .before .same-name2 .ensures))
 
 returns-5 : tie.Need-returns-5
-returns-5 c = rw (by-length Scope.Event (now (c .before .before .before .before .before .args .name)) 13 (c .before .before .before .match .keys5)) (c .property-if3 .ensures ∙ ap (λ (t : Bool). cond t Property.Unsupported Property.Unread) (c .before .same-name3 .ensures))
+returns-5 c =
+    let args = c .before .before .before .before .before .args in
+    let arm = c .before .before .before .match in
+    rw (by-length Scope.Event (now (args .name)) 13 (arm .keys5))
+    (c .property-if3 .ensures ∙ ap (λ (t : Bool). cond t Property.Unsupported Property.Unread) (c .before .same-name3 .ensures))
 
 returns-6 : tie.Need-returns-6
 returns-6 c = event-unread (now (c .before .before .args .name)) _ refl (c .match .rest .0 .0 .0 .0 .1) (c .match .rest .0 .0 .0 .1) (c .match .rest .0 .0 .1) (c .match .rest .0 .1) (c .match .rest .1)

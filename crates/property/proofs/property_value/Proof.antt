@@ -30,7 +30,11 @@ value-as-requires : tie.Need-value-as-requires
 value-as-requires c κs = (c .before .before .before .before .before .before .pre .0, (c .value-in .ensures, λ h. c .before .is-plain .ensures h .no-parameters))
 
 returns : tie.Need-returns
-returns c = unread-line _ _ (now (c .before .before .before .before .before .args .line)) (ap (propertyOf (c .before .before .before .before .before .args .scope)) (sym (name-take (now (c .before .before .before .before .before .args .line)) _ (c .before .before .before .before .before .pre .1))) ∙ sym (c .before .before .property-of .ensures) ∙ c .enum-told .given .1)
+returns c =
+    let args = c .before .before .before .before .before .args in
+    let pre = c .before .before .before .before .before .pre in
+    unread-line _ _ (now (args .line))
+    (ap (propertyOf (args .scope)) (sym (name-take (now (args .line)) _ (pre .1))) ∙ sym (c .before .before .property-of .ensures) ∙ c .enum-told .given .1)
 
 returns-2 : tie.Need-returns-2
 unfolding beforePeriods lineOf

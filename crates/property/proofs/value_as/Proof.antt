@@ -90,7 +90,9 @@ unfolding valueAs
 returns-7 c = simp (c .type-value .ensures, c .before .enum-told7 .given .1)
 
 returns-8 : tie.Need-returns-8
-returns-8 c = c .time-value .ensures ∙ ap (λ (p : Property). valueAs p (c .before .before .before .before .before .args .c) (c .before .before .before .before .before .args .scope) (lineOf (now (c .before .before .before .before .before .args .line)))) (ap (λ (b : Bool). cond b Property.Start Property.End) (c .before .is-start .ensures) ∙ start-or-end _ (c .before .before .match .keys8))
+returns-8 c =
+    let args = c .before .before .before .before .before .args in
+    c .time-value .ensures ∙ ap (λ (p : Property). valueAs p (args .c) (args .scope) (lineOf (now (args .line)))) (ap (λ (b : Bool). cond b Property.Start Property.End) (c .before .is-start .ensures) ∙ start-or-end _ (c .before .before .match .keys8))
 
 pub value-as-spec : {M : Type 1} → statement M
 value-as-spec =

@@ -37,7 +37,11 @@ add-row : tie.Need-add-row Inv-loop μ-loop
 add-row c = omega (arith, c .before .before .before .before .before .before .before .before .pre .1 .1 .1 .1 .0 .few)
 
 loop-holds : tie.Need-loop-holds Inv-loop μ-loop
-loop-holds c = reading-start _ _ (c .before .before .before .before .before .before .before .before .pre .1 .1 .1 .1 .0) _ _ (c .before .before .before .before .before .before .before .before .pre .0) (c .before .before .before .before .before .before .before .before .pre .1 .0) _ _ _ (c .before .no-properties .ensures) (c .first-line .ensures) (c .before .before .before .line-behind .ensures) (c .before .before .next-row .ensures)
+loop-holds c =
+    let pre = c .before .before .before .before .before .before .before .before .pre in
+    let line-behind = c .before .before .before .line-behind in
+    reading-start _ _ (pre .1 .1 .1 .1 .0) _ _ (pre .0) (pre .1 .0) _ _ _ (c .before .no-properties .ensures) (c .first-line .ensures) (line-behind .ensures)
+    (c .before .before .next-row .ensures)
 
 item-at-requires : tie.Need-item-at-requires Inv-loop μ-loop
 item-at-requires c κs = item-asked (c .loop .inv .items)
@@ -49,22 +53,43 @@ add-next : tie.Need-add-next Inv-loop μ-loop
 add-next c = omega (arith, item-asked (c .before .before .before .loop .inv .items) .1)
 
 line-at-requires : tie.Need-line-at-requires Inv-loop μ-loop
-line-at-requires c κs = line-entry (c .before .before .before .before .before .before .before .before .before .before .before .before .pre .1 .1 .1 .0) (property-at (c .before .before .before .loop .inv .items) (c .before .before .item-at .ensures) (c .enum-told .given .1))
+line-at-requires c κs =
+    let pre = c .before .before .before .before .before .before .before .before .before .before .before .before .pre in
+    let turn = c .before .before .before .loop in
+    line-entry (pre .1 .1 .1 .0) (property-at (turn .inv .items) (c .before .before .item-at .ensures) (c .enum-told .given .1))
 
 name-length-requires : tie.Need-name-length-requires Inv-loop μ-loop
-name-length-requires c κs = entry-here (line-entry (c .before .before .before .before .before .before .before .before .before .before .before .before .before .pre .1 .1 .1 .0) (property-at (c .before .before .before .before .loop .inv .items) (c .before .before .before .item-at .ensures) (c .before .enum-told .given .1)))
+name-length-requires c κs =
+    let pre = c .before .before .before .before .before .before .before .before .before .before .before .before .before .pre in
+    let turn = c .before .before .before .before .loop in
+    let item-at = c .before .before .before .item-at in
+    entry-here (line-entry (pre .1 .1 .1 .0) (property-at (turn .inv .items) (item-at .ensures) (c .before .enum-told .given .1)))
 
 property-value-requires : tie.Need-property-value-requires Inv-loop μ-loop
-property-value-requires c κs = (c .before .before .before .before .before .before .before .before .before .before .before .before .before .before .pre .1 .1 .0, entry-name (line-entry (c .before .before .before .before .before .before .before .before .before .before .before .before .before .before .pre .1 .1 .1 .0) (property-at (c .before .before .before .before .before .loop .inv .items) (c .before .before .before .before .item-at .ensures) (c .before .before .enum-told .given .1))) (c .name-length .ensures) (c .before .line-at .ensures))
+property-value-requires c κs =
+    let pre = c .before .before .before .before .before .before .before .before .before .before .before .before .before .before .pre in
+    let turn = c .before .before .before .before .before .loop in
+    let item-at = c .before .before .before .before .item-at in
+    (pre .1 .1 .0, entry-name (line-entry (pre .1 .1 .1 .0) (property-at (turn .inv .items) (item-at .ensures) (c .before .before .enum-told .given .1))) (c .name-length .ensures) (c .before .line-at .ensures))
 
 enum-told-2 : tie.Need-enum-told-2 Inv-loop μ-loop
 enum-told-2 c = search needs
 
 loop-less : tie.Need-loop-less Inv-loop μ-loop
-loop-less c = omega (arith, (property-at (c .before .before .before .before .before .before .before .before .loop .inv .items) (c .before .before .before .before .before .before .before .item-at .ensures) (c .before .before .before .before .before .enum-told .given .1)) .onward)
+loop-less c =
+    let turn = c .before .before .before .before .before .before .before .before .loop in
+    let item-at = c .before .before .before .before .before .before .before .item-at in
+    let enum-told = c .before .before .before .before .before .enum-told in
+    omega (arith, (property-at (turn .inv .items) (item-at .ensures) (enum-told .given .1)) .onward)
 
 loop-again : tie.Need-loop-again Inv-loop μ-loop
-loop-again c = reading-says (c .before .before .before .before .before .before .before .before .loop .inv) (property-at (c .before .before .before .before .before .before .before .before .loop .inv .items) (c .before .before .before .before .before .before .before .item-at .ensures) (c .before .before .before .before .before .enum-told .given .1)) (c .before .before .before .before .line-at .ensures) (c .before .before .property-value .ensures) says-nothing (c .enum-told2 .given .1) (nothing-said _)
+loop-again c =
+    let turn = c .before .before .before .before .before .before .before .before .loop in
+    let item-at = c .before .before .before .before .before .before .before .item-at in
+    let enum-told = c .before .before .before .before .before .enum-told in
+    let line-at = c .before .before .before .before .line-at in
+    reading-says (turn .inv) (property-at (turn .inv .items) (item-at .ensures) (enum-told .given .1)) (line-at .ensures) (c .before .before .property-value .ensures)
+    says-nothing (c .enum-told2 .given .1) (nothing-said _)
 
 enum-told-3 : tie.Need-enum-told-3 Inv-loop μ-loop
 enum-told-3 c = search needs
@@ -73,16 +98,31 @@ same-length : tie.Need-same-length Inv-loop μ-loop
 same-length c = c .before .before .before .before .before .before .before .before .loop .inv .still .long ∙ sym (c .before .before .before .before .before .before .before .before .before .before .before .before .before .before .before .before .before .pre .0)
 
 returns : tie.Need-returns Inv-loop μ-loop
-returns c = reading-unsupported (c .before .before .before .before .before .before .before .before .loop .inv) (property-at (c .before .before .before .before .before .before .before .before .loop .inv .items) (c .before .before .before .before .before .before .before .item-at .ensures) (c .before .before .before .before .before .enum-told .given .1)) (c .before .before .before .before .line-at .ensures) (c .before .before .property-value .ensures) _ (c .enum-told3 .given .1)
+returns c =
+    let turn = c .before .before .before .before .before .before .before .before .loop in
+    let item-at = c .before .before .before .before .before .before .before .item-at in
+    let enum-told = c .before .before .before .before .before .enum-told in
+    let line-at = c .before .before .before .before .line-at in
+    reading-unsupported (turn .inv) (property-at (turn .inv .items) (item-at .ensures) (enum-told .given .1)) (line-at .ensures)
+    (c .before .before .property-value .ensures) _ (c .enum-told3 .given .1)
 
 enum-told-4 : tie.Need-enum-told-4 Inv-loop μ-loop
 enum-told-4 c = search needs
 
 same-length-2 : tie.Need-same-length-2 Inv-loop μ-loop
-same-length-2 c = c .before .before .before .before .before .before .before .before .loop .inv .still .long ∙ sym (c .before .before .before .before .before .before .before .before .before .before .before .before .before .before .before .before .before .pre .0)
+same-length-2 c =
+    let turn = c .before .before .before .before .before .before .before .before .loop in
+    let pre = c .before .before .before .before .before .before .before .before .before .before .before .before .before .before .before .before .before .pre in
+    turn .inv .still .long ∙ sym (pre .0)
 
 returns-2 : tie.Need-returns-2 Inv-loop μ-loop
-returns-2 c = reading-bad (c .before .before .before .before .before .before .before .before .loop .inv) (property-at (c .before .before .before .before .before .before .before .before .loop .inv .items) (c .before .before .before .before .before .before .before .item-at .ensures) (c .before .before .before .before .before .enum-told .given .1)) (c .before .before .before .before .line-at .ensures) (c .before .before .property-value .ensures) _ (c .enum-told4 .given .1)
+returns-2 c =
+    let turn = c .before .before .before .before .before .before .before .before .loop in
+    let item-at = c .before .before .before .before .before .before .before .item-at in
+    let enum-told = c .before .before .before .before .before .enum-told in
+    let line-at = c .before .before .before .before .line-at in
+    reading-bad (turn .inv) (property-at (turn .inv .items) (item-at .ensures) (enum-told .given .1)) (line-at .ensures) (c .before .before .property-value .ensures) _
+    (c .enum-told4 .given .1)
 
 enum-known-t : tie.Need-enum-known-t Inv-loop μ-loop
 enum-known-t c = search needs
@@ -91,10 +131,21 @@ with-start-requires : tie.Need-with-start-requires Inv-loop μ-loop
 with-start-requires c κs = search needs
 
 loop-less-2 : tie.Need-loop-less-2 Inv-loop μ-loop
-loop-less-2 c = omega (arith, (property-at (c .before .before .before .before .before .before .before .before .before .before .loop .inv .items) (c .before .before .before .before .before .before .before .before .before .item-at .ensures) (c .before .before .before .before .before .before .before .enum-told .given .1)) .onward)
+loop-less-2 c =
+    let turn = c .before .before .before .before .before .before .before .before .before .before .loop in
+    let item-at = c .before .before .before .before .before .before .before .before .before .item-at in
+    let enum-told = c .before .before .before .before .before .before .before .enum-told in
+    omega (arith, (property-at (turn .inv .items) (item-at .ensures) (enum-told .given .1)) .onward)
 
 loop-again-2 : tie.Need-loop-again-2 Inv-loop μ-loop
-loop-again-2 c = reading-says (c .before .before .before .before .before .before .before .before .before .before .loop .inv) (property-at (c .before .before .before .before .before .before .before .before .before .before .loop .inv .items) (c .before .before .before .before .before .before .before .before .before .item-at .ensures) (c .before .before .before .before .before .before .before .enum-told .given .1)) (c .before .before .before .before .before .before .line-at .ensures) (c .before .before .before .before .property-value .ensures) (says-start _) (c .before .before .t .given .1) (c .with-start .ensures)
+loop-again-2 c =
+    let turn = c .before .before .before .before .before .before .before .before .before .before .loop in
+    let item-at = c .before .before .before .before .before .before .before .before .before .item-at in
+    let enum-told = c .before .before .before .before .before .before .before .enum-told in
+    let line-at = c .before .before .before .before .before .before .line-at in
+    let property-value = c .before .before .before .before .property-value in
+    reading-says (turn .inv) (property-at (turn .inv .items) (item-at .ensures) (enum-told .given .1)) (line-at .ensures) (property-value .ensures) (says-start _)
+    (c .before .before .t .given .1) (c .with-start .ensures)
 
 enum-known-t-2 : tie.Need-enum-known-t-2 Inv-loop μ-loop
 enum-known-t-2 c = search needs
@@ -103,10 +154,21 @@ with-end-requires : tie.Need-with-end-requires Inv-loop μ-loop
 with-end-requires c κs = search needs
 
 loop-less-3 : tie.Need-loop-less-3 Inv-loop μ-loop
-loop-less-3 c = omega (arith, (property-at (c .before .before .before .before .before .before .before .before .before .before .loop .inv .items) (c .before .before .before .before .before .before .before .before .before .item-at .ensures) (c .before .before .before .before .before .before .before .enum-told .given .1)) .onward)
+loop-less-3 c =
+    let turn = c .before .before .before .before .before .before .before .before .before .before .loop in
+    let item-at = c .before .before .before .before .before .before .before .before .before .item-at in
+    let enum-told = c .before .before .before .before .before .before .before .enum-told in
+    omega (arith, (property-at (turn .inv .items) (item-at .ensures) (enum-told .given .1)) .onward)
 
 loop-again-3 : tie.Need-loop-again-3 Inv-loop μ-loop
-loop-again-3 c = reading-says (c .before .before .before .before .before .before .before .before .before .before .loop .inv) (property-at (c .before .before .before .before .before .before .before .before .before .before .loop .inv .items) (c .before .before .before .before .before .before .before .before .before .item-at .ensures) (c .before .before .before .before .before .before .before .enum-told .given .1)) (c .before .before .before .before .before .before .line-at .ensures) (c .before .before .before .before .property-value .ensures) (says-end _) (c .before .before .t2 .given .1) (c .with-end .ensures)
+loop-again-3 c =
+    let turn = c .before .before .before .before .before .before .before .before .before .before .loop in
+    let item-at = c .before .before .before .before .before .before .before .before .before .item-at in
+    let enum-told = c .before .before .before .before .before .before .before .enum-told in
+    let line-at = c .before .before .before .before .before .before .line-at in
+    let property-value = c .before .before .before .before .property-value in
+    reading-says (turn .inv) (property-at (turn .inv .items) (item-at .ensures) (enum-told .given .1)) (line-at .ensures) (property-value .ensures) (says-end _)
+    (c .before .before .t2 .given .1) (c .with-end .ensures)
 
 enum-known-d : tie.Need-enum-known-d Inv-loop μ-loop
 enum-known-d c = search needs
@@ -115,10 +177,21 @@ with-lasts-requires : tie.Need-with-lasts-requires Inv-loop μ-loop
 with-lasts-requires c κs = search needs
 
 loop-less-4 : tie.Need-loop-less-4 Inv-loop μ-loop
-loop-less-4 c = omega (arith, (property-at (c .before .before .before .before .before .before .before .before .before .before .loop .inv .items) (c .before .before .before .before .before .before .before .before .before .item-at .ensures) (c .before .before .before .before .before .before .before .enum-told .given .1)) .onward)
+loop-less-4 c =
+    let turn = c .before .before .before .before .before .before .before .before .before .before .loop in
+    let item-at = c .before .before .before .before .before .before .before .before .before .item-at in
+    let enum-told = c .before .before .before .before .before .before .before .enum-told in
+    omega (arith, (property-at (turn .inv .items) (item-at .ensures) (enum-told .given .1)) .onward)
 
 loop-again-4 : tie.Need-loop-again-4 Inv-loop μ-loop
-loop-again-4 c = reading-says (c .before .before .before .before .before .before .before .before .before .before .loop .inv) (property-at (c .before .before .before .before .before .before .before .before .before .before .loop .inv .items) (c .before .before .before .before .before .before .before .before .before .item-at .ensures) (c .before .before .before .before .before .before .before .enum-told .given .1)) (c .before .before .before .before .before .before .line-at .ensures) (c .before .before .before .before .property-value .ensures) (says-lasts _) (c .before .before .d .given .1) (c .with-lasts .ensures)
+loop-again-4 c =
+    let turn = c .before .before .before .before .before .before .before .before .before .before .loop in
+    let item-at = c .before .before .before .before .before .before .before .before .before .item-at in
+    let enum-told = c .before .before .before .before .before .before .before .enum-told in
+    let line-at = c .before .before .before .before .before .before .line-at in
+    let property-value = c .before .before .before .before .property-value in
+    reading-says (turn .inv) (property-at (turn .inv .items) (item-at .ensures) (enum-told .given .1)) (line-at .ensures) (property-value .ensures) (says-lasts _)
+    (c .before .before .d .given .1) (c .with-lasts .ensures)
 
 enum-known-r : tie.Need-enum-known-r Inv-loop μ-loop
 enum-known-r c = search needs
@@ -127,10 +200,21 @@ with-repeats-requires : tie.Need-with-repeats-requires Inv-loop μ-loop
 with-repeats-requires c κs = search needs
 
 loop-less-5 : tie.Need-loop-less-5 Inv-loop μ-loop
-loop-less-5 c = omega (arith, (property-at (c .before .before .before .before .before .before .before .before .before .before .loop .inv .items) (c .before .before .before .before .before .before .before .before .before .item-at .ensures) (c .before .before .before .before .before .before .before .enum-told .given .1)) .onward)
+loop-less-5 c =
+    let turn = c .before .before .before .before .before .before .before .before .before .before .loop in
+    let item-at = c .before .before .before .before .before .before .before .before .before .item-at in
+    let enum-told = c .before .before .before .before .before .before .before .enum-told in
+    omega (arith, (property-at (turn .inv .items) (item-at .ensures) (enum-told .given .1)) .onward)
 
 loop-again-5 : tie.Need-loop-again-5 Inv-loop μ-loop
-loop-again-5 c = reading-says (c .before .before .before .before .before .before .before .before .before .before .loop .inv) (property-at (c .before .before .before .before .before .before .before .before .before .before .loop .inv .items) (c .before .before .before .before .before .before .before .before .before .item-at .ensures) (c .before .before .before .before .before .before .before .enum-told .given .1)) (c .before .before .before .before .before .before .line-at .ensures) (c .before .before .before .before .property-value .ensures) (says-repeats _) (c .before .before .r .given .1) (c .with-repeats .ensures)
+loop-again-5 c =
+    let turn = c .before .before .before .before .before .before .before .before .before .before .loop in
+    let item-at = c .before .before .before .before .before .before .before .before .before .item-at in
+    let enum-told = c .before .before .before .before .before .before .before .enum-told in
+    let line-at = c .before .before .before .before .before .before .line-at in
+    let property-value = c .before .before .before .before .property-value in
+    reading-says (turn .inv) (property-at (turn .inv .items) (item-at .ensures) (enum-told .given .1)) (line-at .ensures) (property-value .ensures) (says-repeats _)
+    (c .before .before .r .given .1) (c .with-repeats .ensures)
 
 enum-known-x : tie.Need-enum-known-x Inv-loop μ-loop
 enum-known-x c = search needs
@@ -139,10 +223,21 @@ with-status-requires : tie.Need-with-status-requires Inv-loop μ-loop
 with-status-requires c κs = search needs
 
 loop-less-6 : tie.Need-loop-less-6 Inv-loop μ-loop
-loop-less-6 c = omega (arith, (property-at (c .before .before .before .before .before .before .before .before .before .before .loop .inv .items) (c .before .before .before .before .before .before .before .before .before .item-at .ensures) (c .before .before .before .before .before .before .before .enum-told .given .1)) .onward)
+loop-less-6 c =
+    let turn = c .before .before .before .before .before .before .before .before .before .before .loop in
+    let item-at = c .before .before .before .before .before .before .before .before .before .item-at in
+    let enum-told = c .before .before .before .before .before .before .before .enum-told in
+    omega (arith, (property-at (turn .inv .items) (item-at .ensures) (enum-told .given .1)) .onward)
 
 loop-again-6 : tie.Need-loop-again-6 Inv-loop μ-loop
-loop-again-6 c = reading-says (c .before .before .before .before .before .before .before .before .before .before .loop .inv) (property-at (c .before .before .before .before .before .before .before .before .before .before .loop .inv .items) (c .before .before .before .before .before .before .before .before .before .item-at .ensures) (c .before .before .before .before .before .before .before .enum-told .given .1)) (c .before .before .before .before .before .before .line-at .ensures) (c .before .before .before .before .property-value .ensures) (says-status _) (c .before .before .x .given .1) (c .with-status .ensures)
+loop-again-6 c =
+    let turn = c .before .before .before .before .before .before .before .before .before .before .loop in
+    let item-at = c .before .before .before .before .before .before .before .before .before .item-at in
+    let enum-told = c .before .before .before .before .before .before .before .enum-told in
+    let line-at = c .before .before .before .before .before .before .line-at in
+    let property-value = c .before .before .before .before .property-value in
+    reading-says (turn .inv) (property-at (turn .inv .items) (item-at .ensures) (enum-told .given .1)) (line-at .ensures) (property-value .ensures) (says-status _)
+    (c .before .before .x .given .1) (c .with-status .ensures)
 
 enum-known-x-2 : tie.Need-enum-known-x-2 Inv-loop μ-loop
 enum-known-x-2 c = search needs
@@ -151,10 +246,21 @@ with-transparency-requires : tie.Need-with-transparency-requires Inv-loop μ-loo
 with-transparency-requires c κs = search needs
 
 loop-less-7 : tie.Need-loop-less-7 Inv-loop μ-loop
-loop-less-7 c = omega (arith, (property-at (c .before .before .before .before .before .before .before .before .before .before .loop .inv .items) (c .before .before .before .before .before .before .before .before .before .item-at .ensures) (c .before .before .before .before .before .before .before .enum-told .given .1)) .onward)
+loop-less-7 c =
+    let turn = c .before .before .before .before .before .before .before .before .before .before .loop in
+    let item-at = c .before .before .before .before .before .before .before .before .before .item-at in
+    let enum-told = c .before .before .before .before .before .before .before .enum-told in
+    omega (arith, (property-at (turn .inv .items) (item-at .ensures) (enum-told .given .1)) .onward)
 
 loop-again-7 : tie.Need-loop-again-7 Inv-loop μ-loop
-loop-again-7 c = reading-says (c .before .before .before .before .before .before .before .before .before .before .loop .inv) (property-at (c .before .before .before .before .before .before .before .before .before .before .loop .inv .items) (c .before .before .before .before .before .before .before .before .before .item-at .ensures) (c .before .before .before .before .before .before .before .enum-told .given .1)) (c .before .before .before .before .before .before .line-at .ensures) (c .before .before .before .before .property-value .ensures) (says-transparent _) (c .before .before .x2 .given .1) (c .with-transparency .ensures)
+loop-again-7 c =
+    let turn = c .before .before .before .before .before .before .before .before .before .before .loop in
+    let item-at = c .before .before .before .before .before .before .before .before .before .item-at in
+    let enum-told = c .before .before .before .before .before .before .before .enum-told in
+    let line-at = c .before .before .before .before .before .before .line-at in
+    let property-value = c .before .before .before .before .property-value in
+    reading-says (turn .inv) (property-at (turn .inv .items) (item-at .ensures) (enum-told .given .1)) (line-at .ensures) (property-value .ensures) (says-transparent _)
+    (c .before .before .x2 .given .1) (c .with-transparency .ensures)
 
 enum-known-busy : tie.Need-enum-known-busy Inv-loop μ-loop
 enum-known-busy c = search needs
@@ -163,25 +269,55 @@ value-requires : tie.Need-value-requires Inv-loop μ-loop
 value-requires c κs = search needs
 
 store-value-requires : tie.Need-store-value-requires Inv-loop μ-loop
-store-value-requires c κs = (c .before .before .before .before .before .before .before .before .before .before .before .loop .inv .still .long, (c .before .before .before .before .before .before .before .before .before .before .before .loop .inv .still .few, c .before .before .before .before .before .before .before .before .before .before .before .before .before .before .before .before .before .before .before .before .pre .1 .1 .1 .1 .1))
+store-value-requires c κs =
+    let turn = c .before .before .before .before .before .before .before .before .before .before .before .loop in
+    let pre = c .before .before .before .before .before .before .before .before .before .before .before .before .before .before .before .before .before .before .before .before .pre in
+    (turn .inv .still .long, (turn .inv .still .few, pre .1 .1 .1 .1 .1))
 
 enum-known-m : tie.Need-enum-known-m Inv-loop μ-loop
 enum-known-m c = search needs
 
 loop-less-8 : tie.Need-loop-less-8 Inv-loop μ-loop
-loop-less-8 c = omega (arith, (property-at (c .before .before .before .before .before .before .before .before .before .before .before .before .before .before .before .before .before .loop .inv .items) (c .before .before .before .before .before .before .before .before .before .before .before .before .before .before .before .before .item-at .ensures) (c .before .before .before .before .before .before .before .before .before .before .before .before .before .before .enum-told .given .1)) .onward)
+loop-less-8 c =
+    let turn = c .before .before .before .before .before .before .before .before .before .before .before .before .before .before .before .before .before .loop in
+    let item-at = c .before .before .before .before .before .before .before .before .before .before .before .before .before .before .before .before .item-at in
+    let enum-told = c .before .before .before .before .before .before .before .before .before .before .before .before .before .before .enum-told in
+    omega (arith, (property-at (turn .inv .items) (item-at .ensures) (enum-told .given .1)) .onward)
 
 loop-again-8 : tie.Need-loop-again-8 Inv-loop μ-loop
-loop-again-8 c = reading-periods (c .before .before .before .before .before .before .before .before .before .before .before .before .before .before .before .before .before .loop .inv) (property-at (c .before .before .before .before .before .before .before .before .before .before .before .before .before .before .before .before .before .loop .inv .items) (c .before .before .before .before .before .before .before .before .before .before .before .before .before .before .before .before .item-at .ensures) (c .before .before .before .before .before .before .before .before .before .before .before .before .before .before .enum-told .given .1)) (c .before .before .before .before .before .before .before .before .before .before .before .before .before .line-at .ensures) (c .before .before .before .before .before .before .before .before .before .before .before .property-value .ensures) (c .before .before .before .before .before .before .before .before .before .busy .given .1) (c .before .before .before .before .before .before .value .ensures) (c .before .before .before .before .before .store-value .ensures) _ (c .before .m .given .1)
+loop-again-8 c =
+    let turn = c .before .before .before .before .before .before .before .before .before .before .before .before .before .before .before .before .before .loop in
+    let item-at = c .before .before .before .before .before .before .before .before .before .before .before .before .before .before .before .before .item-at in
+    let enum-told = c .before .before .before .before .before .before .before .before .before .before .before .before .before .before .enum-told in
+    let line-at = c .before .before .before .before .before .before .before .before .before .before .before .before .before .line-at in
+    let property-value = c .before .before .before .before .before .before .before .before .before .before .before .property-value in
+    let busy = c .before .before .before .before .before .before .before .before .before .busy in
+    let value = c .before .before .before .before .before .before .value in
+    let store-value = c .before .before .before .before .before .store-value in
+    reading-periods (turn .inv) (property-at (turn .inv .items) (item-at .ensures) (enum-told .given .1)) (line-at .ensures) (property-value .ensures) (busy .given .1)
+    (value .ensures) (store-value .ensures) _ (c .before .m .given .1)
 
 enum-told-5 : tie.Need-enum-told-5 Inv-loop μ-loop
 enum-told-5 c = search needs
 
 same-length-3 : tie.Need-same-length-3 Inv-loop μ-loop
-same-length-3 c = omega (arith, c .before .before .before .before .before .before .before .before .before .before .before .before .before .before .before .before .loop .inv .still .long, c .before .before .before .before .before .before .before .before .before .before .before .before .before .before .before .before .before .before .before .before .before .before .before .before .before .pre .0)
+same-length-3 c =
+    let turn = c .before .before .before .before .before .before .before .before .before .before .before .before .before .before .before .before .loop in
+    let pre = c .before .before .before .before .before .before .before .before .before .before .before .before .before .before .before .before .before .before .before .before .before .before .before .before .before .pre in
+    omega (arith, turn .inv .still .long, pre .0)
 
 returns-3 : tie.Need-returns-3 Inv-loop μ-loop
-returns-3 c = reading-bad-period (c .before .before .before .before .before .before .before .before .before .before .before .before .before .before .before .before .loop .inv) (property-at (c .before .before .before .before .before .before .before .before .before .before .before .before .before .before .before .before .loop .inv .items) (c .before .before .before .before .before .before .before .before .before .before .before .before .before .before .before .item-at .ensures) (c .before .before .before .before .before .before .before .before .before .before .before .before .before .enum-told .given .1)) (c .before .before .before .before .before .before .before .before .before .before .before .before .line-at .ensures) (c .before .before .before .before .before .before .before .before .before .before .property-value .ensures) (c .before .before .before .before .before .before .before .before .busy .given .1) (c .before .before .before .before .before .value .ensures) (c .before .before .before .before .store-value .ensures) (c .enum-told5 .given .1)
+returns-3 c =
+    let turn = c .before .before .before .before .before .before .before .before .before .before .before .before .before .before .before .before .loop in
+    let item-at = c .before .before .before .before .before .before .before .before .before .before .before .before .before .before .before .item-at in
+    let enum-told = c .before .before .before .before .before .before .before .before .before .before .before .before .before .enum-told in
+    let line-at = c .before .before .before .before .before .before .before .before .before .before .before .before .line-at in
+    let property-value = c .before .before .before .before .before .before .before .before .before .before .property-value in
+    let busy = c .before .before .before .before .before .before .before .before .busy in
+    let value = c .before .before .before .before .before .value in
+    let store-value = c .before .before .before .before .store-value in
+    reading-bad-period (turn .inv) (property-at (turn .inv .items) (item-at .ensures) (enum-told .given .1)) (line-at .ensures) (property-value .ensures) (busy .given .1)
+    (value .ensures) (store-value .ensures) (c .enum-told5 .given .1)
 
 enum-known-next : tie.Need-enum-known-next Inv-loop μ-loop
 enum-known-next c = search needs

@@ -37,22 +37,40 @@ enum-known-p : tie.Need-enum-known-p Inv-loop μ-loop
 enum-known-p c = search needs
 
 store-period-requires : tie.Need-store-period-requires Inv-loop μ-loop
-store-period-requires c κs = (c .before .before .before .before .before .before .before .loop .inv .still .long, (c .before .before .before .before .before .before .before .loop .inv .still .few, c .before .before .before .before .before .before .before .before .before .before .pre .1 .1))
+store-period-requires c κs =
+    let turn = c .before .before .before .before .before .before .before .loop in
+    let pre = c .before .before .before .before .before .before .before .before .before .before .pre in
+    (turn .inv .still .long, (turn .inv .still .few, pre .1 .1))
 
 same-length : tie.Need-same-length Inv-loop μ-loop
 same-length c = search needs
 
 returns : tie.Need-returns Inv-loop μ-loop
-returns c = value-ends (c .before .before .before .before .before .before .before .before .before .before .before .loop .inv) (c .before .before .before .before .before .before .before .before .before .before .find .ensures) (c .before .before .before .before .before .before .before .before .read-period .ensures) (c .before .before .before .before .before .before .p .given .1) (c .before .before .before .store-period .ensures) (c .if1 .taken)
+returns c =
+    let turn = c .before .before .before .before .before .before .before .before .before .before .before .loop in
+    let find = c .before .before .before .before .before .before .before .before .before .before .find in
+    let read-period = c .before .before .before .before .before .before .before .before .read-period in
+    let p = c .before .before .before .before .before .before .p in
+    let store-period = c .before .before .before .store-period in
+    value-ends (turn .inv) (find .ensures) (read-period .ensures) (p .given .1) (store-period .ensures) (c .if1 .taken)
 
 add-from : tie.Need-add-from Inv-loop μ-loop
 add-from c = omega arith
 
 loop-less : tie.Need-loop-less Inv-loop μ-loop
-loop-less c = omega (arith, item-rises _ _ _ _ (c .before .before .before .before .before .before .before .before .before .before .find .ensures), item-inside _ _ _ _ (c .before .before .before .before .before .before .before .before .before .before .before .loop .inv .passed .inside-list) (c .before .before .before .before .before .before .before .before .before .before .find .ensures))
+loop-less c =
+    let find = c .before .before .before .before .before .before .before .before .before .before .find in
+    let turn = c .before .before .before .before .before .before .before .before .before .before .before .loop in
+    omega (arith, item-rises _ _ _ _ (find .ensures), item-inside _ _ _ _ (turn .inv .passed .inside-list) (find .ensures))
 
 loop-again : tie.Need-loop-again Inv-loop μ-loop
-loop-again c = value-next (c .before .before .before .before .before .before .before .before .before .before .before .loop .inv) (c .before .before .before .before .before .before .before .before .before .before .find .ensures) (c .before .before .before .before .before .before .before .before .read-period .ensures) (c .before .before .before .before .before .before .p .given .1) (c .before .before .before .store-period .ensures) (c .if1 .left)
+loop-again c =
+    let turn = c .before .before .before .before .before .before .before .before .before .before .before .loop in
+    let find = c .before .before .before .before .before .before .before .before .before .before .find in
+    let read-period = c .before .before .before .before .before .before .before .before .read-period in
+    let p = c .before .before .before .before .before .before .p in
+    let store-period = c .before .before .before .store-period in
+    value-next (turn .inv) (find .ensures) (read-period .ensures) (p .given .1) (store-period .ensures) (c .if1 .left)
 
 enum-told : tie.Need-enum-told Inv-loop μ-loop
 enum-told c = search needs
