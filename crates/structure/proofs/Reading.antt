@@ -155,6 +155,16 @@ pub record Reading (s index name old rows : List ℕ) (n first begun left i k : 
   pub decided : (o : List (List ℕ)) → length o + left ≡ 8
       → nestingFrom (first + 1) (inside (name ∷ o) begun) (linesAfter s first) ≡ nestingFrom (i + 1) (inside (name ∷ o) k) (linesAfter s i)
 
+-- at the line that the walk has come to a component begins, and v is its value
+pub record Opened {s index name old rows : List ℕ} {n first begun left i k : ℕ} (r : Reading s index name old rows n first begun left i k) (v : List ℕ) : Type 0 where
+  pub here : i < n
+  pub begins : LineIs s i Begins
+  pub room : Room left (k + 1)
+  pub value : v ≡ valueOf (lineBytes s i)
+  pub decided : (o : List (List ℕ)) → length o + left ≡ 8
+      → nestingFrom (first + 1) (inside (name ∷ o) begun) (linesAfter s first)
+      ≡ nestingFrom (i + 1 + 1) (inside (v ∷ name ∷ o) (k + 1)) (linesAfter s (i + 1))
+
 pub reading-start : {s index rows : List ℕ} {n first begun : ℕ} (name : List ℕ) (left : ℕ) → Ready s index rows n first begun
     → Reading s index name rows rows n first begun left first begun
 reading-start name left r = record { ready = r; going = going-start r; decided = λ o e. refl }
@@ -225,61 +235,56 @@ module _ {s index name old rows : List ℕ} {n first begun left i k : ℕ} (r : 
     reading-breaks new t =
         record { decided = λ o w. step-case NestingStep.Breaks t o w ∙ from-broken (i + 1 + 1) (i + 1) (linesAfter s (i + 1)) }
 
-    module _ (t : m ≡ NestingStep.Opens) where
-      pub reading-room : Room left (k + 1)
-      unfolding lineOf
-      reading-room = opens-room (delimiterOf (lineOf l)) (lineOf l) name left (k + 1) (sym q ∙ t)
+    pub reading-opens : m ≡ NestingStep.Opens → {v : List ℕ} → v ≡ valueOf l → Opened r v
+    unfolding lineOf stepDelimiter
+    reading-opens t {v} g =
+        record {
+          here = h;
+          begins = line-found NestingStep.Opens t refl;
+          room = opens-room (delimiterOf (lineOf l)) (lineOf l) name left (k + 1) (sym q ∙ t);
+          value = g ∙ ap valueOf p;
+          decided = λ o w.
+              step-case NestingStep.Opens t o w
+              ∙ ap (λ (y : List ℕ). nestingFrom (i + 1 + 1) (inside (y ∷ name ∷ o) (k + 1)) (linesAfter s (i + 1))) (sym g);
+        }
 
-      pub reading-ready : length rows ≡ length old → Ready s index rows n (i + 1) (k + 1)
-      reading-ready z =
-          record {
-            lines = r .ready .lines;
-            many = r .ready .many;
-            inside = omega arith;
-            few = reading-room .few;
-            room = omega (arith, r .ready .room);
-          }
+module _ {s index name old rows v : List ℕ} {n first begun left i k : ℕ} {r : Reading s index name old rows n first begun left i k} (x : Opened r v) where
+  pub opened-ready : Ready s index rows n (i + 1) (k + 1)
+  opened-ready =
+      record {
+        lines = r .ready .lines;
+        many = r .ready .many;
+        inside = omega (arith, x .here);
+        few = x .room .few;
+        room = omega (arith, r .ready .room, r .going .long);
+      }
 
-      begins-here : LineIs s i Begins
-      unfolding stepDelimiter
-      begins-here = line-found NestingStep.Opens t refl
+  deeper : (o : List (List ℕ)) → length o + left ≡ 8 → length (name ∷ o) + (left - 1) ≡ 8
+  deeper o w = omega (arith, x .room .some)
 
-      module _ {v : List ℕ} (g : v ≡ valueOf l) where
-        inner-next : (o : List (List ℕ)) → length o + left ≡ 8
-            → nestingFrom (first + 1) (inside (name ∷ o) begun) (linesAfter s first)
-            ≡ nestingFrom (i + 1 + 1) (inside (v ∷ name ∷ o) (k + 1)) (linesAfter s (i + 1))
-        inner-next o w =
-            step-case NestingStep.Opens t o w
-            ∙ ap (λ (y : List ℕ). nestingFrom (i + 1 + 1) (inside (y ∷ name ∷ o) (k + 1)) (linesAfter s (i + 1))) (sym g)
+  pub opened-closes : {new out : List ℕ} {kind : ℕ} {u : Closed} → ClosesTo s v rows new n (i + 1) (k + 1) (left - 1) u → (j y : ℕ) → u ≡ At j y
+      → length new ≡ length rows → length out ≡ length new → kind ≡ kindOf v → RowPut new (4 * k) ((i + 1) ∷ j ∷ y ∷ kind ∷ []) out
+      → Reading s index name old out n first begun left j y
+  opened-closes c j y f a b e d =
+      let z = closes-at j y c f in
+      record {
+        ready = r .ready;
+        going = going-put (r .going) (x .begins) (z .walks) a b (e ∙ ap kindOf (x .value)) d;
+        decided = λ o w. x .decided o w ∙ z .decided (name ∷ o) (deeper o w);
+      }
 
-        deeper : (o : List (List ℕ)) → length o + left ≡ 8 → length (name ∷ o) + (left - 1) ≡ 8
-        deeper o w = omega (arith, reading-room .some)
+  pub opened-breaks : (new out : List ℕ) {u : Closed} → ClosesTo s v rows new n (i + 1) (k + 1) (left - 1) u → (b : ℕ) → u ≡ Broken b
+      → ClosesTo s name old out n first begun left (Broken b)
+  unfolding ClosesTo
+  opened-breaks new out c b f =
+      let z = breaks-at rows new n b c f in record { decided = λ o w. x .decided o w ∙ z .decided (name ∷ o) (deeper o w) }
 
-        value-here : v ≡ valueOf (lineBytes s i)
-        value-here = g ∙ ap valueOf p
-
-        pub reading-inner : {new out : List ℕ} {kind : ℕ} {u : Closed} → ClosesTo s v rows new n (i + 1) (k + 1) (left - 1) u → (j y : ℕ) → u ≡ At j y
-            → length new ≡ length rows → length out ≡ length new → kind ≡ kindOf v → RowPut new (4 * k) ((i + 1) ∷ j ∷ y ∷ kind ∷ []) out
-            → Reading s index name old out n first begun left j y
-        reading-inner c j y f a b e d =
-            let z = closes-at j y c f in
-            record {
-              ready = r .ready;
-              going = going-put (r .going) begins-here (z .walks) a b (e ∙ ap kindOf value-here) d;
-              decided = λ o w. inner-next o w ∙ z .decided (name ∷ o) (deeper o w);
-            }
-
-        pub reading-inner-breaks : (new out : List ℕ) {u : Closed} → ClosesTo s v rows new n (i + 1) (k + 1) (left - 1) u → (b : ℕ) → u ≡ Broken b
-            → ClosesTo s name old out n first begun left (Broken b)
-        unfolding ClosesTo
-        reading-inner-breaks new out c b f =
-            let z = breaks-at rows new n b c f in record { decided = λ o w. inner-next o w ∙ z .decided (name ∷ o) (deeper o w) }
-
-        pub reading-row : (new : List ℕ) {u : Closed} → ClosesTo s v rows new n (i + 1) (k + 1) (left - 1) u → (j y : ℕ) → u ≡ At j y
-            → length new ≡ length rows → (4 * k + 4 ≤ length new) × (i < j) × (j ≤ n) × (y ≤ 256)
-        reading-row new c j y f a =
-            let w = closes-at j y c f .walks in
-            (inner-room (r .going) begins-here w a (r .ready .room), inner-onward (r .going) begins-here w, w .inside, w .few)
+  -- what is known of the row before it is written
+  pub opened-row : (new : List ℕ) {u : Closed} → ClosesTo s v rows new n (i + 1) (k + 1) (left - 1) u → (j y : ℕ) → u ≡ At j y
+      → length new ≡ length rows → (4 * k + 4 ≤ length new) × (i < j) × (j ≤ n) × (y ≤ 256)
+  opened-row new c j y f a =
+      let w = closes-at j y c f .walks in
+      (inner-room (r .going) (x .begins) w a (r .ready .room), inner-onward (r .going) (x .begins) w, w .inside, w .few)
 
 -- ---- the whole file
 
@@ -358,6 +363,13 @@ unfolding FilledBy
 file-bad-line {s} index new rows b h q =
     record { structure-is = line-by (lineCheck s) (nestingIn s) b (subst (FilledBy s index) q h); known = not-good (Structure.BadLine b) refl }
 
+-- the first of the lines begins VCALENDAR, and v is its value
+pub record Begun {s index : List ℕ} {n : ℕ} (a : Lines s index n) (v : List ℕ) : Type 0 where
+  pub small : length s ≤ 65536
+  pub begins : LineIs s 0 Begins
+  pub value : v ≡ valueOf (lineBytes s 0)
+  pub decided : nestingIn s ≡ nestingFrom 2 (inside (v ∷ []) 1) (linesAfter s 1)
+
 module _ {s index : List ℕ} {n : ℕ} (a : Lines s index n) (small : length s ≤ 65536) (h : n ≡ 0 → ⊥) where
   pub file-entry : Entry s index 0
   file-entry = a .indexed .entries 0 (omega (arith, a .count))
@@ -385,75 +397,74 @@ module _ {s index : List ℕ} {n : ℕ} (a : Lines s index n) (small : length s 
         ∙ ap (λ (u : Bool). nestingFrom 2 (cond u (inside (valueOf l ∷ []) 1) (broken 1)) (linesAfter s 1)) e
         ∙ from-broken 2 1 (linesAfter s 1))
 
-    module _ (e : t ≡ true) {v : List ℕ} (g : v ≡ valueOf l) where
-      opened : nestingIn s ≡ nestingFrom 2 (inside (v ∷ []) 1) (linesAfter s 1)
-      opened =
-          first-line
-          ∙ ap (λ (u : Bool). nestingFrom 2 (cond u (inside (valueOf l ∷ []) 1) (broken 1)) (linesAfter s 1)) e
-          ∙ ap (λ (u : List ℕ). nestingFrom 2 (inside (u ∷ []) 1) (linesAfter s 1)) (sym g)
+    pub file-begun : t ≡ true → {v : List ℕ} → v ≡ valueOf l → Begun a v
+    unfolding beginsCalendar
+    file-begun e {v} g =
+        record {
+          small = small;
+          begins =
+              record {
+                inside = omega (arith, a .count);
+                delimiter =
+                    ap (λ (z : List ℕ). delimiterOf (lineOf z)) (sym p) ∙ begins-delimiter (delimiterOf (lineOf l)) (lineOf l .value) (sym q ∙ e);
+              };
+          value = g ∙ ap valueOf p;
+          decided =
+              first-line
+              ∙ ap (λ (u : Bool). nestingFrom 2 (cond u (inside (valueOf l ∷ []) 1) (broken 1)) (linesAfter s 1)) e
+              ∙ ap (λ (u : List ℕ). nestingFrom 2 (inside (u ∷ []) 1) (linesAfter s 1)) (sym g);
+        }
 
-      module _ (rows new : List ℕ) {u : Closed} (c : ClosesTo s v rows new n 1 1 8 u) where
-        pub file-inner : (out : List ℕ) (b : ℕ) → u ≡ Broken b → StructureRead s index out (Structure.BadNesting b)
-        file-inner out b f = file-breaks out b a (opened ∙ breaks-at rows new n b c f .decided [] refl)
+module _ {s index v : List ℕ} {n : ℕ} {a : Lines s index n} (x : Begun a v) (rows new : List ℕ) {u : Closed} (c : ClosesTo s v rows new n 1 1 8 u) where
+  pub file-inner : (out : List ℕ) (b : ℕ) → u ≡ Broken b → StructureRead s index out (Structure.BadNesting b)
+  file-inner out b f = file-breaks out b a (x .decided ∙ breaks-at rows new n b c f .decided [] refl)
 
-        pub file-more : (out : List ℕ) (j m : ℕ) → u ≡ At j m → j < n → StructureRead s index out (Structure.BadNesting (j + 1))
-        file-more out j m f k =
-            file-breaks out (j + 1) a (opened ∙ closes-at j m c f .decided [] refl ∙ closed-more s j (omega (arith, a .count)))
+  pub file-more : (out : List ℕ) (j m : ℕ) → u ≡ At j m → j < n → StructureRead s index out (Structure.BadNesting (j + 1))
+  file-more out j m f k =
+      file-breaks out (j + 1) a (x .decided ∙ closes-at j m c f .decided [] refl ∙ closed-more s j (omega (arith, a .count)))
 
-        pub file-last : (j m : ℕ) → u ≡ At j m → (j ≤ n) × (m ≤ 256)
-        file-last j m f = let w = closes-at j m c f .walks in (w .inside, w .few)
+  pub file-last : (j m : ℕ) → u ≡ At j m → (j ≤ n) × (m ≤ 256)
+  file-last j m f = let w = closes-at j m c f .walks in (w .inside, w .few)
 
-        file-items : (out : List ℕ) (j m kind : ℕ) → (f : u ≡ At j m) → n ≤ j → kind ≡ kindOf v → RowPut new 0 (1 ∷ j ∷ m ∷ kind ∷ []) out
-            → ItemRows s out 0 0 n m
-        unfolding beginsCalendar
-        file-items out j m kind f k d o =
-            let w = closes-at j m c f .walks in
-            let y : w .stop + 1 ≡ n = omega (arith, w .behind, w .inside) in
-            with-component
-            first-begins
-            (record {
-              begin = o .here 0 (omega arith);
-              end = o .here 1 (omega arith) ∙ w .behind;
-              next = o .here 2 (omega arith);
-              kind = o .here 3 (omega arith) ∙ d ∙ ap kindOf value-first;
-            })
-            (rows-kept out (w .items) (λ b r i. o .behind b (omega arith)))
-            (w .closes)
-            (subst (λ (b : ℕ). ItemRows s out (w .stop + 1) m b m) y nothing)
-          where
-            first-begins : LineIs s 0 Begins
-            first-begins =
-                record {
-                  inside = omega (arith, a .count);
-                  delimiter =
-                      ap (λ (z : List ℕ). delimiterOf (lineOf z)) (sym p) ∙ begins-delimiter (delimiterOf (lineOf l)) (lineOf l .value) (sym q ∙ e);
-                }
+  file-items : (out : List ℕ) (j m kind : ℕ) → (f : u ≡ At j m) → n ≤ j → kind ≡ kindOf v → RowPut new 0 (1 ∷ j ∷ m ∷ kind ∷ []) out
+      → ItemRows s out 0 0 n m
+  file-items out j m kind f k d o =
+      let w = closes-at j m c f .walks in
+      let y : w .stop + 1 ≡ n = omega (arith, w .behind, w .inside) in
+      with-component
+      (x .begins)
+      (record {
+        begin = o .here 0 (omega arith);
+        end = o .here 1 (omega arith) ∙ w .behind;
+        next = o .here 2 (omega arith);
+        kind = o .here 3 (omega arith) ∙ d ∙ ap kindOf (x .value);
+      })
+      (rows-kept out (w .items) (λ b r i. o .behind b (omega arith)))
+      (w .closes)
+      (subst (λ (b : ℕ). ItemRows s out (w .stop + 1) m b m) y nothing)
 
-            value-first : v ≡ valueOf (lineBytes s 0)
-            value-first = g ∙ ap valueOf p
-
-        pub file-good : (out : List ℕ) (j m kind : ℕ) → u ≡ At j m → n ≤ j → kind ≡ kindOf v → RowPut new 0 (1 ∷ j ∷ m ∷ kind ∷ []) out
-            → length out ≡ 1024 → StructureRead s index out Structure.Good
-        file-good out j m kind f k d o size =
-            let z = closes-at j m c f in
-            let x : getD out 2 0 ≡ m = o .here 2 (omega arith) in
+  pub file-good : (out : List ℕ) (j m kind : ℕ) → u ≡ At j m → n ≤ j → kind ≡ kindOf v → RowPut new 0 (1 ∷ j ∷ m ∷ kind ∷ []) out
+      → length out ≡ 1024 → StructureRead s index out Structure.Good
+  file-good out j m kind f k d o size =
+      let z = closes-at j m c f in
+      let y : getD out 2 0 ≡ m = o .here 2 (omega arith) in
+      record {
+        structure-is =
+            good-by (lineCheck s) (nestingIn s) (a .indexed .good) (x .decided ∙ z .decided [] refl ∙ closed-end s j (omega (arith, a .count)));
+        known = λ r.
             record {
-              structure-is =
-                  good-by (lineCheck s) (nestingIn s) (a .indexed .good) (opened ∙ z .decided [] refl ∙ closed-end s j (omega (arith, a .count)));
-              known = λ r.
-                  record {
-                    indexed = a .indexed;
-                    lines = n;
-                    top = rw x
-                        (record {
-                          items = file-items out j m kind f k d o;
-                          none-left = items-none s n (omega (arith, a .count));
-                          few = z .walks .few;
-                          room = omega (arith, z .walks .few);
-                          inside = omega (arith, a .few);
-                        });
-                    nested = opened ∙ z .decided [] refl ∙ closed-end s j (omega (arith, a .count));
-                    first = o .here 0 (omega arith);
-                    some = omega (arith, x, rows-rise (z .walks .items));
-                  };
-            }
+              indexed = a .indexed;
+              lines = n;
+              top = rw y
+                  (record {
+                    items = file-items out j m kind f k d o;
+                    none-left = items-none s n (omega (arith, a .count));
+                    few = z .walks .few;
+                    room = omega (arith, z .walks .few);
+                    inside = omega (arith, a .few);
+                  });
+              nested = x .decided ∙ z .decided [] refl ∙ closed-end s j (omega (arith, a .count));
+              first = o .here 0 (omega arith);
+              some = omega (arith, y, rows-rise (z .walks .items));
+            };
+      }

@@ -2,7 +2,7 @@
 -- an inner component is read by the same function with one level less, and its row is written when it has ended.
 use Prim.Native.Nat.{_-_}
 use Rattle.index.proofs.Index.{entry-here, entry-name}
-use Rattle.structure.proofs.Reading.{Reading, reading-start, reading-entry, reading-end, reading-stays, reading-closes, reading-breaks, reading-room, reading-ready, reading-inner, reading-inner-breaks, reading-row}
+use Rattle.structure.proofs.Reading.{Reading, Opened, reading-start, reading-entry, reading-end, reading-stays, reading-closes, reading-breaks, reading-opens, opened-ready, opened-closes, opened-breaks, opened-row}
 use native.Mathlib.Omega.{arith}
 use borrow.Author.Needs.{needs}
 use Prim.Native.Nat.{ℕ, _<_}
@@ -67,13 +67,22 @@ component-enum-told t c = search needs
 component-value-requires : (t : ℕ) → component-lts.Need-value-requires (claims t) (component-at t) component.Post component-Inv-loop component-μ-loop
 component-value-requires t c κs = search needs
 
+component-opened : (t : ℕ) (c : component-lts.After-value (claims t) (component-at t) component.Post component-Inv-loop component-μ-loop) → Opened (c .before .before .before .before .before .before .before .loop .inv) (c .value .result .now)
+component-opened t c =
+    reading-opens
+    (c .before .before .before .before .before .before .before .loop .inv)
+    (c .before .before .before .before .before .before .loop-test .taken)
+    (c .before .before .before .before .before .line-at .ensures)
+    (c .before .before .before .nesting-step .ensures)
+    (c .before .enum-told .given .1)
+    (c .value .ensures)
+
 component-sub-component : (t : ℕ) → component-lts.Need-sub-component (claims t) (component-at t) component.Post component-Inv-loop component-μ-loop
-component-sub-component t c =
-    omega
-    (arith, reading-room (c .before .before .before .before .before .before .before .before .loop .inv) (c .before .before .before .before .before .before .before .loop-test .taken) (c .before .before .before .before .before .before .line-at .ensures) (c .before .before .before .before .nesting-step .ensures) (c .before .before .enum-told .given .1) .some)
+component-sub-component t c = omega (arith, component-opened t (c .before) .room .some)
 
 component-component-requires : (t : ℕ) → component-lts.Need-component-requires (claims t) (component-at t) component.Post component-Inv-loop component-μ-loop
-component-component-requires t c κs = (omega (arith, reading-room (c .before .before .before .before .before .before .before .before .loop .inv) (c .before .before .before .before .before .before .before .loop-test .taken) (c .before .before .before .before .before .before .line-at .ensures) (c .before .before .before .before .nesting-step .ensures) (c .before .before .enum-told .given .1) .some), (reading-ready (c .before .before .before .before .before .before .before .before .loop .inv) (c .before .before .before .before .before .before .before .loop-test .taken) (c .before .before .before .before .before .before .line-at .ensures) (c .before .before .before .before .nesting-step .ensures) (c .before .before .enum-told .given .1) (omega (arith, c .before .before .before .before .before .before .before .before .loop .inv .going .long)), omega (arith, c .before .before .before .before .before .before .before .before .before .before .before .before .before .pre .1 .1)))
+component-component-requires t c κs =
+    (omega (arith, component-opened t (c .before) .room .some), (opened-ready (component-opened t (c .before)), omega (arith, c .before .before .before .before .before .before .before .before .before .before .before .before .before .pre .1 .1)))
 
 component-enum-known-j : (t : ℕ) → component-lts.Need-enum-known-j (claims t) (component-at t) component.Post component-Inv-loop component-μ-loop
 component-enum-known-j t c = search needs
@@ -88,61 +97,27 @@ component-cast-t30 t c =
 
 component-cast-t31 : (t : ℕ) → component-lts.Need-cast-t31 (claims t) (component-at t) component.Post component-Inv-loop component-μ-loop
 component-cast-t31 t c =
-    let h =
-    reading-row
-    (c .before .before .before .before .before .before .before .before .before .before .before .before .before .before .before .before .loop .inv)
-    (c .before .before .before .before .before .before .before .before .before .before .before .before .before .before .before .loop-test .taken)
-    (c .before .before .before .before .before .before .before .before .before .before .before .before .before .before .line-at .ensures)
-    (c .before .before .before .before .before .before .before .before .before .before .before .before .nesting-step .ensures)
-    (c .before .before .before .before .before .before .before .before .before .before .enum-told .given .1)
-    (c .before .before .before .before .before .before .before .before .before .value .ensures) _
-    (c .before .before .before .before .before .before .before .component .ensures) _ _
-    (c .before .before .before .j .given .1) (omega arith)
-    in
+    let h = opened-row (component-opened t (c .before .before .before .before .before .before .before .before .before)) _ (c .before .before .before .before .before .before .before .component .ensures) _ _ (c .before .before .before .j .given .1) (omega arith) in
     omega (arith, h .2, c .before .before .before .before .before .before .before .before .before .before .before .before .before .before .before .before .before .before .before .before .before .pre .1 .0 .many)
 
 component-cast-t32 : (t : ℕ) → component-lts.Need-cast-t32 (claims t) (component-at t) component.Post component-Inv-loop component-μ-loop
 component-cast-t32 t c =
-    let h =
-    reading-row
-    (c .before .before .before .before .before .before .before .before .before .before .before .before .before .before .before .before .loop .inv)
-    (c .before .before .before .before .before .before .before .before .before .before .before .before .before .before .before .loop-test .taken)
-    (c .before .before .before .before .before .before .before .before .before .before .before .before .before .before .line-at .ensures)
-    (c .before .before .before .before .before .before .before .before .before .before .before .before .nesting-step .ensures)
-    (c .before .before .before .before .before .before .before .before .before .before .enum-told .given .1)
-    (c .before .before .before .before .before .before .before .before .before .value .ensures) _
-    (c .before .before .before .before .before .before .before .component .ensures) _ _
-    (c .before .before .before .j .given .1) (omega arith)
-    in
+    let h = opened-row (component-opened t (c .before .before .before .before .before .before .before .before .before)) _ (c .before .before .before .before .before .before .before .component .ensures) _ _ (c .before .before .before .j .given .1) (omega arith) in
     omega (arith, h .3)
 
 component-put-row-requires : (t : ℕ) → component-lts.Need-put-row-requires (claims t) (component-at t) component.Post component-Inv-loop component-μ-loop
-component-put-row-requires t c κs = (reading-row (c .before .before .before .before .before .before .before .before .before .before .before .before .before .before .before .before .loop .inv) (c .before .before .before .before .before .before .before .before .before .before .before .before .before .before .before .loop-test .taken) (c .before .before .before .before .before .before .before .before .before .before .before .before .before .before .line-at .ensures) (c .before .before .before .before .before .before .before .before .before .before .before .before .nesting-step .ensures) (c .before .before .before .before .before .before .before .before .before .before .enum-told .given .1) (c .before .before .before .before .before .before .before .before .before .value .ensures) _ (c .before .before .before .before .before .before .before .component .ensures) _ _ (c .before .before .before .j .given .1) (omega arith)) .0
+component-put-row-requires t c κs =
+    (opened-row (component-opened t (c .before .before .before .before .before .before .before .before .before)) _ (c .before .before .before .before .before .before .before .component .ensures) _ _ (c .before .before .before .j .given .1) (omega arith)) .0
 
 component-loop-less : (t : ℕ) → component-lts.Need-loop-less (claims t) (component-at t) component.Post component-Inv-loop component-μ-loop
 component-loop-less t c =
-    let h =
-    reading-row
-    (c .before .before .before .before .before .before .before .before .before .before .before .before .before .before .before .before .before .before .before .loop .inv)
-    (c .before .before .before .before .before .before .before .before .before .before .before .before .before .before .before .before .before .before .loop-test .taken)
-    (c .before .before .before .before .before .before .before .before .before .before .before .before .before .before .before .before .before .line-at .ensures)
-    (c .before .before .before .before .before .before .before .before .before .before .before .before .before .before .before .nesting-step .ensures)
-    (c .before .before .before .before .before .before .before .before .before .before .before .before .before .enum-told .given .1)
-    (c .before .before .before .before .before .before .before .before .before .before .before .before .value .ensures) _
-    (c .before .before .before .before .before .before .before .before .before .before .component .ensures) _ _
-    (c .before .before .before .before .before .before .j .given .1) (omega arith)
-    in
+    let h = opened-row (component-opened t (c .before .before .before .before .before .before .before .before .before .before .before .before)) _ (c .before .before .before .before .before .before .before .before .before .before .component .ensures) _ _ (c .before .before .before .before .before .before .j .given .1) (omega arith) in
     omega (arith, c .before .before .before .before .before .before .before .before .before .before .before .before .before .before .before .before .before .before .loop-test .taken, h .1)
 
 component-loop-again : (t : ℕ) → component-lts.Need-loop-again (claims t) (component-at t) component.Post component-Inv-loop component-μ-loop
 component-loop-again t c =
-    reading-inner
-    (c .before .before .before .before .before .before .before .before .before .before .before .before .before .before .before .before .before .before .before .loop .inv)
-    (c .before .before .before .before .before .before .before .before .before .before .before .before .before .before .before .before .before .before .loop-test .taken)
-    (c .before .before .before .before .before .before .before .before .before .before .before .before .before .before .before .before .before .line-at .ensures)
-    (c .before .before .before .before .before .before .before .before .before .before .before .before .before .before .before .nesting-step .ensures)
-    (c .before .before .before .before .before .before .before .before .before .before .before .before .before .enum-told .given .1)
-    (c .before .before .before .before .before .before .before .before .before .before .before .before .value .ensures)
+    opened-closes
+    (component-opened t (c .before .before .before .before .before .before .before .before .before .before .before .before))
     (c .before .before .before .before .before .before .before .before .before .before .component .ensures) _ _
     (c .before .before .before .before .before .before .j .given .1) (omega arith) (omega arith)
     (c .before .before .before .before .kind-of .ensures)
@@ -156,15 +131,7 @@ component-same-length t c = omega (arith, c .before .before .before .before .bef
 
 component-returns : (t : ℕ) → component-lts.Need-returns (claims t) (component-at t) component.Post component-Inv-loop component-μ-loop
 component-returns t c =
-    reading-inner-breaks
-    (c .before .before .before .before .before .before .before .before .before .before .before .before .before .before .loop .inv)
-    (c .before .before .before .before .before .before .before .before .before .before .before .before .before .loop-test .taken)
-    (c .before .before .before .before .before .before .before .before .before .before .before .before .line-at .ensures)
-    (c .before .before .before .before .before .before .before .before .before .before .nesting-step .ensures)
-    (c .before .before .before .before .before .before .before .before .enum-told .given .1)
-    (c .before .before .before .before .before .before .before .value .ensures) _ _
-    (c .before .before .before .before .before .component .ensures) _
-    (c .before .j2 .given .1)
+    opened-breaks (component-opened t (c .before .before .before .before .before .before .before)) _ _ (c .before .before .before .before .before .component .ensures) _ (c .before .j2 .given .1)
 
 component-enum-told-2 : (t : ℕ) → component-lts.Need-enum-told-2 (claims t) (component-at t) component.Post component-Inv-loop component-μ-loop
 component-enum-told-2 t c = search needs

@@ -1,7 +1,7 @@
 -- `structure::read_rows` meets its contract: the first line begins VCALENDAR, which is read as any component is, and behind it no line may stand.
 use borrow.Author.Tests.{not-true, not-false}
 use Rattle.index.proofs.Index.{entry-here, entry-name}
-use Rattle.structure.proofs.Reading.{file-empty, file-entry, file-ready, file-other, file-inner, file-more, file-last, file-good}
+use Rattle.structure.proofs.Reading.{Begun, file-empty, file-entry, file-ready, file-other, file-begun, file-inner, file-more, file-last, file-good}
 use native.Mathlib.Omega.{arith}
 use borrow.Author.Needs.{needs}
 use Rattle.structure.proofs.read_rows.Statement.{statement}
@@ -36,6 +36,17 @@ returns-2 c =
 value-requires : tie.Need-value-requires
 value-requires c κs = search needs
 
+begun : (c : tie.After-value) → Begun (c .before .before .before .before .before .before .before .before .before .pre .0) (c .value .result .now)
+begun c =
+    file-begun
+    (c .before .before .before .before .before .before .before .before .before .pre .0)
+    (c .before .before .before .before .before .before .before .before .before .pre .1 .0)
+    (c .before .before .before .before .before .if1 .left)
+    (c .before .before .before .before .line-at .ensures)
+    (c .before .before .begins-calendar .ensures)
+    (not-false _ (c .before .if2 .left))
+    (c .value .ensures)
+
 component-requires : tie.Need-component-requires
 component-requires c κs = (file-ready (c .before .before .before .before .before .before .before .before .before .before .pre .0) (c .before .before .before .before .before .before .before .before .before .before .pre .1 .0) (c .before .before .before .before .before .before .if1 .left) _ (c .before .before .before .before .before .before .before .before .before .before .pre .1 .1), omega arith)
 
@@ -49,49 +60,15 @@ same-length : tie.Need-same-length
 same-length c = search needs
 
 returns-3 : tie.Need-returns-3
-returns-3 c =
-    file-more
-    (c .before .before .before .before .before .before .before .before .before .before .before .before .before .before .before .before .before .pre .0)
-    (c .before .before .before .before .before .before .before .before .before .before .before .before .before .before .before .before .before .pre .1 .0)
-    (c .before .before .before .before .before .before .before .before .before .before .before .before .before .if1 .left)
-    (c .before .before .before .before .before .before .before .before .before .before .before .before .line-at .ensures)
-    (c .before .before .before .before .before .before .before .before .before .before .begins-calendar .ensures)
-    (not-false _ (c .before .before .before .before .before .before .before .before .before .if2 .left))
-    (c .before .before .before .before .before .before .before .before .value .ensures) _ _
-    (c .before .before .before .before .before .before .component .ensures) _ _ _
-    (c .before .before .j .given .1) (c .if3 .taken)
+returns-3 c = file-more (begun (c .before .before .before .before .before .before .before .before)) _ _ (c .before .before .before .before .before .before .component .ensures) _ _ _ (c .before .before .j .given .1) (c .if3 .taken)
 
 cast-t22 : tie.Need-cast-t22
 cast-t22 c =
-    let h =
-    file-last
-    (c .before .before .before .before .before .before .before .before .before .before .before .before .before .before .before .before .before .before .pre .0)
-    (c .before .before .before .before .before .before .before .before .before .before .before .before .before .before .before .before .before .before .pre .1 .0)
-    (c .before .before .before .before .before .before .before .before .before .before .before .before .before .before .if1 .left)
-    (c .before .before .before .before .before .before .before .before .before .before .before .before .before .line-at .ensures)
-    (c .before .before .before .before .before .before .before .before .before .before .before .begins-calendar .ensures)
-    (not-false _ (c .before .before .before .before .before .before .before .before .before .before .if2 .left))
-    (c .before .before .before .before .before .before .before .before .before .value .ensures) _ _
-    (c .before .before .before .before .before .before .before .component .ensures) _ _
-    (c .before .before .before .j .given .1)
-    in
+    let h = file-last (begun (c .before .before .before .before .before .before .before .before .before)) _ _ (c .before .before .before .before .before .before .before .component .ensures) _ _ (c .before .before .before .j .given .1) in
     omega (arith, h .0, c .before .before .before .before .before .before .before .before .before .before .before .before .before .before .before .before .before .before .pre .0 .few, c .before .before .before .before .before .before .before .before .before .before .before .before .before .before .before .before .before .before .pre .1 .0)
 
 cast-t23 : tie.Need-cast-t23
-cast-t23 c =
-    let h =
-    file-last
-    (c .before .before .before .before .before .before .before .before .before .before .before .before .before .before .before .before .before .before .pre .0)
-    (c .before .before .before .before .before .before .before .before .before .before .before .before .before .before .before .before .before .before .pre .1 .0)
-    (c .before .before .before .before .before .before .before .before .before .before .before .before .before .before .if1 .left)
-    (c .before .before .before .before .before .before .before .before .before .before .before .before .before .line-at .ensures)
-    (c .before .before .before .before .before .before .before .before .before .before .before .begins-calendar .ensures)
-    (not-false _ (c .before .before .before .before .before .before .before .before .before .before .if2 .left))
-    (c .before .before .before .before .before .before .before .before .before .value .ensures) _ _
-    (c .before .before .before .before .before .before .before .component .ensures) _ _
-    (c .before .before .before .j .given .1)
-    in
-    omega (arith, h .1)
+cast-t23 c = let h = file-last (begun (c .before .before .before .before .before .before .before .before .before)) _ _ (c .before .before .before .before .before .before .before .component .ensures) _ _ (c .before .before .before .j .given .1) in omega (arith, h .1)
 
 kind-of-requires : tie.Need-kind-of-requires
 kind-of-requires c κs = search needs
@@ -108,13 +85,7 @@ same-length-2 c = search needs
 returns-4 : tie.Need-returns-4
 returns-4 c =
     file-good
-    (c .before .before .before .before .before .before .before .before .before .before .before .before .before .before .before .before .before .before .before .before .before .before .pre .0)
-    (c .before .before .before .before .before .before .before .before .before .before .before .before .before .before .before .before .before .before .before .before .before .before .pre .1 .0)
-    (c .before .before .before .before .before .before .before .before .before .before .before .before .before .before .before .before .before .before .if1 .left)
-    (c .before .before .before .before .before .before .before .before .before .before .before .before .before .before .before .before .before .line-at .ensures)
-    (c .before .before .before .before .before .before .before .before .before .before .before .before .before .before .before .begins-calendar .ensures)
-    (not-false _ (c .before .before .before .before .before .before .before .before .before .before .before .before .before .before .if2 .left))
-    (c .before .before .before .before .before .before .before .before .before .before .before .before .before .value .ensures) _ _
+    (begun (c .before .before .before .before .before .before .before .before .before .before .before .before .before)) _ _
     (c .before .before .before .before .before .before .before .before .before .before .before .component .ensures) _ _ _ _
     (c .before .before .before .before .before .before .before .j .given .1)
     (c .before .before .before .before .before .if3 .left)
@@ -125,17 +96,7 @@ same-length-3 : tie.Need-same-length-3
 same-length-3 c = search needs
 
 returns-5 : tie.Need-returns-5
-returns-5 c =
-    file-inner
-    (c .before .before .before .before .before .before .before .before .before .before .before .before .before .before .before .before .pre .0)
-    (c .before .before .before .before .before .before .before .before .before .before .before .before .before .before .before .before .pre .1 .0)
-    (c .before .before .before .before .before .before .before .before .before .before .before .before .if1 .left)
-    (c .before .before .before .before .before .before .before .before .before .before .before .line-at .ensures)
-    (c .before .before .before .before .before .before .before .before .before .begins-calendar .ensures)
-    (not-false _ (c .before .before .before .before .before .before .before .before .if2 .left))
-    (c .before .before .before .before .before .before .before .value .ensures) _ _
-    (c .before .before .before .before .before .component .ensures) _ _
-    (c .before .j2 .given .1)
+returns-5 c = file-inner (begun (c .before .before .before .before .before .before .before)) _ _ (c .before .before .before .before .before .component .ensures) _ _ (c .before .j2 .given .1)
 
 pub read-rows-spec : {M : Type 1} → statement M
 read-rows-spec =
