@@ -53,9 +53,9 @@ module _ (g : Bool) (sep : ℕ) (q : Bool) (s : List ℕ) (i : ℕ) where
   pub find-here : i < length s → cutsAt sep q (getD s i 0) ≡ true → i + firstOutside g sep q (drop i s) ≡ i
   find-here h e = rw (drop-next s i h, firstOutside-cut g sep q (getD s i 0) (drop (i + 1) s) e) (omega arith)
 
-  pub find-next : i < length s → cutsAt sep q (getD s i 0) ≡ false
-      → (i + 1) + firstOutside g sep (quotedAfter g q (getD s i 0)) (drop (i + 1) s) ≡ i + firstOutside g sep q (drop i s)
-  find-next h e = rw (drop-next s i h, firstOutside-keep g sep q (getD s i 0) (drop (i + 1) s) e) (omega arith)
+  pub find-next : i < length s → cutsAt sep q (getD s i 0) ≡ false → {p : Bool} → p ≡ quotedAfter g q (getD s i 0)
+      → (i + 1) + firstOutside g sep p (drop (i + 1) s) ≡ i + firstOutside g sep q (drop i s)
+  find-next h e f = rw (f, drop-next s i h, firstOutside-keep g sep q (getD s i 0) (drop (i + 1) s) e) (omega arith)
 
   pub find-end : length s ≤ i → i + firstOutside g sep q (drop i s) ≡ i
   find-end h = rw (drop-end s i h, firstOutside-end g sep q) (omega arith)
@@ -66,12 +66,7 @@ module _ (g : Bool) (sep : ℕ) (s : List ℕ) (i : ℕ) where
   -- a byte that is neither the separator nor a quote is passed
   pub usual-next : i < length s → (getD s i 0 ≡ sep → ⊥) → (getD s i 0 ≡ 34 → ⊥) → nextPlace g sep s (i + 1) ≡ nextPlace g sep s i
   unfolding nextPlace
-  usual-next h p q =
-      ap (λ (t : Bool). (i + 1) + firstOutside g sep t (drop (i + 1) s)) (sym outside)
-      ∙ find-next g sep false s i h (rw (ne-eqb (getD s i 0) sep p))
-    where
-      outside : quotedAfter g false (getD s i 0) ≡ false
-      outside = rw (ne-eqb (getD s i 0) 34 q, and-false g)
+  usual-next h p q = find-next g sep false s i h (rw (ne-eqb (getD s i 0) sep p)) (rw (ne-eqb (getD s i 0) 34 q, and-false g))
 
   pub usual-here : i < length s → getD s i 0 ≡ sep → i ≡ nextPlace g sep s i
   unfolding nextPlace
@@ -348,13 +343,14 @@ pub record Reached (g : Bool) (sep : ℕ) (s : List ℕ) (n from at left : ℕ) 
   pub inside : at ≤ length s
   pub same : getD (take (at - from) (drop from s) ∷ splitAfter g sep s at) left [] ≡ getD (splitParts g sep false s) n []
 
-pub reached-start : (g : Bool) (sep : ℕ) (s : List ℕ) (n : ℕ) → Reached g sep s n 0 (nextPlace g sep s 0) n
-reached-start g sep s n =
-    record {
+pub reached-start : (g : Bool) (sep : ℕ) (s : List ℕ) (n : ℕ) {p : ℕ} → p ≡ nextPlace g sep s 0 → Reached g sep s n 0 p n
+reached-start g sep s n e =
+    rw e
+    (record {
       rising = omega arith;
       inside = nextPlace-le g sep s 0 (omega arith);
       same = ap (λ (l : List (List ℕ)). getD l n []) (sym (parts-from g sep s 0 (omega arith)));
-    }
+    })
 
 -- one piece on
 getD-next : (x : List ℕ) (xs : List (List ℕ)) (n : ℕ) → 0 < n → getD xs (n - 1) [] ≡ getD (x ∷ xs) n []
@@ -362,16 +358,17 @@ getD-next x xs zero h = absurd (omega arith)
 getD-next x xs (suc n) h = let e : suc n - 1 ≡ n = omega arith in rw e
 
 pub reached-next : (g : Bool) (sep : ℕ) (s : List ℕ) (n from at left : ℕ) → 0 < left → at < length s → Reached g sep s n from at left
-    → Reached g sep s n (at + 1) (nextPlace g sep s (at + 1)) (left - 1)
-reached-next g sep s n from at left h k r =
-    record {
+    → {p : ℕ} → p ≡ nextPlace g sep s (at + 1) → Reached g sep s n (at + 1) p (left - 1)
+reached-next g sep s n from at left h k r e =
+    rw e
+    (record {
       rising = nextPlace-ge g sep s (at + 1);
       inside = nextPlace-le g sep s (at + 1) (omega arith);
       same =
           ap (λ (l : List (List ℕ)). getD l (left - 1) []) (sym (splitAfter-next g sep s at k))
           ∙ getD-next (take (at - from) (drop from s)) (splitAfter g sep s at) left h
           ∙ r .same;
-    }
+    })
 
 -- no further piece
 pub reached-none : (g : Bool) (sep : ℕ) (s : List ℕ) (n from at left : ℕ) → 0 < left → length s ≤ at → Reached g sep s n from at left

@@ -40,7 +40,13 @@ loop-less c = omega arith
 
 loop-again : tie.Need-loop-again Inv-loop μ-loop
 unfolding controlAt
-loop-again c = ⊎-elim (λ w. scanned-stop (c .before .before .before .before .before .loop .inv) (c .before .before .before .before .loop-test .taken) (omega arith) (omega arith)) (λ w. scanned-pass (c .before .before .before .before .before .loop .inv) (c .before .before .before .before .loop-test .taken) (sym (c .before .before .is-control .ensures) ∙ w .0 .left) (omega arith)) (c .before .if1 .came)
+loop-again c =
+    let inv = c .before .before .before .before .before .loop .inv in
+    let more = c .before .before .before .before .loop-test .taken in
+    ⊎-elim
+    (λ w. scanned-stop inv more (omega arith) (omega arith))
+    (λ w. scanned-pass inv more (sym (c .before .before .is-control .ensures) ∙ w .0 .left) (omega arith))
+    (c .before .if1 .came)
 
 returns : tie.Need-returns Inv-loop μ-loop
 returns c = scanned-end (c .before .loop .inv) (c .loop-test .left) (omega arith)

@@ -1,10 +1,13 @@
 -- `line::scan::pass_parameter` meets its contract: the name bytes lead the scanner through the name, the equals sign to the value, and the call goes on from there.
 use Rattle.line.specs.declared.scan.State.the-variants.{ParameterStart, ParameterName, ValueStart}
-use Rattle.line.proofs.Scanner.{leads-on, leads-byte, leads-name, equals-ends}
+use Rattle.line.proofs.Scanner.{Leads, leads-on, leads-byte, leads-name, equals-ends}
 use native.Mathlib.Omega.{arith}
 use borrow.Author.Needs.{needs}
 use Rattle.line.proofs.scan.pass_parameter.Statement.{statement}
 use Rattle.line.proofs.scan.pass_parameter.Tie as tie
+
+named : (c : tie.After-pass-name) → Leads (c .before .before .before .before .before .before .args .line .now) ParameterStart (c .before .before .before .before .before .before .args .from) ParameterName (c .pass-name .result)
+named c = leads-name _ _ _ _ (omega arith) (c .before .before .is-name-byte .ensures) (c .before .if2 .left) (c .pass-name .ensures)
 
 returns : tie.Need-returns
 returns c = search needs
@@ -34,13 +37,17 @@ pass-value-requires : tie.Need-pass-value-requires
 pass-value-requires c κs = search needs
 
 returns-3 : tie.Need-returns-3
-returns-3 c = leads-on (c .before .before .before .before .before .before .before .before .before .before .args .line .now) ParameterStart ParameterName _ _ _ _ (leads-name (c .before .before .before .before .before .before .before .before .before .before .args .line .now) (c .before .before .before .before .before .before .before .before .before .before .args .from) _ _ (omega arith) (c .before .before .before .before .before .before .is-name-byte .ensures) (c .before .before .before .before .before .if2 .left) (c .before .before .before .before .pass-name .ensures)) (leads-on (c .before .before .before .before .before .before .before .before .before .before .args .line .now) ParameterName ValueStart _ _ _ _ (leads-byte (c .before .before .before .before .before .before .before .before .before .before .args .line .now) ParameterName ValueStart _ 61 (c .before .before .before .if3 .taken) (c .before .if4 .taken) equals-ends) (c .pass-value .ensures))
+returns-3 c =
+    let line = c .before .before .before .before .before .before .before .before .before .before .args .line .now in
+    leads-on line ParameterStart ParameterName _ _ _ _
+    (named (c .before .before .before .before))
+    (leads-on line ParameterName ValueStart _ _ _ _ (leads-byte line ParameterName ValueStart _ 61 (c .before .before .before .if3 .taken) (c .before .if4 .taken) equals-ends) (c .pass-value .ensures))
 
 returns-4 : tie.Need-returns-4
-returns-4 c = leads-name (c .before .before .before .before .before .before .before .before .before .args .line .now) (c .before .before .before .before .before .before .before .before .before .args .from) _ _ (omega arith) (c .before .before .before .before .before .is-name-byte .ensures) (c .before .before .before .before .if2 .left) (c .before .before .before .pass-name .ensures)
+returns-4 c = named (c .before .before .before)
 
 returns-5 : tie.Need-returns-5
-returns-5 c = leads-name (c .before .before .before .before .before .before .before .args .line .now) (c .before .before .before .before .before .before .before .args .from) _ _ (omega arith) (c .before .before .before .is-name-byte .ensures) (c .before .before .if2 .left) (c .before .pass-name .ensures)
+returns-5 c = named (c .before)
 
 pub pass-parameter-spec : {M : Type 1} → statement M
 pass-parameter-spec =

@@ -18,7 +18,11 @@ pass-string-requires : tie.Need-pass-string-requires
 pass-string-requires c κs = search needs
 
 returns : tie.Need-returns
-returns c = leads-on (c .before .before .before .before .before .args .line .now) ValueStart Quoted _ (c .before .before .before .before .before .args .from) (c .before .before .before .before .before .args .from + 1) _ (leads-byte (c .before .before .before .before .before .args .line .now) ValueStart Quoted (c .before .before .before .before .before .args .from) 34 (c .before .before .before .if1 .taken) (c .before .if2 .taken) quote-opens) (c .pass-string .ensures)
+returns c =
+    let e = c .before .before .before .before .before .args in
+    leads-on (e .line .now) ValueStart Quoted _ (e .from) (e .from + 1) _
+    (leads-byte (e .line .now) ValueStart Quoted (e .from) 34 (c .before .before .before .if1 .taken) (c .before .if2 .taken) quote-opens)
+    (c .pass-string .ensures)
 
 is-unquoted-requires : tie.Need-is-unquoted-requires
 is-unquoted-requires c κs = search needs

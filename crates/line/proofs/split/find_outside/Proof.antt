@@ -1,10 +1,9 @@
 -- `line::split::find_outside` meets its contract: the bytes passed hold no separator outside quotes, so the place counted from the rest is the place counted from the start.
 use Rattle.line.proofs.Splitting.{find-here, find-next, find-end}
 use Rattle.line.specs.Splitting.{firstOutside, nextPlace}
-use mathlib.Core.Bool.{Bool}
 use lib.ListN.{length, drop}
 use Prim.Native.Nat.{_+_, _-_}
-use mathlib.Core.Path.{_≡_, refl, sym, ap, _∙_}
+use mathlib.Core.Path.{_≡_, refl, sym, _∙_}
 use native.Mathlib.Omega.{arith}
 use borrow.Author.Needs.{needs}
 use Rattle.line.proofs.split.find_outside.Statement.{statement}
@@ -36,7 +35,7 @@ loop-less : tie.Need-loop-less Inv-loop μ-loop
 loop-less c = omega arith
 
 loop-again : tie.Need-loop-again Inv-loop μ-loop
-loop-again c = ap (λ (q : Bool). (c .before .before .before .before .loop .i + 1) + firstOutside (c .before .before .before .before .before .before .args .quoting) (c .before .before .before .before .before .before .args .separator) q (drop (c .before .before .before .before .loop .i + 1) (c .before .before .before .before .before .before .args .s .now))) (c .quoted-after .ensures) ∙ find-next _ _ _ _ _ (c .before .before .before .loop-test .taken) (c .before .if1 .left) ∙ c .before .before .before .before .loop .inv
+loop-again c = find-next _ _ _ _ _ (c .before .before .before .loop-test .taken) (c .before .if1 .left) (c .quoted-after .ensures) ∙ c .before .before .before .before .loop .inv
 
 returns-2 : tie.Need-returns-2 Inv-loop μ-loop
 returns-2 c = sym (find-end (c .before .before .before .args .quoting) (c .before .before .before .args .separator) (c .before .loop .quoted) _ _ (c .loop-test .left)) ∙ c .before .loop .inv

@@ -1,6 +1,4 @@
 -- `line::split::nth_part` meets its contract: the piece at hand and those behind its separator are the pieces that are left, and each turn goes one piece on.
-use mathlib.Core.Path.{subst, sym}
-use Prim.Native.Nat.{ℕ, _-_, _+_}
 use Rattle.line.proofs.Splitting.{Reached, reached-start, reached-next, reached-none, reached-end}
 use native.Mathlib.Omega.{arith}
 use borrow.Author.Needs.{needs}
@@ -17,7 +15,7 @@ find-requires : tie.Need-find-requires Inv-loop μ-loop
 find-requires c κs = search needs
 
 loop-holds : tie.Need-loop-holds Inv-loop μ-loop
-loop-holds c = subst (λ (k : ℕ). Reached (c .before .before .args .quoting) (c .before .before .args .separator) (c .before .before .args .s .now) (c .before .before .args .n) 0 k (c .before .before .args .n)) (sym (c .find .ensures)) (reached-start _ _ _ _)
+loop-holds c = reached-start _ _ _ _ (c .find .ensures)
 
 slice-aggregate-result : tie.Need-slice-aggregate-result Inv-loop μ-loop
 slice-aggregate-result c = omega arith
@@ -38,7 +36,7 @@ loop-less : tie.Need-loop-less Inv-loop μ-loop
 loop-less c = omega arith
 
 loop-again : tie.Need-loop-again Inv-loop μ-loop
-loop-again c = subst (λ (k : ℕ). Reached (c .before .before .before .before .before .before .args .quoting) (c .before .before .before .before .before .before .args .separator) (c .before .before .before .before .before .before .args .s .now) (c .before .before .before .before .before .before .args .n) (c .before .before .before .loop .at + 1) k (c .before .before .before .loop .left - 1)) (sym (c .find2 .ensures)) (reached-next _ _ _ _ _ _ _ (c .before .before .loop-test .taken) (c .before .if1 .left) (c .before .before .before .loop .inv))
+loop-again c = reached-next _ _ _ _ _ _ _ (c .before .before .loop-test .taken) (c .before .if1 .left) (c .before .before .before .loop .inv) (c .find2 .ensures)
 
 sub-result : tie.Need-sub-result Inv-loop μ-loop
 sub-result c = omega arith
