@@ -1,16 +1,16 @@
 -- What a line says: which property a name is by its length, the value that is read,
 -- what stands on a line without parameters, and how large what a line says can be.
-use Prim.Native.Nat.{ℕ, _≤_, _+_, _-_}
+use Prim.Native.Nat.{ℕ, _≤_, _<_, _+_, _-_}
 use mathlib.Core.Path.{_≡_, refl, sym, ap, _∙_}
 use mathlib.Core.Bool.{Bool, true, false, cond, _||_, true≢false}
-use mathlib.Core.List.{List, [], _∷_}
+use mathlib.Core.List.{List, [], _∷_, _++_}
 use mathlib.Core.Logic.{_⊎_, ⊎-elim}
 use types.Run.{OneOf}
 use denote.Enum.Declared.{tagOf}
 use native.Mathlib.Omega.{arith}
 use lib.Dec.{eqb}
-use lib.ListN.{length, take, drop, length-map}
-use borrow.Author.Tests.{eqb-false, ne-eqb}
+use lib.ListN.{length, take, drop, getD, length-map}
+use borrow.Author.Tests.{eqb-false, ne-eqb, lt-ltb, le-ltb}
 use Rattle.ascii.specs.Bytes.{upper}
 use Rattle.ascii.specs.Names.{sameName}
 use Rattle.ascii.specs.Words.{ascii}
@@ -20,9 +20,11 @@ use Rattle.time.specs.Limits.{lastSecond}
 use Rattle.time.specs.declared.duration.Duration.{Duration}
 use Rattle.time.specs.declared.duration.DurationRead.{DurationRead}
 use Rattle.periods.specs.declared.BusyType.{BusyType}
-use Rattle.line.specs.Reading.{nameOf, lineOf, valueOf, hasParameter, hasTwice, hasList, parametersNamed, someList, pooled, valuesNamed, firstValue, Plain}
-use Rattle.line.specs.Grammar.{ContentLine}
+use Rattle.line.specs.Splitting.{nextPlace}
+use Rattle.line.specs.Reading.{headOf, isNamed, valuesOf, parameterOf, firstOf, nameOf, lineOf, valueOf, hasParameter, hasTwice, hasList, parametersNamed, someList, pooled, valuesNamed, firstValue, Plain}
+use Rattle.line.specs.Grammar.{Parameter, ContentLine}
 use Rattle.line.proofs.Splitting.{suffix}
+use Rattle.line.proofs.ReadingParameters.{parametersFrom, parameters-next, parameters-end, parameters-all}
 use Rattle.values.specs.declared.times.Context.{Context}
 use Rattle.values.specs.Times.{formOf, timeOf}
 use Rattle.values.specs.Rule.{ruleOf, RuleSmall}
@@ -172,6 +174,36 @@ module _ (x : ContentLine) (e : x .parameters ≡ []) where
   pub plain-type : PropertyValue.HasPeriods BusyType.Busy ≡ typeValue x
   unfolding typeValue hasTwice hasList parametersNamed someList
   plain-type = rw (plain-busy, e)
+
+-- ---- a line with one parameter: it alone decides the type
+
+first-only : (vs : List (List ℕ)) → getD vs 0 [] ≡ firstOf (vs ++ [])
+first-only [] = refl
+first-only (v ∷ vs) = refl
+
+-- behind the first semicolon of the head there is no other
+pub one-parameter : (l h : List ℕ) (at e : ℕ) → h ≡ headOf l → at ≡ nextPlace true 59 h 0 → at < length h → e ≡ nextPlace true 59 h (at + 1) → length h ≤ e
+    → lineOf l .parameters ≡ parameterOf (take (e - (at + 1)) (drop (at + 1) h)) ∷ []
+one-parameter l h at e q p k w z =
+    sym (ap (parametersFrom h) p ∙ parameters-all l h q)
+    ∙ parameters-next h at e k w
+    ∙ ap (λ (ps : List Parameter). parameterOf (take (e - (at + 1)) (drop (at + 1) h)) ∷ ps) (parameters-end h e z)
+
+module _ (t : List ℕ) (x : ContentLine) (e : x .parameters ≡ parameterOf t ∷ []) where
+  pub one-other : isNamed (ascii "FBTYPE") t ≡ false → PropertyValue.HasPeriods BusyType.Busy ≡ typeValue x
+  unfolding typeValue hasTwice hasList parametersNamed someList busyOf firstValue valuesNamed pooled parameterOf isNamed
+  one-other h = rw (e, h) (ap PropertyValue.HasPeriods (sym unnamed-busy))
+
+  module _ (h : isNamed (ascii "FBTYPE") t ≡ true) {n : ℕ} (k : n ≡ length (valuesOf t)) where
+    pub one-list : 1 < n → PropertyValue.Bad ≡ typeValue x
+    unfolding typeValue hasTwice hasList parametersNamed someList parameterOf isNamed
+    one-list z = rw (e, h, lt-ltb 1 (length (valuesOf t)) (omega (arith, z, k)))
+
+    pub one-type : n ≤ 1 → {w : List ℕ} {b : BusyType} → w ≡ getD (valuesOf t) 0 [] → b ≡ busyNamed w → PropertyValue.HasPeriods b ≡ typeValue x
+    unfolding typeValue hasTwice hasList parametersNamed someList busyOf firstValue valuesNamed pooled parameterOf isNamed
+    one-type z {w} {b} p q =
+        rw (e, h, le-ltb 1 (length (valuesOf t)) (omega (arith, z, k)))
+        (ap PropertyValue.HasPeriods (q ∙ ap busyNamed (p ∙ first-only (valuesOf t))))
 
 -- a name that is not read
 pub unread-line : (c : Context) (s : Scope) (l : List ℕ) → propertyOf s (nameOf l) ≡ Property.Unread → PropertyValue.Nothing ≡ beforePeriods c s (lineOf l)

@@ -1,5 +1,6 @@
 // What a line says, by the component that it stands directly in.
 // Which properties are read, and in which component, is decided here alone.
+use line::split;
 use periods::BusyType;
 use time::duration;
 use time::duration::Duration;
@@ -15,10 +16,11 @@ use values::times::Time;
 use values::times::TimeRead;
 ghost use mathlib.Core.Path.{_≡_};
 ghost use mathlib.Core.Bool.{cond, true, _||_};
-ghost use mathlib.Core.List.{[]};
+ghost use mathlib.Core.List.{[], _∷_};
 ghost use lib.ListN.{length};
 ghost use Rattle.ascii.specs.Words.{ascii};
-ghost use Rattle.line.specs.Reading.{nameOf, valueOf, lineOf, Plain, hasParameter, hasTwice, hasList};
+ghost use Rattle.line.specs.Grammar.{ContentLine};
+ghost use Rattle.line.specs.Reading.{nameOf, valueOf, lineOf, parameterOf, Plain, hasParameter, hasTwice, hasList};
 ghost use Rattle.values.specs.Times.{formOf, ContextGood};
 ghost use Rattle.property.specs.Properties.{propertyOf, timeIn, startBy, endBy, isStart, durationBy, ruleValue, statusNamed};
 ghost use Rattle.property.specs.Properties.{busyNamed, busyOf, typeValue, valueAs, beforePeriods, propertyValueOf, givesPeriods};
@@ -300,7 +302,30 @@ fn type_is_bad(line: &[u8]) -> bool
     (1 < times) | listed
 }
 
-// FREEBUSY: its type, and the periods are left to the caller.
+// The type of a line whose one parameter is p.
+fn type_by(p: &[u8]) -> PropertyValue
+    ensures { λ r. ⌜ ((x : ContentLine) → x .parameters ≡ parameterOf (now (p .entry)) ∷ [] → r ≡ typeValue x) ⌝ }
+{
+    if !line::read::is_named(p, b"FBTYPE") {
+        return PropertyValue::HasPeriods(BusyType::Busy);
+    }
+    if 1 < line::read::value_count(p) {
+        return PropertyValue::Bad;
+    }
+    PropertyValue::HasPeriods(busy_named(line::read::parameter_value(p, 0)))
+}
+
+// The type of a line, whatever its parameters are.
+fn type_among(line: &[u8]) -> PropertyValue
+    ensures { λ r. ⌜ r ≡ typeValue (lineOf (now (line .entry))) ⌝ }
+{
+    if type_is_bad(line) {
+        return PropertyValue::Bad;
+    }
+    PropertyValue::HasPeriods(busy_of(line))
+}
+
+// FREEBUSY: its type, and the periods are left to the caller. Most lines have one parameter, and then one look at it is enough.
 fn type_value(line: &[u8], plain: bool) -> PropertyValue
     requires { ⌜ (plain ≡ true → lineOf (now line) .parameters ≡ []) ⌝ }
     ensures { λ r. ⌜ r ≡ typeValue (lineOf (now (line .entry))) ⌝ }
@@ -308,10 +333,16 @@ fn type_value(line: &[u8], plain: bool) -> PropertyValue
     if plain {
         return PropertyValue::HasPeriods(BusyType::Busy);
     }
-    if type_is_bad(line) {
-        return PropertyValue::Bad;
+    let h = line::read::head(line);
+    let at = split::find(h, 0, 59, true);
+    if at < h.len() {
+        let from = at + 1;
+        let e = split::find(h, from, 59, true);
+        if h.len() <= e {
+            return type_by(&h[from..e]);
+        }
     }
-    PropertyValue::HasPeriods(busy_of(line))
+    type_among(line)
 }
 
 // What a line says as the property. Its value is v, and its periods are left to the caller.
