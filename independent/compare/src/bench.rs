@@ -6,12 +6,14 @@ use std::time::Duration;
 use plain::Answer;
 
 use crate::case::Case;
-use crate::{clinic, proved, slow};
+use crate::{clinic, growth, proved, slow};
 
 /// How many rounds a benchmark has.
 const ROUNDS: usize = 5;
 /// How many times each slow input is asked.
 const TRIES: usize = 3;
+/// How many times each step of a series is asked.
+const CALLS: usize = 500;
 /// How many of the slow inputs are shown.
 const SHOWN: usize = 10;
 
@@ -71,6 +73,19 @@ fn sum(cases: &[Case], round: usize) -> Times {
     sum
 }
 
+/// Prints the shortest of many calls of both, step by step of each series.
+pub fn growth() {
+    println!("microseconds, the shortest of {CALLS} calls: plain, proved");
+    for (name, steps) in growth::series() {
+        println!("{name}:");
+        for (step, case) in steps {
+            let all: Vec<Times> = (0..CALLS).map(|call| times(&case, call.is_multiple_of(2))).collect();
+            let shortest = |of: fn(&Times) -> Duration| microseconds(all.iter().map(of).min().unwrap_or_default());
+            println!("{step:8} {:9.1} {:9.1}", shortest(|t| t.plain), shortest(|t| t.proved));
+        }
+    }
+}
+
 /// Compares both on the slow inputs and prints those on which each takes longest, by the shortest of some calls.
 pub fn slow() -> Result<(), String> {
     let mut measured = Vec::new();
@@ -100,4 +115,8 @@ fn show(whose: &str, mut measured: Vec<(String, Times)>, time: fn(&Times) -> Dur
 
 fn milliseconds(time: Duration) -> f64 {
     1_000.0 * time.as_secs_f64()
+}
+
+fn microseconds(time: Duration) -> f64 {
+    time.as_secs_f64() * 1e6
 }

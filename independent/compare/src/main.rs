@@ -1,5 +1,5 @@
 //! Makes cases, answers them by the plain implementation, and compares it with another.
-//! Usage: compare gen SEED COUNT | answers | count SEED COUNT | time SEED COUNT | run SEED COUNT | bench COUNT | slow
+//! Usage: compare gen SEED COUNT | answers | count SEED COUNT | time SEED COUNT | run SEED COUNT | bench COUNT | growth | slow
 
 #[cfg(feature = "proved")]
 mod bench;
@@ -9,6 +9,8 @@ mod cases;
 #[cfg(feature = "proved")]
 mod clinic;
 mod damage;
+#[cfg(feature = "proved")]
+mod growth;
 #[cfg(feature = "proved")]
 mod proved;
 mod queries;
@@ -40,9 +42,14 @@ fn main() -> ExitCode {
         #[cfg(feature = "proved")]
         ["bench", count] => numbers("1", count).map(|(seed, count)| bench::clinics(seed, count)),
         #[cfg(feature = "proved")]
+        ["growth"] => {
+            bench::growth();
+            Ok(())
+        }
+        #[cfg(feature = "proved")]
         ["slow"] => bench::slow(),
-        _ => Err("usage: compare gen SEED COUNT | answers | count SEED COUNT | time SEED COUNT | run SEED COUNT | bench COUNT | slow\n\
-                  (`run`, `bench` and `slow` only in a build with the feature `proved`)"
+        _ => Err("usage: compare gen SEED COUNT | answers | count SEED COUNT | time SEED COUNT | run SEED COUNT | bench COUNT | growth | slow\n\
+                  (`run`, `bench`, `growth` and `slow` only in a build with the feature `proved`)"
             .to_string()),
     };
     match done {
