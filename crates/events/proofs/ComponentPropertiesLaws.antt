@@ -6,7 +6,7 @@ use Rattle.values.specs.Period.{DurationSmall}
 use Rattle.values.specs.Rule.{RuleSmall}
 use Rattle.property.specs.Properties.{PropertyValueSmall}
 use Rattle.property.specs.declared.PropertyValue.{PropertyValue}
-use Rattle.events.specs.ComponentProperties.{noProperties, withProperty, withProperties}
+use Rattle.events.specs.ComponentProperties.{noProperties, withSpan, withBusy, withProperty, withProperties}
 use Rattle.events.specs.declared.ComponentProperties.{ComponentProperties}
 use Rattle.events.specs.declared.TimeGiven.{TimeGiven}
 use Rattle.events.specs.declared.DurationGiven.{DurationGiven}
@@ -25,9 +25,9 @@ RepeatsSmall (RuleGiven.Given r) = RuleSmall r
 RepeatsSmall RuleGiven.Absent = Unit {0}
 
 pub record ComponentPropertiesSmall (g : ComponentProperties) : Type 0 where
-  pub start-small : TimeSmall (g .start)
-  pub end-small : TimeSmall (g .end)
-  pub lasts-small : LastsSmall (g .lasts)
+  pub start-small : TimeSmall (g .span .start)
+  pub end-small : TimeSmall (g .span .end)
+  pub lasts-small : LastsSmall (g .span .lasts)
   pub repeats-small : RepeatsSmall (g .repeats)
 
 pub nothing-small : ComponentPropertiesSmall noProperties
@@ -35,7 +35,7 @@ unfolding noProperties
 nothing-small = record { start-small = tt; end-small = tt; lasts-small = tt; repeats-small = tt }
 
 with-small : (g : ComponentProperties) (x : PropertyValue) → ComponentPropertiesSmall g → PropertyValueSmall x → ComponentPropertiesSmall (withProperty g x)
-unfolding withProperty
+unfolding withProperty withSpan withBusy
 with-small g PropertyValue.Nothing r h = r
 with-small g PropertyValue.Unsupported r h = r
 with-small g PropertyValue.Bad r h = r

@@ -121,8 +121,8 @@ from-small : (t : TimeGiven) (g : ComponentProperties) (e : Event) → TimeSmall
 unfolding eventFrom
 from-small TimeGiven.Absent g e h r q = let z : _≡_ {A = ℕ} 0 1 = cc in absurd (omega arith)
 from-small (TimeGiven.Given s) g e h r q =
-    with-event-small s g (endingBy s (g .end) (g .lasts)) (repeatBy s (g .repeats)) e h r
-    (λ x. ending-small s (g .end) (g .lasts) x (r .end-small) (r .lasts-small))
+    with-event-small s g (endingBy s (g .span .end) (g .span .lasts)) (repeatBy s (g .repeats)) e h r
+    (λ x. ending-small s (g .span .end) (g .span .lasts) x (r .end-small) (r .lasts-small))
     (λ y. repeat-small s (g .repeats) y (r .repeats-small))
     q
 
@@ -130,9 +130,9 @@ eventBy-small : (g : ComponentProperties) (e : Event) → ComponentPropertiesSma
 unfolding eventBy
 eventBy-small g e r q = go (g .repeated) q
   where
-    go : (t : Bool) → cond t EventRead.Broken (eventFrom (g .start) g) ≡ EventRead.Of e → EventSmall e
+    go : (t : Bool) → cond t EventRead.Broken (eventFrom (g .span .start) g) ≡ EventRead.Of e → EventSmall e
     go true k = let z : _≡_ {A = ℕ} 0 1 = cc in absurd (omega arith)
-    go false k = from-small (g .start) g e (r .start-small) r k
+    go false k = from-small (g .span .start) g e (r .start-small) r k
 
 pub event-small : (ss : List PropertyValue) (e : Event) → AllSmall ss → eventBy (withProperties noProperties ss) ≡ EventRead.Of e → EventSmall e
 event-small ss e h q = eventBy-small _ e (with-properties-small ss noProperties nothing-small h) q
@@ -179,9 +179,9 @@ blockBy-small : (g : ComponentProperties) (b : Block) → ComponentPropertiesSma
 unfolding blockBy
 blockBy-small g b r q = go (g .repeated) q
   where
-    go : (t : Bool) → cond t BlockRead.Broken (blockFrom (g .start) (g .end)) ≡ BlockRead.Of b → BlockSmall b
+    go : (t : Bool) → cond t BlockRead.Broken (blockFrom (g .span .start) (g .span .end)) ≡ BlockRead.Of b → BlockSmall b
     go true k = let z : _≡_ {A = ℕ} 0 1 = cc in absurd (omega arith)
-    go false k = blockFrom-small (g .start) (g .end) b (r .start-small) (r .end-small) k
+    go false k = blockFrom-small (g .span .start) (g .span .end) b (r .start-small) (r .end-small) k
 
 pub block-small : (ss : List PropertyValue) (b : Block) → AllSmall ss → blockBy (withProperties noProperties ss) ≡ BlockRead.Of b → BlockSmall b
 block-small ss b h q = blockBy-small _ b (with-properties-small ss noProperties nothing-small h) q

@@ -3,6 +3,8 @@ use mathlib.Core.Bool.{Bool, true, false, _||_}
 use mathlib.Core.List.{List, [], _∷_}
 use Rattle.property.specs.declared.PropertyValue.{PropertyValue}
 use Rattle.events.specs.declared.ComponentProperties.{ComponentProperties}
+use Rattle.events.specs.declared.SpanProperties.{SpanProperties}
+use Rattle.events.specs.declared.BusyProperties.{BusyProperties}
 use Rattle.events.specs.declared.TimeGiven.{TimeGiven}
 use Rattle.events.specs.declared.DurationGiven.{DurationGiven}
 use Rattle.events.specs.declared.RuleGiven.{RuleGiven}
@@ -13,12 +15,9 @@ unfoldable pub noProperties : ComponentProperties
 noProperties =
     record {
       repeated = false;
-      start = TimeGiven.Absent;
-      end = TimeGiven.Absent;
-      lasts = DurationGiven.Absent;
+      span = record { start = TimeGiven.Absent; end = TimeGiven.Absent; lasts = DurationGiven.Absent };
       repeats = RuleGiven.Absent;
-      status = StatusGiven.Absent;
-      transparency = TransparencyGiven.Absent;
+      busy = record { status = StatusGiven.Absent; transparency = TransparencyGiven.Absent };
     }
 
 -- was the property there before?
@@ -42,71 +41,30 @@ unfoldable pub transparencyGiven : TransparencyGiven → Bool
 transparencyGiven (TransparencyGiven.Given t) = true
 transparencyGiven TransparencyGiven.Absent = false
 
+-- a line more of one group; was its property there before?
+unfoldable pub withSpan : ComponentProperties → Bool → SpanProperties → ComponentProperties
+withSpan g again x = record { repeated = g .repeated || again; span = x; repeats = g .repeats; busy = g .busy }
+
+unfoldable pub withBusy : ComponentProperties → Bool → BusyProperties → ComponentProperties
+withBusy g again x = record { repeated = g .repeated || again; span = g .span; repeats = g .repeats; busy = x }
+
 -- one line more; no more than one may stand of DTSTART, DTEND, DURATION, RRULE, STATUS, TRANSP
 unfoldable pub withProperty : ComponentProperties → PropertyValue → ComponentProperties
 withProperty g PropertyValue.Nothing = g
 withProperty g PropertyValue.Unsupported = g
 withProperty g PropertyValue.Bad = g
 withProperty g (PropertyValue.Start t) =
-    record {
-      repeated = g .repeated || timeGiven (g .start);
-      start = TimeGiven.Given t;
-      end = g .end;
-      lasts = g .lasts;
-      repeats = g .repeats;
-      status = g .status;
-      transparency = g .transparency;
-    }
+    withSpan g (timeGiven (g .span .start)) (record { start = TimeGiven.Given t; end = g .span .end; lasts = g .span .lasts })
 withProperty g (PropertyValue.End t) =
-    record {
-      repeated = g .repeated || timeGiven (g .end);
-      start = g .start;
-      end = TimeGiven.Given t;
-      lasts = g .lasts;
-      repeats = g .repeats;
-      status = g .status;
-      transparency = g .transparency;
-    }
+    withSpan g (timeGiven (g .span .end)) (record { start = g .span .start; end = TimeGiven.Given t; lasts = g .span .lasts })
 withProperty g (PropertyValue.Lasts d) =
-    record {
-      repeated = g .repeated || durationGiven (g .lasts);
-      start = g .start;
-      end = g .end;
-      lasts = DurationGiven.Given d;
-      repeats = g .repeats;
-      status = g .status;
-      transparency = g .transparency;
-    }
+    withSpan g (durationGiven (g .span .lasts)) (record { start = g .span .start; end = g .span .end; lasts = DurationGiven.Given d })
 withProperty g (PropertyValue.Repeats r) =
-    record {
-      repeated = g .repeated || ruleGiven (g .repeats);
-      start = g .start;
-      end = g .end;
-      lasts = g .lasts;
-      repeats = RuleGiven.Given r;
-      status = g .status;
-      transparency = g .transparency;
-    }
+    record { repeated = g .repeated || ruleGiven (g .repeats); span = g .span; repeats = RuleGiven.Given r; busy = g .busy }
 withProperty g (PropertyValue.HasStatus s) =
-    record {
-      repeated = g .repeated || statusGiven (g .status);
-      start = g .start;
-      end = g .end;
-      lasts = g .lasts;
-      repeats = g .repeats;
-      status = StatusGiven.Given s;
-      transparency = g .transparency;
-    }
+    withBusy g (statusGiven (g .busy .status)) (record { status = StatusGiven.Given s; transparency = g .busy .transparency })
 withProperty g (PropertyValue.Transparent t) =
-    record {
-      repeated = g .repeated || transparencyGiven (g .transparency);
-      start = g .start;
-      end = g .end;
-      lasts = g .lasts;
-      repeats = g .repeats;
-      status = g .status;
-      transparency = TransparencyGiven.Given t;
-    }
+    withBusy g (transparencyGiven (g .busy .transparency)) (record { status = g .busy .status; transparency = TransparencyGiven.Given t })
 withProperty g (PropertyValue.HasPeriods b) = g
 
 unfoldable pub withProperties : ComponentProperties → List PropertyValue → ComponentProperties

@@ -95,7 +95,7 @@ eventMade s g e r =
       days = daysBy (g .repeats);
       interval = intervalBy (g .repeats);
       repeat = r;
-      busy = busyBy (g .transparency) (g .status);
+      busy = busyBy (g .busy .transparency) (g .busy .status);
     }
 
 unfoldable pub eventWith : Time → ComponentProperties → EndingRead → RepeatRead → EventRead
@@ -106,11 +106,11 @@ eventWith s g EndingRead.Broken r = EventRead.Broken
 -- exactly one DTSTART
 unfoldable pub eventFrom : TimeGiven → ComponentProperties → EventRead
 eventFrom TimeGiven.Absent g = EventRead.Broken
-eventFrom (TimeGiven.Given s) g = eventWith s g (endingBy s (g .end) (g .lasts)) (repeatBy s (g .repeats))
+eventFrom (TimeGiven.Given s) g = eventWith s g (endingBy s (g .span .end) (g .span .lasts)) (repeatBy s (g .repeats))
 
 -- A VEVENT, by what its lines say
 unfoldable pub eventBy : ComponentProperties → EventRead
-eventBy g = cond (g .repeated) EventRead.Broken (eventFrom (g .start) g)
+eventBy g = cond (g .repeated) EventRead.Broken (eventFrom (g .span .start) g)
 
 -- if both, DTEND is later
 unfoldable pub blockBetween : ℕ → ℕ → BlockRead
@@ -124,7 +124,7 @@ blockFrom (TimeGiven.Given s) (TimeGiven.Given e) = blockBetween (s .second) (e 
 
 -- A VFREEBUSY, by what its lines say: at most one DTSTART and one DTEND
 unfoldable pub blockBy : ComponentProperties → BlockRead
-blockBy g = cond (g .repeated) BlockRead.Broken (blockFrom (g .start) (g .end))
+blockBy g = cond (g .repeated) BlockRead.Broken (blockFrom (g .span .start) (g .span .end))
 
 -- what a calendar holds: events, and blocks with their periods
 pub data Entry : Type 0 where

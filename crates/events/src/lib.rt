@@ -77,16 +77,26 @@ pub enum TransparencyGiven {
     Absent,
 }
 
+// When it takes place.
+pub struct SpanProperties {
+    pub start: TimeGiven,
+    pub end: TimeGiven,
+    pub lasts: DurationGiven,
+}
+
+// What it counts for.
+pub struct BusyProperties {
+    pub status: StatusGiven,
+    pub transparency: TransparencyGiven,
+}
+
 // What the lines of a component say together.
 pub struct ComponentProperties {
     // Does a line stand twice that may stand once?
     pub repeated: bool,
-    pub start: TimeGiven,
-    pub end: TimeGiven,
-    pub lasts: DurationGiven,
+    pub span: SpanProperties,
     pub repeats: RuleGiven,
-    pub status: StatusGiven,
-    pub transparency: TransparencyGiven,
+    pub busy: BusyProperties,
 }
 
 pub enum EndingRead {

@@ -1,8 +1,10 @@
 // What the lines of a component say together, one line after another.
 // Of a property that stands twice the last is kept, and that it was repeated.
+use crate::BusyProperties;
 use crate::ComponentProperties;
 use crate::DurationGiven;
 use crate::RuleGiven;
+use crate::SpanProperties;
 use crate::StatusGiven;
 use crate::TimeGiven;
 use crate::TransparencyGiven;
@@ -12,19 +14,25 @@ use values::rule::Rule;
 use values::times::Time;
 ghost use mathlib.Core.Path.{_≡_};
 ghost use Rattle.property.specs.declared.PropertyValue.{PropertyValue};
-ghost use Rattle.events.specs.ComponentProperties.{timeGiven, durationGiven, ruleGiven, statusGiven, transparencyGiven, noProperties, withProperty};
+ghost use Rattle.events.specs.ComponentProperties.{timeGiven, durationGiven, ruleGiven, statusGiven, transparencyGiven, noProperties, withSpan, withBusy, withProperty};
 
 pub fn no_properties() -> ComponentProperties
     ensures { λ r. ⌜ r ≡ noProperties ⌝ }
 {
-    ComponentProperties {
-        repeated: false,
+    let span = SpanProperties {
         start: TimeGiven::Absent,
         end: TimeGiven::Absent,
         lasts: DurationGiven::Absent,
-        repeats: RuleGiven::Absent,
+    };
+    let busy = BusyProperties {
         status: StatusGiven::Absent,
         transparency: TransparencyGiven::Absent,
+    };
+    ComponentProperties {
+        repeated: false,
+        span,
+        repeats: RuleGiven::Absent,
+        busy,
     }
 }
 
@@ -73,128 +81,118 @@ fn transparency_given(g: TransparencyGiven) -> bool
     }
 }
 
+// A line more of when it takes place; was its property there before?
+fn with_span(g: ComponentProperties, again: bool, span: SpanProperties) -> ComponentProperties
+    ensures { λ r. ⌜ r ≡ withSpan g again span ⌝ }
+{
+    let repeated = g.repeated;
+    let repeats = g.repeats;
+    let busy = g.busy;
+    ComponentProperties {
+        repeated: repeated | again,
+        span,
+        repeats,
+        busy,
+    }
+}
+
+// A line more of what it counts for.
+fn with_busy(g: ComponentProperties, again: bool, busy: BusyProperties) -> ComponentProperties
+    ensures { λ r. ⌜ r ≡ withBusy g again busy ⌝ }
+{
+    let repeated = g.repeated;
+    let span = g.span;
+    let repeats = g.repeats;
+    ComponentProperties {
+        repeated: repeated | again,
+        span,
+        repeats,
+        busy,
+    }
+}
+
 pub fn with_start(g: ComponentProperties, t: Time) -> ComponentProperties
     ensures { λ r. ⌜ r ≡ withProperty g (PropertyValue.Start t) ⌝ }
 {
-    let repeated = g.repeated;
-    let start = g.start;
-    let end = g.end;
-    let lasts = g.lasts;
-    let repeats = g.repeats;
-    let status = g.status;
-    let transparency = g.transparency;
-    ComponentProperties {
-        repeated: repeated | time_given(start),
+    let span = g.span;
+    let start = span.start;
+    let end = span.end;
+    let lasts = span.lasts;
+    let more = SpanProperties {
         start: TimeGiven::Given(t),
         end,
         lasts,
-        repeats,
-        status,
-        transparency,
-    }
+    };
+    with_span(g, time_given(start), more)
 }
 
 pub fn with_end(g: ComponentProperties, t: Time) -> ComponentProperties
     ensures { λ r. ⌜ r ≡ withProperty g (PropertyValue.End t) ⌝ }
 {
-    let repeated = g.repeated;
-    let start = g.start;
-    let end = g.end;
-    let lasts = g.lasts;
-    let repeats = g.repeats;
-    let status = g.status;
-    let transparency = g.transparency;
-    ComponentProperties {
-        repeated: repeated | time_given(end),
+    let span = g.span;
+    let start = span.start;
+    let end = span.end;
+    let lasts = span.lasts;
+    let more = SpanProperties {
         start,
         end: TimeGiven::Given(t),
         lasts,
-        repeats,
-        status,
-        transparency,
-    }
+    };
+    with_span(g, time_given(end), more)
 }
 
 pub fn with_lasts(g: ComponentProperties, d: Duration) -> ComponentProperties
     ensures { λ r. ⌜ r ≡ withProperty g (PropertyValue.Lasts d) ⌝ }
 {
-    let repeated = g.repeated;
-    let start = g.start;
-    let end = g.end;
-    let lasts = g.lasts;
-    let repeats = g.repeats;
-    let status = g.status;
-    let transparency = g.transparency;
-    ComponentProperties {
-        repeated: repeated | duration_given(lasts),
+    let span = g.span;
+    let start = span.start;
+    let end = span.end;
+    let lasts = span.lasts;
+    let more = SpanProperties {
         start,
         end,
         lasts: DurationGiven::Given(d),
-        repeats,
-        status,
-        transparency,
-    }
+    };
+    with_span(g, duration_given(lasts), more)
 }
 
 pub fn with_repeats(g: ComponentProperties, x: Rule) -> ComponentProperties
     ensures { λ r. ⌜ r ≡ withProperty g (PropertyValue.Repeats x) ⌝ }
 {
     let repeated = g.repeated;
-    let start = g.start;
-    let end = g.end;
-    let lasts = g.lasts;
+    let span = g.span;
     let repeats = g.repeats;
-    let status = g.status;
-    let transparency = g.transparency;
+    let busy = g.busy;
     ComponentProperties {
         repeated: repeated | rule_given(repeats),
-        start,
-        end,
-        lasts,
+        span,
         repeats: RuleGiven::Given(x),
-        status,
-        transparency,
+        busy,
     }
 }
 
 pub fn with_status(g: ComponentProperties, x: Status) -> ComponentProperties
     ensures { λ r. ⌜ r ≡ withProperty g (PropertyValue.HasStatus x) ⌝ }
 {
-    let repeated = g.repeated;
-    let start = g.start;
-    let end = g.end;
-    let lasts = g.lasts;
-    let repeats = g.repeats;
-    let status = g.status;
-    let transparency = g.transparency;
-    ComponentProperties {
-        repeated: repeated | status_given(status),
-        start,
-        end,
-        lasts,
-        repeats,
+    let busy = g.busy;
+    let status = busy.status;
+    let transparency = busy.transparency;
+    let more = BusyProperties {
         status: StatusGiven::Given(x),
         transparency,
-    }
+    };
+    with_busy(g, status_given(status), more)
 }
 
 pub fn with_transparency(g: ComponentProperties, x: bool) -> ComponentProperties
     ensures { λ r. ⌜ r ≡ withProperty g (PropertyValue.Transparent x) ⌝ }
 {
-    let repeated = g.repeated;
-    let start = g.start;
-    let end = g.end;
-    let lasts = g.lasts;
-    let repeats = g.repeats;
-    let status = g.status;
-    let transparency = g.transparency;
-    ComponentProperties {
-        repeated: repeated | transparency_given(transparency),
-        start,
-        end,
-        lasts,
-        repeats,
+    let busy = g.busy;
+    let status = busy.status;
+    let transparency = busy.transparency;
+    let more = BusyProperties {
         status,
         transparency: TransparencyGiven::Given(x),
-    }
+    };
+    with_busy(g, transparency_given(transparency), more)
 }

@@ -178,8 +178,9 @@ fn event_made(s: Time, g: ComponentProperties, ending: Ending, repeat: Repeat) -
     let kind = s.kind;
     let start = s.second;
     let rule = g.repeats;
-    let transparency = g.transparency;
-    let status = g.status;
+    let busy = g.busy;
+    let transparency = busy.transparency;
+    let status = busy.status;
     let days = days_by(rule);
     let interval = interval_by(rule);
     let busy = busy_by(transparency, status);
@@ -209,8 +210,9 @@ fn event_with(s: Time, g: ComponentProperties, ending: EndingRead, repeat: Repea
 fn event_from(start: TimeGiven, g: ComponentProperties) -> EventRead
     ensures { λ r. ⌜ r ≡ eventFrom start g ⌝ }
 {
-    let end = g.end;
-    let lasts = g.lasts;
+    let span = g.span;
+    let end = span.end;
+    let lasts = span.lasts;
     let rule = g.repeats;
     match start {
         TimeGiven::Absent => EventRead::Broken,
@@ -222,7 +224,8 @@ fn event_from(start: TimeGiven, g: ComponentProperties) -> EventRead
 pub fn event_by(g: ComponentProperties) -> EventRead
     ensures { λ r. ⌜ r ≡ eventBy g ⌝ }
 {
-    let start = g.start;
+    let span = g.span;
+    let start = span.start;
     if g.repeated {
         return EventRead::Broken;
     }
@@ -271,8 +274,9 @@ fn block_from(start: TimeGiven, end: TimeGiven) -> BlockRead
 pub fn block_by(g: ComponentProperties) -> BlockRead
     ensures { λ r. ⌜ r ≡ blockBy g ⌝ }
 {
-    let start = g.start;
-    let end = g.end;
+    let span = g.span;
+    let start = span.start;
+    let end = span.end;
     if g.repeated {
         return BlockRead::Broken;
     }

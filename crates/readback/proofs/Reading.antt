@@ -34,7 +34,7 @@ use Rattle.nesting.specs.WellNested.{numberedFrom}
 use Rattle.nesting.specs.Components.{propertiesIn}
 use Rattle.report.specs.Bytes.{Report, periodText, GoodPeriods, Writable, reportBytes}
 use Rattle.report.specs.Bytes as Report
-use Rattle.events.specs.ComponentProperties.{withProperty, withProperties, noProperties, timeGiven}
+use Rattle.events.specs.ComponentProperties.{withProperty, withSpan, withBusy, withProperties, noProperties, timeGiven}
 use Rattle.events.specs.declared.ComponentProperties.{ComponentProperties}
 use Rattle.events.specs.Events.{blockBetween, blockFrom, blockBy, block}
 use Rattle.events.specs.declared.Bound.{Bound}
@@ -123,7 +123,7 @@ module _ (c : Context) where
 
   pub periods-add-nothing : (i : ℕ) (a : ComponentProperties) {ts : List BusyPeriod} → AllGood ts
       → withProperties a (propertyValuesIn c Scope.FreeBusy (numberedFrom i (map periodLine ts))) ≡ a
-  unfolding propertyValuesIn numberedFrom withProperties withProperty
+  unfolding propertyValuesIn numberedFrom withProperties withProperty withSpan withBusy
   periods-add-nothing i a no-period = refl
   periods-add-nothing i a (one-good {t} {ts} g gs) =
       ap (λ (s : PropertyValue). withProperties (withProperty a s) (propertyValuesIn c Scope.FreeBusy (numberedFrom (suc i) (map periodLine ts)))) (period-value c g)
@@ -221,7 +221,7 @@ module _ (c : Context) {r : Report} (w : Writable r) where
       rw (stamp-value c, start-value c (r .start) start-limit, end-value c (r .end) end-limit) (periods-faultless c 8 ValueCheck.Good (periods-good w))
 
   lines-block : blockBy (withProperties noProperties (propertyValuesIn c Scope.FreeBusy (numberedFrom 5 (blockContent r)))) ≡ BlockRead.Of (reportBlock r)
-  unfolding blockContent numberedFrom propertyValuesIn withProperties withProperty noProperties timeGiven blockBy blockFrom
+  unfolding blockContent numberedFrom propertyValuesIn withProperties withProperty withSpan withBusy noProperties timeGiven blockBy blockFrom
   lines-block =
       rw (stamp-value c, start-value c (r .start) start-limit, end-value c (r .end) end-limit, periods-add-nothing c 8 _ (periods-good w))
       (between-rising (r .start) (r .end) (w .start-first))

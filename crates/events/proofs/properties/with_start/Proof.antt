@@ -7,9 +7,12 @@ use Rattle.events.proofs.properties.with_start.Tie as tie
 time-given-requires : tie.Need-time-given-requires
 time-given-requires c κs = search needs
 
+with-span-requires : tie.Need-with-span-requires
+with-span-requires c κs = search needs
+
 returns : tie.Need-returns
 unfolding withProperty
-returns c = simp (c .time-given .ensures)
+returns c = simp (c .with-span .ensures, c .before .time-given .ensures)
 
 pub with-start-spec : {M : Type 1} → statement M
-with-start-spec = tie.close (tie.spec time-given-requires returns)
+with-start-spec = tie.close (tie.spec time-given-requires with-span-requires returns)

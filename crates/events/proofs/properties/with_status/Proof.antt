@@ -7,9 +7,12 @@ use Rattle.events.proofs.properties.with_status.Tie as tie
 status-given-requires : tie.Need-status-given-requires
 status-given-requires c κs = search needs
 
+with-busy-requires : tie.Need-with-busy-requires
+with-busy-requires c κs = search needs
+
 returns : tie.Need-returns
 unfolding withProperty
-returns c = simp (c .status-given .ensures)
+returns c = simp (c .with-busy .ensures, c .before .status-given .ensures)
 
 pub with-status-spec : {M : Type 1} → statement M
-with-status-spec = tie.close (tie.spec status-given-requires returns)
+with-status-spec = tie.close (tie.spec status-given-requires with-busy-requires returns)
