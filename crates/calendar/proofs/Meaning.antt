@@ -3,15 +3,13 @@ use Prim.Native.Nat.{ℕ}
 use mathlib.Core.Path.{_≡_, refl, ap, _∙_, sym, subst}
 use mathlib.Core.List.{List, [], _∷_, List·Memᴰ, List·Memᴰ·not-nil, List·Memᴰ·append-cases, List·Memᴰ·eq-of-singleton}
 use native.Mathlib.Omega.{arith}
-use Rattle.line.specs.WellFormed.{lineCheck}
-use Rattle.line.specs.declared.check.LineCheck.{LineCheck}
+use Rattle.line.specs.WellFormed.{lineCheck, LineCheck, allGood, badLine}
 use Rattle.nesting.specs.Nesting.{nestingOf}
 use Rattle.nesting.specs.Files.{nestingIn, structureBy}
-use Rattle.nesting.specs.declared.Nesting.{Nesting}
 use Rattle.nesting.specs.declared.Structure.{Structure}
 use Rattle.values.specs.declared.times.Context.{Context}
 use Rattle.events.specs.Events.{Entry, event, block}
-use Rattle.calendar.specs.Meaning.{Meaning, fault, calendar, byRules, byValues, byNesting, byLines, valueFault, ruleFault, entriesOf, fileLines, componentsOf, contentsOf, meaningOf, faultOf, structureFault, structureRefusal, propertyValuesIn, eventOf, blockOf, eventEntry, blockEntry, entryOf, componentScope}
+use Rattle.calendar.specs.Meaning.{Meaning, fault, calendar, byRules, byValues, byLines, valueFault, ruleFault, entriesOf, fileLines, componentsOf, contentsOf, meaningOf, faultOf, structureFault, structureRefusal, propertyValuesIn, eventOf, blockOf, eventEntry, blockEntry, entryOf, componentScope}
 use Rattle.calendar.specs.declared.ValueCheck.{ValueCheck}
 use Rattle.calendar.specs.declared.RuleCheck.{RuleCheck}
 use Rattle.calendar.specs.declared.Fault.{Fault}
@@ -22,24 +20,17 @@ use Rattle.property.specs.declared.Scope.{Scope}
 use Rattle.property.proofs.Properties.{propertyValueOf-small}
 use Rattle.nesting.specs.Components.{Numbered, Component, propertiesIn}
 use Rattle.periods.specs.BusyTypes.{BusyPeriod}
-use Rattle.events.specs.Sizes.{EventSmall, BlockSmall}
+use Rattle.events.specs.Sizes.{EventSmall}
 use Rattle.events.specs.declared.Event.{Event}
-use Rattle.events.specs.declared.Block.{Block}
 use Rattle.events.specs.declared.EventRead.{EventRead}
 use Rattle.events.specs.declared.BlockRead.{BlockRead}
 use Rattle.events.proofs.ComponentPropertiesLaws.{AllSmall}
-use Rattle.events.proofs.Sizes.{event-small, block-small}
+use Rattle.events.proofs.Sizes.{event-small}
 
 -- the nesting that the check reads is that of the file's lines
 pub nesting-file : (u : List ℕ) → nestingIn u ≡ nestingOf (fileLines u)
 unfolding nestingIn fileLines
 nesting-file u = refl
-
--- a calendar with a fault means that fault
-pub has-fault : (m : Meaning) (n i : ℕ) → faultOf m ≡ Fault.At n i → m ≡ fault n i
-unfolding faultOf
-has-fault (fault k j) n i e = cc
-has-fault (calendar es) n i e = let z : _≡_ {A = ℕ} 0 1 = cc in absurd (omega arith)
 
 rules-good : (k : RuleCheck) (es : List Entry) → faultOf (byRules k es) ≡ Fault.None → byRules k es ≡ calendar es
 unfolding faultOf byRules
@@ -52,15 +43,10 @@ values-good ValueCheck.Good m e = (refl, e)
 values-good (ValueCheck.Unsupported n) m e = let z : _≡_ {A = ℕ} 0 1 = cc in absurd (omega arith)
 values-good (ValueCheck.Bad n) m e = let z : _≡_ {A = ℕ} 0 1 = cc in absurd (omega arith)
 
-nesting-good : (k : Nesting) (m : Meaning) → faultOf (byNesting k m) ≡ Fault.None → (byNesting k m ≡ m) × (faultOf m ≡ Fault.None)
-unfolding faultOf byNesting
-nesting-good Nesting.Good m e = (refl, e)
-nesting-good (Nesting.BadLine n) m e = let z : _≡_ {A = ℕ} 0 1 = cc in absurd (omega arith)
-
-lines-good : (k : LineCheck) (m : Meaning) → faultOf (byLines k m) ≡ Fault.None → (byLines k m ≡ m) × (faultOf m ≡ Fault.None)
+lines-good : (i : ℕ) (k : LineCheck) (m : Meaning) → faultOf (byLines i k m) ≡ Fault.None → (byLines i k m ≡ m) × (faultOf m ≡ Fault.None)
 unfolding faultOf byLines
-lines-good LineCheck.Good m e = (refl, e)
-lines-good (LineCheck.BadLine n) m e = let z : _≡_ {A = ℕ} 0 1 = cc in absurd (omega arith)
+lines-good i allGood m e = (refl, e)
+lines-good i (badLine n) m e = let z : _≡_ {A = ℕ} 0 1 = cc in absurd (omega arith)
 
 -- a calendar without a fault means its events and blocks
 pub no-fault : (c : Context) (u : List ℕ) → faultOf (meaningOf c u) ≡ Fault.None → meaningOf c u ≡ calendar (entriesOf c (componentsOf u))
@@ -68,56 +54,56 @@ unfolding meaningOf contentsOf
 no-fault c u e =
     let ks = componentsOf u in
     let rules = byRules (ruleFault c ks) (entriesOf c ks) in
-    let l = lines-good (lineCheck u) (byNesting (nestingOf (fileLines u)) (contentsOf c u)) e in
-    let n = nesting-good (nestingOf (fileLines u)) (contentsOf c u) (l .1) in
+    let l = lines-good 6 (lineCheck u) (byLines 7 (nestingOf (fileLines u)) (contentsOf c u)) e in
+    let n = lines-good 7 (nestingOf (fileLines u)) (contentsOf c u) (l .1) in
     let v = values-good (valueFault c ks) rules (n .1) in
     l .0 ∙ n .0 ∙ v .0 ∙ rules-good (ruleFault c ks) (entriesOf c ks) (v .1)
 
 -- ---- each refusal exactly where its check fails and those before it pass
 
 module _ (c : Context) (u : List ℕ) where
-  pub refused-6 : (n : ℕ) → lineCheck u ≡ LineCheck.BadLine n → meaningOf c u ≡ fault 6 n
+  pub refused-6 : (n : ℕ) → lineCheck u ≡ badLine n → meaningOf c u ≡ fault 6 n
   unfolding meaningOf byLines
   refused-6 n h = rw h
 
-  module _ (l : lineCheck u ≡ LineCheck.Good) where
-    pub refused-7 : (n : ℕ) → nestingOf (fileLines u) ≡ Nesting.BadLine n → meaningOf c u ≡ fault 7 n
-    unfolding meaningOf byLines byNesting
+  module _ (l : lineCheck u ≡ allGood) where
+    pub refused-7 : (n : ℕ) → nestingOf (fileLines u) ≡ badLine n → meaningOf c u ≡ fault 7 n
+    unfolding meaningOf byLines
     refused-7 n h = rw (l, h)
 
-    module _ (k : nestingOf (fileLines u) ≡ Nesting.Good) where
+    module _ (k : nestingOf (fileLines u) ≡ allGood) where
       pub refused-8 : (n : ℕ) → valueFault c (componentsOf u) ≡ ValueCheck.Unsupported n → meaningOf c u ≡ fault 8 n
-      unfolding meaningOf byLines byNesting contentsOf byValues
+      unfolding meaningOf byLines contentsOf byValues
       refused-8 n h = rw (l, k, h)
 
       pub refused-9 : (n : ℕ) → valueFault c (componentsOf u) ≡ ValueCheck.Bad n → meaningOf c u ≡ fault 9 n
-      unfolding meaningOf byLines byNesting contentsOf byValues
+      unfolding meaningOf byLines contentsOf byValues
       refused-9 n h = rw (l, k, h)
 
       pub refused-10 : (n : ℕ) → valueFault c (componentsOf u) ≡ ValueCheck.Good → ruleFault c (componentsOf u) ≡ RuleCheck.Broken n
           → meaningOf c u ≡ fault 10 n
-      unfolding meaningOf byLines byNesting contentsOf byValues byRules
+      unfolding meaningOf byLines contentsOf byValues byRules
       refused-10 n v h = rw (l, k, v, h)
 
       pub not-refused : valueFault c (componentsOf u) ≡ ValueCheck.Good → ruleFault c (componentsOf u) ≡ RuleCheck.Good
           → meaningOf c u ≡ calendar (entriesOf c (componentsOf u))
-      unfolding meaningOf byLines byNesting contentsOf byValues byRules
+      unfolding meaningOf byLines contentsOf byValues byRules
       not-refused v h = rw (l, k, v, h)
 
 -- ---- refusals 6 and 7
 
-refusal-by : (c : LineCheck) (k : Nesting) → structureRefusal (structureBy c k) ≡ faultOf (byLines c (byNesting k (calendar [])))
-unfolding structureBy byLines byNesting faultOf
-refusal-by (LineCheck.BadLine n) k = refl
-refusal-by LineCheck.Good (Nesting.BadLine n) = refl
-refusal-by LineCheck.Good Nesting.Good = refl
+refusal-by : (c k : LineCheck) → structureRefusal (structureBy c k) ≡ faultOf (byLines 6 c (byLines 7 k (calendar [])))
+unfolding structureBy byLines faultOf
+refusal-by (badLine n) k = refl
+refusal-by allGood (badLine n) = refl
+refusal-by allGood allGood = refl
 
 pub structure-refusal : (u : List ℕ) {r : Structure} → r ≡ structureBy (lineCheck u) (nestingIn u) → structureRefusal r ≡ structureFault u
 unfolding structureFault
 structure-refusal u e =
     ap structureRefusal e
     ∙ refusal-by (lineCheck u) (nestingIn u)
-    ∙ ap (λ (k : Nesting). faultOf (byLines (lineCheck u) (byNesting k (calendar [])))) (nesting-file u)
+    ∙ ap (λ (k : LineCheck). faultOf (byLines 6 (lineCheck u) (byLines 7 k (calendar [])))) (nesting-file u)
 
 pub no-refusal : (r : Structure) → structureRefusal r ≡ Fault.None → r ≡ Structure.Good
 no-refusal (Structure.BadLine n) e = let z : _≡_ {A = ℕ} 0 1 = cc in absurd (omega arith)
@@ -134,10 +120,6 @@ property-values-small c o (x ∷ xs) = AllSmall.then (propertyValueOf-small c o 
 pub eventOf-small : (c : Context) (k : Component) (e : Event) → eventOf c k ≡ EventRead.Of e → EventSmall e
 unfolding eventOf
 eventOf-small c k e q = event-small _ e (property-values-small c Scope.Event (propertiesIn (k .items))) q
-
-pub blockOf-small : (c : Context) (k : Component) (b : Block) → blockOf c k ≡ BlockRead.Of b → BlockSmall b
-unfolding blockOf
-blockOf-small c k b q = block-small _ b (property-values-small c Scope.FreeBusy (propertiesIn (k .items))) q
 
 -- ---- the entries of a calendar
 

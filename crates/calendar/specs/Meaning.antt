@@ -5,8 +5,7 @@ use mathlib.Core.List.{List, [], _∷_, _++_, map}
 use Rattle.text.specs.Lines.{contentLines}
 use Rattle.line.specs.Grammar.{ContentLine}
 use Rattle.line.specs.Reading.{lineOf}
-use Rattle.line.specs.WellFormed.{lineCheck}
-use Rattle.line.specs.declared.check.LineCheck.{LineCheck}
+use Rattle.line.specs.WellFormed.{lineCheck, LineCheck, allGood, badLine}
 use Rattle.delimiters.specs.Innermost.{isEvent, isFreeBusy}
 use Rattle.values.specs.Period.{periodItems, goodPeriods}
 use Rattle.values.specs.declared.times.Context.{Context}
@@ -15,7 +14,6 @@ use Rattle.property.specs.declared.Scope.{Scope}
 use Rattle.property.specs.declared.PropertyValue.{PropertyValue}
 use Rattle.nesting.specs.Nesting.{nestingOf}
 use Rattle.nesting.specs.Components.{Numbered, Component, treeOf, itemsBelow, componentsIn, propertiesIn}
-use Rattle.nesting.specs.declared.Nesting.{Nesting}
 use Rattle.nesting.specs.declared.Structure.{Structure}
 use Rattle.events.specs.ComponentProperties.{noProperties, withProperties}
 use Rattle.periods.specs.BusyTypes.{BusyPeriod, typed}
@@ -152,13 +150,10 @@ byValues ValueCheck.Good m = m
 byValues (ValueCheck.Unsupported n) m = fault 8 n
 byValues (ValueCheck.Bad n) m = fault 9 n
 
-unfoldable pub byNesting : Nesting → Meaning → Meaning
-byNesting Nesting.Good m = m
-byNesting (Nesting.BadLine n) m = fault 7 n
-
-unfoldable pub byLines : LineCheck → Meaning → Meaning
-byLines LineCheck.Good m = m
-byLines (LineCheck.BadLine n) m = fault 6 n
+-- k is 6 for the lines, 7 for their nesting
+unfoldable pub byLines : ℕ → LineCheck → Meaning → Meaning
+byLines k allGood m = m
+byLines k (badLine n) m = fault k n
 
 -- what lines that are good and nested right mean
 unfoldable pub contentsOf : Context → List ℕ → Meaning
@@ -167,7 +162,7 @@ contentsOf c u =
 
 -- from the unfolded bytes and the context: the lowest of refusals 6 to 10 that applies, or what the calendar holds
 unfoldable pub meaningOf : Context → List ℕ → Meaning
-meaningOf c u = byLines (lineCheck u) (byNesting (nestingOf (fileLines u)) (contentsOf c u))
+meaningOf c u = byLines 6 (lineCheck u) (byLines 7 (nestingOf (fileLines u)) (contentsOf c u))
 
 -- the fault alone
 unfoldable pub faultOf : Meaning → Fault
@@ -176,7 +171,7 @@ faultOf (calendar es) = Fault.None
 
 -- the lowest of refusals 6 and 7 that applies
 unfoldable pub structureFault : List ℕ → Fault
-structureFault u = faultOf (byLines (lineCheck u) (byNesting (nestingOf (fileLines u)) (calendar [])))
+structureFault u = faultOf (byLines 6 (lineCheck u) (byLines 7 (nestingOf (fileLines u)) (calendar [])))
 
 -- the same by what reading the structure answers
 abbrev pub structureRefusal : Structure → Fault

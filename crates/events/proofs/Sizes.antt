@@ -15,13 +15,11 @@ use Rattle.values.specs.declared.times.Time.{Time}
 use Rattle.values.specs.declared.rule.Limit.{Limit}
 use Rattle.property.specs.declared.PropertyValue.{PropertyValue}
 use Rattle.events.specs.ComponentProperties.{noProperties, withProperties}
-use Rattle.events.specs.Events.{sameKind, isDate, statedEnd, statedDuration, endingBy, limitBy, repeatBy, daysBy, intervalBy, eventMade, eventWith, eventFrom, eventBy, blockBetween, blockFrom, blockBy}
-use Rattle.events.specs.Sizes.{EndingSmall, RepeatSmall, EventSmall, BlockSmall}
+use Rattle.events.specs.Events.{sameKind, isDate, statedEnd, statedDuration, endingBy, limitBy, repeatBy, daysBy, intervalBy, eventMade, eventWith, eventFrom, eventBy}
+use Rattle.events.specs.Sizes.{EndingSmall, RepeatSmall, EventSmall}
 use Rattle.events.specs.declared.Ending.{Ending}
 use Rattle.events.specs.declared.Repeat.{Repeat}
 use Rattle.events.specs.declared.Event.{Event}
-use Rattle.events.specs.declared.Bound.{Bound}
-use Rattle.events.specs.declared.Block.{Block}
 use Rattle.events.specs.declared.ComponentProperties.{ComponentProperties}
 use Rattle.events.specs.declared.TimeGiven.{TimeGiven}
 use Rattle.events.specs.declared.DurationGiven.{DurationGiven}
@@ -29,7 +27,6 @@ use Rattle.events.specs.declared.RuleGiven.{RuleGiven}
 use Rattle.events.specs.declared.EndingRead.{EndingRead}
 use Rattle.events.specs.declared.RepeatRead.{RepeatRead}
 use Rattle.events.specs.declared.EventRead.{EventRead}
-use Rattle.events.specs.declared.BlockRead.{BlockRead}
 use Rattle.events.proofs.ComponentPropertiesLaws.{TimeSmall, LastsSmall, RepeatsSmall, ComponentPropertiesSmall, nothing-small, AllSmall, with-properties-small}
 
 -- ---- what lines say together
@@ -138,50 +135,3 @@ pub event-small : (ss : List PropertyValue) (e : Event) → AllSmall ss → even
 event-small ss e h q = eventBy-small _ e (with-properties-small ss noProperties nothing-small h) q
 
 -- ---- the block
-
-between-small : (s e : ℕ) (b : Block) → s ≤ lastSecond → e ≤ lastSecond → blockBetween s e ≡ BlockRead.Of b → BlockSmall b
-unfolding blockBetween
-between-small s e b h k q = go (ltb s e) refl q
-  where
-    go : (t : Bool) → ltb s e ≡ t → cond t (BlockRead.Of (record { start = Bound.At s; end = Bound.At e })) BlockRead.Broken ≡ BlockRead.Of b
-        → BlockSmall b
-    go true p m =
-        let z : record { start = Bound.At s; end = Bound.At e } ≡ b = cc in
-        let w : BlockSmall (record { start = Bound.At s; end = Bound.At e }) =
-        record {
-          start-small = h;
-          end-small = k;
-          rising = λ x y a d. let i : s ≡ x = cc in let j : e ≡ y = cc in omega (arith, ltb-true s e p);
-        } in
-        subst BlockSmall z w
-    go false p m = let z : _≡_ {A = ℕ} 0 1 = cc in absurd (omega arith)
-
-blockFrom-small : (s e : TimeGiven) (b : Block) → TimeSmall s → TimeSmall e → blockFrom s e ≡ BlockRead.Of b → BlockSmall b
-unfolding blockFrom
-blockFrom-small TimeGiven.Absent TimeGiven.Absent b h k q =
-    let z : record { start = Bound.None; end = Bound.None } ≡ b = cc in
-    let w : BlockSmall (record { start = Bound.None; end = Bound.None }) =
-    record { start-small = tt; end-small = tt; rising = λ x y a d. let i : _≡_ {A = ℕ} 0 1 = cc in absurd (omega arith) } in
-    subst BlockSmall z w
-blockFrom-small (TimeGiven.Given s) TimeGiven.Absent b h k q =
-    let z : record { start = Bound.At (s .second); end = Bound.None } ≡ b = cc in
-    let w : BlockSmall (record { start = Bound.At (s .second); end = Bound.None }) =
-    record { start-small = h; end-small = tt; rising = λ x y a d. let i : _≡_ {A = ℕ} 0 1 = cc in absurd (omega arith) } in
-    subst BlockSmall z w
-blockFrom-small TimeGiven.Absent (TimeGiven.Given e) b h k q =
-    let z : record { start = Bound.None; end = Bound.At (e .second) } ≡ b = cc in
-    let w : BlockSmall (record { start = Bound.None; end = Bound.At (e .second) }) =
-    record { start-small = tt; end-small = k; rising = λ x y a d. let i : _≡_ {A = ℕ} 0 1 = cc in absurd (omega arith) } in
-    subst BlockSmall z w
-blockFrom-small (TimeGiven.Given s) (TimeGiven.Given e) b h k q = between-small (s .second) (e .second) b h k q
-
-blockBy-small : (g : ComponentProperties) (b : Block) → ComponentPropertiesSmall g → blockBy g ≡ BlockRead.Of b → BlockSmall b
-unfolding blockBy
-blockBy-small g b r q = go (g .repeated) q
-  where
-    go : (t : Bool) → cond t BlockRead.Broken (blockFrom (g .span .start) (g .span .end)) ≡ BlockRead.Of b → BlockSmall b
-    go true k = let z : _≡_ {A = ℕ} 0 1 = cc in absurd (omega arith)
-    go false k = blockFrom-small (g .span .start) (g .span .end) b (r .start-small) (r .end-small) k
-
-pub block-small : (ss : List PropertyValue) (b : Block) → AllSmall ss → blockBy (withProperties noProperties ss) ≡ BlockRead.Of b → BlockSmall b
-block-small ss b h q = blockBy-small _ b (with-properties-small ss noProperties nothing-small h) q

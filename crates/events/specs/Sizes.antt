@@ -1,13 +1,10 @@
 -- How large the numbers of an event and of a block are, for sums and products over them.
 use Prim.Native.Nat.{ℕ, _≤_, _<_}
-use mathlib.Core.Path.{_≡_}
 use Rattle.time.specs.Limits.{lastSecond}
 use Rattle.values.specs.Period.{DurationSmall}
 use Rattle.events.specs.declared.Ending.{Ending}
 use Rattle.events.specs.declared.Repeat.{Repeat}
 use Rattle.events.specs.declared.Event.{Event}
-use Rattle.events.specs.declared.Bound.{Bound}
-use Rattle.events.specs.declared.Block.{Block}
 
 -- of an event that starts at this second
 abbrev pub EndingSmall : ℕ → Ending → Type 0
@@ -29,12 +26,3 @@ pub record EventSmall (e : Event) : Type 0 where
   pub few-interval : e .interval ≤ 999
   pub ending-small : EndingSmall (e .start) (e .ending)
   pub repeat-small : RepeatSmall (e .start) (e .repeat)
-
-abbrev pub BoundSmall : Bound → Type 0
-BoundSmall (Bound.At t) = t ≤ lastSecond
-BoundSmall Bound.None = Unit {0}
-
-pub record BlockSmall (b : Block) : Type 0 where
-  pub start-small : BoundSmall (b .start)
-  pub end-small : BoundSmall (b .end)
-  pub rising : (s e : ℕ) → b .start ≡ Bound.At s → b .end ≡ Bound.At e → s < e

@@ -1,5 +1,5 @@
 -- The table of examples holds: each claim has a test that computes, and the test is sound.
-use Prim.Native.Nat.{ℕ, _+_, _<_}
+use Prim.Native.Nat.{ℕ, _+_}
 use mathlib.Core.Path.{_≡_, refl, ap, _∙_}
 use mathlib.Core.Bool.{Bool, true, false, not, _&&_}
 use mathlib.Core.List.{List, [], _∷_}
@@ -37,7 +37,7 @@ use Rattle.table.specs.Runs.{lead, leadIf, runs}
 use Rattle.events.specs.ComponentProperties.{noProperties, timeGiven, durationGiven, ruleGiven, withProperty, withSpan, withBusy, withProperties}
 use Rattle.events.specs.Events.{Entry, event, block, kindNumber, sameKind, isDate, statedEnd, statedDuration, endingBy, limitBy, repeatBy, daysBy, intervalBy, busyByStatus, busyBy, eventMade, eventWith as eventEnding, eventFrom, eventBy, blockFrom, blockBy}
 use Rattle.events.specs.declared.Event.{Event}
-use Rattle.calendar.specs.Meaning.{Meaning, fault, calendar, scopeOf, componentScope, propertyValuesIn, faultOr, faultIn, valueFault, eventOf, blockOf, isBroken, brokenOr, ruleFault, periodsBy, blockPeriods, entryOf, entriesOf, fileLines, componentsOf, byRules, byValues, byNesting, byLines, contentsOf, meaningOf}
+use Rattle.calendar.specs.Meaning.{Meaning, fault, calendar, scopeOf, componentScope, propertyValuesIn, faultOr, faultIn, valueFault, eventOf, blockOf, isBroken, brokenOr, ruleFault, periodsBy, blockPeriods, entryOf, entriesOf, fileLines, componentsOf, byRules, byValues, byLines, contentsOf, meaningOf}
 use Rattle.recurrence.specs.Candidates.{firstAt, spanOf, candidateOf, startsBefore}
 use Rattle.recurrence.specs.Instances.{stepOf, startOf, repeats, isInstance, occurs, defaultLength, lengthBy, isZeroLength, endOf}
 use Rattle.recurrence.specs.TimeRange.{EventIn, Decides, endsAfter, instanceIn}
@@ -210,5 +210,5 @@ all-hold (c ∷ cs) h = (sound c (and-left (test c) (tests cs) h), all-hold cs (
 
 -- document 01, Examples at the edges: every row holds
 pub edges : All table
-unfolding table calendarBytes meaningWith eventWith blockWith startingAt lasting isFault startsAt hasLength ofEvent ofEntries inRange isLast hasPeriods tests test isUtc samePeriod samePeriods isDigit upper sameName firstOutside before after splitParts headOf valueOf nameOf parameterTexts lineOf parametersNamed someList hasParameter hasTwice hasList digitPair pairAt joined yearAt checkedDay three dateAt checkedTime timeAt clockOf clockAt readDateTime isLeap yearDays daysBeforeYear monthLengths lengthIn beforeIn monthDays daysBeforeMonth dayNumber isDay timeStart nextStage weightOf blank withDigit fitting unitTo withUnit step textRuns finish durationText durationSeconds withinLimit limited readDuration epoch since utcSecond timesOr eventProperty propertyOf timeIn startBy unlessZoned durationBy valueAs propertyValueOf beforePeriods withPeriods atSecond timeBy readTime formOf timeOf reportPlace sameBusy faultOr byValues secondIn covers lead leadIf runs firstAt spanOf startsBefore stepOf startOf repeats isInstance occurs defaultLength lengthBy isZeroLength endOf endsAfter instanceIn entryPeriods busyPeriods ofType coveredBy covered isLetter isNameByte isControl isName isBreak isBlank isFold unfolded cut contentLines scanStep isEnding scan isWellFormed lineCheckFrom lineCheck plainSplit valuesNamed firstValue delimiterOf isCalendar isEvent isFreeBusy mayBegin afterBegin afterEnd afterProperty walk outcome nestingOf delimitedFrom itemsOf treeOf componentsIn propertiesIn itemsBelow scopeOf componentScope propertyValuesIn faultIn valueFault eventOf blockOf isBroken brokenOr ruleFault periodsBy blockPeriods entryOf entriesOf fileLines componentsOf byRules byNesting byLines contentsOf meaningOf noProperties timeGiven durationGiven ruleGiven withProperty withSpan withBusy withProperties kindNumber sameKind isDate statedEnd statedDuration endingBy limitBy repeatBy daysBy intervalBy busyByStatus busyBy eventMade eventEnding eventFrom eventBy blockFrom blockBy freeBusyProperty endBy ruleValue busyNamed busyOf typeValue utcBy utcAt periodEnd periodTo periodFrom periodOf periodItems allPeriods goodPeriods numberTo frequencyPart intervalPart countBy namedPart partOf noParts withPart withParts ruleBy ruleOf decimal pooled
+unfolding table calendarBytes meaningWith eventWith blockWith startingAt lasting isFault startsAt hasLength ofEvent ofEntries inRange isLast hasPeriods tests test isUtc samePeriod samePeriods isDigit upper sameName firstOutside before after splitParts headOf valueOf nameOf parameterTexts lineOf parametersNamed someList hasParameter hasTwice hasList digitPair pairAt joined yearAt checkedDay three dateAt checkedTime timeAt clockOf clockAt readDateTime isLeap yearDays daysBeforeYear monthLengths lengthIn beforeIn monthDays daysBeforeMonth dayNumber isDay timeStart nextStage weightOf blank withDigit fitting unitTo withUnit step textRuns finish durationText durationSeconds withinLimit limited readDuration epoch since utcSecond timesOr eventProperty propertyOf timeIn startBy unlessZoned durationBy valueAs propertyValueOf beforePeriods withPeriods atSecond timeBy readTime formOf timeOf reportPlace sameBusy faultOr byValues secondIn covers lead leadIf runs firstAt spanOf startsBefore stepOf startOf repeats isInstance occurs defaultLength lengthBy isZeroLength endOf endsAfter instanceIn entryPeriods busyPeriods ofType coveredBy covered isLetter isNameByte isControl isName isBreak isBlank isFold unfolded cut contentLines scanStep isEnding scan isWellFormed lineCheckFrom lineCheck plainSplit valuesNamed firstValue delimiterOf isCalendar isEvent isFreeBusy mayBegin afterBegin afterEnd afterProperty walk outcome nestingOf delimitedFrom itemsOf treeOf componentsIn propertiesIn itemsBelow scopeOf componentScope propertyValuesIn faultIn valueFault eventOf blockOf isBroken brokenOr ruleFault periodsBy blockPeriods entryOf entriesOf fileLines componentsOf byRules byLines contentsOf meaningOf noProperties timeGiven durationGiven ruleGiven withProperty withSpan withBusy withProperties kindNumber sameKind isDate statedEnd statedDuration endingBy limitBy repeatBy daysBy intervalBy busyByStatus busyBy eventMade eventEnding eventFrom eventBy blockFrom blockBy freeBusyProperty endBy ruleValue busyNamed busyOf typeValue utcBy utcAt periodEnd periodTo periodFrom periodOf periodItems allPeriods goodPeriods numberTo frequencyPart intervalPart countBy namedPart partOf noParts withPart withParts ruleBy ruleOf decimal pooled
 edges = all-hold table refl

@@ -1,5 +1,5 @@
 -- Laws of the index: how the walk over the lines fills it, and what a reader of one line takes from it.
-use Prim.Native.Nat.{ℕ, zero, _+_, _-_, _*_, _/_, _%_, _≤_, _<_}
+use Prim.Native.Nat.{ℕ, _+_, _-_, _*_, _/_, _%_, _≤_, _<_}
 use mathlib.Core.Path.{_≡_, refl, sym, ap, subst, _∙_}
 use mathlib.Core.Bool.{Bool, true, false, cond}
 use mathlib.Core.List.{List, [], _∷_}
@@ -264,6 +264,3 @@ name-read index i p = ap (λ (v : ℕ). v / 131072) p
 pub filled-lines : {s index : List ℕ} {r : Filled} (n : ℕ) → FilledBy s index r → r ≡ Filled.Lines n → Lines s index n
 unfolding FilledBy
 filled-lines {s} {index} n h q = subst (FilledBy s index) q h
-
-pub filled-bad : (s index : List ℕ) {r : Filled} (k : ℕ) → FilledBy s index r → r ≡ Filled.BadLine k → FilledBy s index (Filled.BadLine k)
-filled-bad s index k h q = subst (FilledBy s index) q h

@@ -7,8 +7,7 @@ use lib.ListN.{length, drop, getD}
 use Rattle.text.specs.Lines.{line, cut, part, contentLines}
 use Rattle.line.specs.Scanner.{isWellFormed}
 use Rattle.line.specs.Reading.{nameOf}
-use Rattle.line.specs.WellFormed.{lineCheck}
-use Rattle.line.specs.declared.check.LineCheck.the-variants.{Good, BadLine}
+use Rattle.line.specs.WellFormed.{lineCheck, allGood, badLine}
 use Rattle.index.specs.declared.Filled.{Filled}
 
 -- line i of a file; no bytes, where there are not so many lines
@@ -38,7 +37,7 @@ pub record Entry (s index : List ℕ) (i : ℕ) : Type 0 where
 -- the index knows every line, and each is well formed
 pub record Indexed (s index : List ℕ) : Type 0 where
   pub entries : (i : ℕ) → i < length (contentLines s) → Entry s index i
-  pub good : lineCheck s ≡ Good
+  pub good : lineCheck s ≡ allGood
 
 -- it was filled, and there are n lines
 pub record Lines (s index : List ℕ) (n : ℕ) : Type 0 where
@@ -49,4 +48,4 @@ pub record Lines (s index : List ℕ) (n : ℕ) : Type 0 where
 -- what filling it answers
 unfoldable pub FilledBy : List ℕ → List ℕ → Filled → Type 0
 FilledBy s index (Filled.Lines n) = Lines s index n
-FilledBy s index (Filled.BadLine k) = BadLine k ≡ lineCheck s
+FilledBy s index (Filled.BadLine k) = badLine k ≡ lineCheck s

@@ -11,10 +11,9 @@ use Rattle.text.proofs.Lines.{bytesOf-cut, unfolded-joined, cut-unfolded-joined
 use Rattle.line.specs.Grammar.{ContentLine}
 use Rattle.line.specs.Scanner.{isWellFormed}
 use Rattle.line.specs.Reading.{lineOf}
-use Rattle.line.specs.WellFormed.{lineCheck, AllGood}
+use Rattle.line.specs.WellFormed.{lineCheck, AllGood, allGood}
 use Rattle.line.specs.Rendering.{rendered, AllRenderable, no-line, one-more}
 use Rattle.line.specs.File.{FileGrammar, done, next, ReadBack}
-use Rattle.line.specs.declared.check.LineCheck.the-variants.{Good}
 use Rattle.line.proofs.Grammar.{grammar-wellFormed}
 use Rattle.line.proofs.Reading.{grammar-read, line-iff}
 use Rattle.line.proofs.Rendering.{rendered-grammar}
@@ -74,14 +73,14 @@ bytesOf-linesOf : (ls : List (List ℕ)) → bytesOf (linesOf ls) ≡ joined ls
 bytesOf-linesOf [] = refl
 bytesOf-linesOf (l ∷ ls) = ap (λ (u : List ℕ). l ++ (13 ∷ 10 ∷ u)) (bytesOf-linesOf ls)
 
-good-file : (s : List ℕ) → lineCheck s ≡ Good → FileGrammar s (map lineOf (contentLines s))
+good-file : (s : List ℕ) → lineCheck s ≡ allGood → FileGrammar s (map lineOf (contentLines s))
 good-file s e =
     let k : AllGood s = good-iff s .0 e in
     let bytes : joined (contentLines s) ≡ s = sym (bytesOf-linesOf (contentLines s)) ∙ sym (ap bytesOf (k .ended)) ∙ bytesOf-cut s in
     subst (λ (u : List ℕ). FileGrammar u (map lineOf (contentLines s))) bytes (joined-file (contentLines s) (k .good))
 
 -- the check finds every line well formed, and their readings are xs, exactly where the grammar says that the bytes are the lines xs
-pub file-iff : (s : List ℕ) (xs : List ContentLine) → ((lineCheck s ≡ Good) × (map lineOf (contentLines s) ≡ xs)) ↔ FileGrammar s xs
+pub file-iff : (s : List ℕ) (xs : List ContentLine) → ((lineCheck s ≡ allGood) × (map lineOf (contentLines s) ≡ xs)) ↔ FileGrammar s xs
 file-iff s xs = (
   λ h. subst (λ (ys : List ContentLine). FileGrammar s ys) (h .1) (good-file s (h .0)),
   λ f. (file-read f .good, file-read f .read),

@@ -2,19 +2,18 @@
 -- And laws of its name: where it ends, what its first byte tells, and what a colon right behind it does.
 use Prim.Native.Nat.{ℕ, zero, suc, _+_, _≤_, _<_}
 use mathlib.Core.Path.{_≡_, refl, sym, ap, _∙_, subst}
-use mathlib.Core.Bool.{Bool, true, false, cond, not, _&&_, _||_, Bool·beq}
+use mathlib.Core.Bool.{Bool, true, false, not, _&&_, _||_}
 use mathlib.Core.List.{List, [], _∷_, _++_, append-assoc, append-nil, map}
 use mathlib.Core.Logic.{_↔_, _⊎_, inl, inr, ⊎-elim}
 use native.Mathlib.Omega.{arith}
 use lib.Dec.{eqb, ltb}
 use lib.ListN.{length, take, drop, getD, length-take}
-use lib.Seq.{length-take-le, take-take, take-all, getD-take}
+use lib.Seq.{length-take-le, take-take, getD-take}
 use borrow.Author.Tests.{eqb-true, ltb-true, ltb-false}
 use Rattle.ascii.specs.Bytes.{isNameByte, isLetter, isDigit, upper}
 use Rattle.ascii.specs.Names.{isName, sameName}
 use Rattle.ascii.proofs.Bools.{and-left, and-right, and-both}
 use Rattle.ascii.proofs.Names.{sameName-first, every-of-name}
-use Rattle.ascii.proofs.Lists.{drop-next, drop-end}
 use Rattle.line.specs.Grammar.{Parameter, ContentLine, contentLine, parameter, isQuotable, isUnquoted, ParameterValue, ParameterValues, Parameters, LineGrammar, quoted, unquoted, one, comma, none, semicolon, colon}
 use Rattle.line.specs.Scanner.{isWellFormed}
 use Rattle.line.specs.Splitting.{quotedAfter, cutsAt, firstOutside, before, after, splitParts, quotesOff}
@@ -174,12 +173,6 @@ abbrev pub endsName : Bool → ℕ → Bool
 endsName q b = (eqb b 58 || eqb b 59) && not q
 
 -- a quote opens or closes, as the code tests it
-flipped : (q t : Bool) → not (Bool·beq q t) ≡ cond t (not q) q
-flipped true true = refl
-flipped true false = refl
-flipped false true = refl
-flipped false false = refl
-
 -- where `x or y` fails beside z, each of the two fails beside it
 neither-first : (x y z : Bool) → ((x || y) && z) ≡ false → (x && z) ≡ false
 neither-first true y z h = h
@@ -189,10 +182,6 @@ neither-second : (x y z : Bool) → ((x || y) && z) ≡ false → (y && z) ≡ f
 neither-second true true z h = h
 neither-second true false z h = refl
 neither-second false y z h = h
-
-nameEnd-none : (q : Bool) → nameEnd q [] ≡ 0
-unfolding nameEnd
-nameEnd-none q = rw (firstOutside-end true 58 q) (firstOutside-end true 59 q)
 
 module _ (q : Bool) (b : ℕ) (s : List ℕ) where
   nameEnd-colon : cutsAt 58 q b ≡ true → nameEnd q (b ∷ s) ≡ 0
@@ -226,18 +215,6 @@ module _ (q : Bool) (b : ℕ) (s : List ℕ) where
       (take (firstOutside true 58 (quotedAfter true q b) s) s)
       (neither-second (eqb b 58) (eqb b 59) (not q) h))
 
--- the loop, at place i
-module _ (q : Bool) (s : List ℕ) (i : ℕ) where
-  pub name-here : i < length s → endsName q (getD s i 0) ≡ true → i + nameEnd q (drop i s) ≡ i
-  name-here h e = rw (drop-next s i h, nameEnd-cut q (getD s i 0) (drop (i + 1) s) e) (omega arith)
-
-  pub name-next : i < length s → endsName q (getD s i 0) ≡ false
-      → (i + 1) + nameEnd (not (Bool·beq q (eqb (getD s i 0) 34))) (drop (i + 1) s) ≡ i + nameEnd q (drop i s)
-  name-next h e = rw (flipped q (eqb (getD s i 0) 34), drop-next s i h, nameEnd-keep q (getD s i 0) (drop (i + 1) s) e) (omega arith)
-
-  pub name-end : length s ≤ i → i + nameEnd q (drop i s) ≡ i
-  name-end h = rw (drop-end s i h, nameEnd-none q) (omega arith)
-
 -- the bytes up to there are the name
 name-is : (l : List ℕ) → take (nameEnd false l) l ≡ nameOf l
 unfolding nameEnd nameOf headOf before
@@ -261,10 +238,6 @@ name-take l n e = name-found l n (e ∙ nameEnd-length l)
 
 pub name-fits : (l : List ℕ) → length (nameOf l) ≤ length l
 name-fits l = omega (arith, length-take (nameEnd false l) l, ap length (name-is l))
-
--- where it ends with the line, the line is the name
-pub name-whole : (l : List ℕ) (i : ℕ) → length l ≤ i → i ≡ nameEnd false l → l ≡ nameOf l
-name-whole l i h e = sym (take-all i l h) ∙ name-found l i e
 
 -- ---- a colon right behind the name
 

@@ -1,6 +1,6 @@
 -- Laws of the parameters of a line, as the code reads them: one place after the other in the head,
 -- and what one count of a parameter tells.
-use Prim.Native.Nat.{ℕ, zero, suc, _+_, _-_, _≤_, _<_}
+use Prim.Native.Nat.{ℕ, suc, _+_, _-_, _≤_, _<_}
 use mathlib.Core.Path.{_≡_, refl, sym, ap, _∙_}
 use mathlib.Core.Bool.{Bool, true, false, cond, not, _||_, or-false, or-assoc}
 use mathlib.Core.List.{List, [], _∷_, _++_, map}
@@ -12,11 +12,11 @@ use borrow.Author.Tests.{ltb-true, ltb-false, lt-ltb, le-ltb}
 use Rattle.ascii.specs.Names.{sameName}
 use Rattle.ascii.proofs.Bools.{and-left, and-right, and-both, clash}
 use Rattle.line.specs.declared.read.Usage.{Usage}
-use Rattle.line.specs.Grammar.{Parameter, ContentLine}
+use Rattle.line.specs.Grammar.{Parameter}
 use Rattle.line.specs.Splitting.{nextPlace, after, splitParts, splitAfter, quotesOff}
 use Rattle.line.specs.Reading.{headOf, isNamed, parameterTexts, valuesOf, parameterOf, lineOf, firstOf, restOf, keepIf, parametersNamed, someList, usageOf, pooled, valuesNamed, countedWith, hasParameter, hasTwice, hasList, firstValue, allValued}
 use Rattle.line.proofs.Scanner.{or-none}
-use Rattle.line.proofs.Splitting.{parts-from, parts-some, parts-end, splitAfter-in, splitAfter-out, splitAfter-next, nextPlace-ge, nextPlace-le, after-is, after-none}
+use Rattle.line.proofs.Splitting.{parts-from, parts-some, splitAfter-out, splitAfter-next, nextPlace-ge, nextPlace-le}
 
 -- ---- one parameter, one value, by its number
 
@@ -32,31 +32,6 @@ parameterTexts-count l = length-rest (splitParts true 59 false (headOf l))
 pub parameterTexts-after : (l : List ℕ) → parameterTexts l ≡ splitAfter true 59 (headOf l) (nextPlace true 59 (headOf l) 0)
 unfolding parameterTexts
 parameterTexts-after l = ap restOf (parts-from true 59 (headOf l) 0 (omega arith))
-
-getD-empty : (n : ℕ) (d : List ℕ) → getD (d ∷ []) n d ≡ d
-getD-empty zero d = refl
-getD-empty (suc n) d = refl
-
--- where nothing stands behind it, its one piece is empty, and an empty piece is what no piece gives
-pub parameterTexts-at : (l : List ℕ) (n : ℕ) → getD (splitParts true 59 false (after true 59 (headOf l))) n [] ≡ getD (parameterTexts l) n []
-parameterTexts-at l n = go (ltb at (length h)) refl ∙ ap (λ (ts : List (List ℕ)). getD ts n []) (sym (parameterTexts-after l))
-  where
-    h : List ℕ
-    h = headOf l
-
-    at : ℕ
-    at = nextPlace true 59 h 0
-
-    go : (t : Bool) → ltb at (length h) ≡ t → getD (splitParts true 59 false (after true 59 h)) n [] ≡ getD (splitAfter true 59 h at) n []
-    go true e =
-        ap (λ (r : List ℕ). getD (splitParts true 59 false r) n []) (sym (after-is true 59 h at refl))
-        ∙ ap (λ (ts : List (List ℕ)). getD ts n []) (sym (splitAfter-in true 59 h at (ltb-true at (length h) e)))
-    go false e =
-        let k : length h ≤ at = ltb-false at (length h) e in
-        ap (λ (r : List ℕ). getD (splitParts true 59 false r) n []) (sym (after-none true 59 h at refl k))
-        ∙ ap (λ (ts : List (List ℕ)). getD ts n []) (parts-end true 59 false)
-        ∙ getD-empty n []
-        ∙ ap (λ (ts : List (List ℕ)). getD ts n []) (sym (splitAfter-out true 59 h at k))
 
 pub valuesOf-count : (t : List ℕ) → length (splitParts true 44 false (after true 61 t)) ≡ length (valuesOf t)
 unfolding valuesOf
@@ -337,16 +312,6 @@ one-value-iff n l = (
     plain : (t : Bool) → someList qs ≡ t → length (pooled qs) ≡ 1 → someList qs ≡ false
     plain true k e = absurd (omega (arith, pooled-list qs valued k))
     plain false k e = k
-
-only-first : (vs : List (List ℕ)) → length vs ≡ 1 → vs ≡ firstOf vs ∷ []
-only-first [] e = absurd (omega arith)
-only-first (v ∷ []) e = refl
-only-first (v ∷ w ∷ vs) e = absurd (omega arith)
-
--- and that is the first value
-pub one-value : (n : List ℕ) (x : ContentLine) → length (valuesNamed n (x .parameters)) ≡ 1 → valuesNamed n (x .parameters) ≡ firstValue n x ∷ []
-unfolding firstValue
-one-value n x e = only-first (valuesNamed n (x .parameters)) e
 
 -- twice or as a list
 pub used-badly : (n : List ℕ) (l : List ℕ) (u : Usage) → u ≡ usageOf n (lineOf l .parameters)

@@ -1,6 +1,6 @@
 -- Controls and lines: no state of the scanner takes one, and without one every value is good.
 use Prim.Native.Nat.{ℕ, zero, suc, _+_, _-_, _≤_, _<_}
-use mathlib.Core.Path.{_≡_, refl, sym, ap, subst, _∙_}
+use mathlib.Core.Path.{_≡_, refl, sym, ap, _∙_}
 use mathlib.Core.Bool.{Bool, true, false, not, _&&_, and-false}
 use mathlib.Core.Logic.{_⊎_, inl, inr, ⊎-elim}
 use mathlib.Core.List.{List, [], _∷_, _++_}
@@ -16,8 +16,8 @@ use Rattle.text.specs.Unfolding.{isBreak, Nowhere}
 use Rattle.text.specs.Lines.{CutLines, end, unended, line, grow, cut, part, breakAt, LineAt}
 use Rattle.text.proofs.Unfolding.{nowhere-next}
 use Rattle.text.proofs.Lines.{grown, grown-line, grown-end, length-part, no-break-pieces, searched-found, searched-end, searched-none, nothing-at, break-inside, line-at, unended-at}
-use Rattle.line.specs.Scanner.{Clear, Unclear, ClearBy, step, afterValue, isEnding, scan, isWellFormed}
-use Rattle.line.specs.WellFormed.{beginsBadly, wellFormedName, controlAt, NextControl, NextAt}
+use Rattle.line.specs.Scanner.{Clear, Unclear, step, afterValue, isEnding, scan, isWellFormed}
+use Rattle.line.specs.WellFormed.{beginsBadly, controlAt, NextControl, NextAt}
 use Rattle.line.specs.declared.scan.State.{State}
 use Rattle.line.specs.declared.scan.State.the-variants.{Start, Name, ParameterStart, ParameterName, ValueStart, Unquoted, Quoted, AfterQuoted, Value, Wrong}
 use Rattle.line.specs.declared.check.Next.{Next}
@@ -96,28 +96,6 @@ unclear-scan q (b ∷ l) (suc i) h c = unclear-scan (step q b) l i (omega arith)
 pub unclear-badly : (l : List ℕ) → Unclear l → isWellFormed l ≡ false
 unfolding isWellFormed
 unclear-badly l u = rw (unclear-scan Start l (u .place) (u .inside) (u .control)) (and-false (leb (length l) 1024))
-
-pub unclear-name : (l : List ℕ) → Unclear l → 0 ≡ wellFormedName l
-unfolding wellFormedName
-unclear-name l u = rw (unclear-badly l u) refl
-
--- ---- looking for one
-
-pub clear-by : (l : List ℕ) → Clear l → ClearBy l true
-unfolding ClearBy
-clear-by l c = c
-
-pub unclear-by : (l : List ℕ) (i : ℕ) → i < length l → isControl (getD l i 0) ≡ true → ClearBy l false
-unfolding ClearBy
-unclear-by l i h c = record { place = i; inside = h; control = c }
-
-pub is-clear : (l : List ℕ) {t : Bool} → ClearBy l t → t ≡ true → Clear l
-unfolding ClearBy
-is-clear l h e = subst (ClearBy l) e h
-
-pub is-unclear : (l : List ℕ) {t : Bool} → ClearBy l t → t ≡ false → Unclear l
-unfolding ClearBy
-is-unclear l h e = subst (ClearBy l) e h
 
 -- ---- the line at a place
 
@@ -200,10 +178,6 @@ control-none h l = record { before = h; there = λ x. absurd (omega (arith, x)) 
 
 pub break-none : (s : List ℕ) (i : ℕ) → length s < i + 2 → false ≡ breakAt s i
 break-none s i h = sym (not-so (breakAt s i) (λ e. absurd (omega (arith, break-inside s i e))))
-
-pub clear-all : {l : List ℕ} {i : ℕ} → Nowhere controlAt l 0 i → length l ≤ i → Clear l
-unfolding controlAt
-clear-all h n = record { none = λ i k. h .none i (omega arith) (omega arith) }
 
 -- no byte is left
 pub next-past : (s : List ℕ) (from : ℕ) → length s ≤ from → NextAt s from Next.End

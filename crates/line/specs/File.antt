@@ -6,8 +6,7 @@ use Rattle.text.specs.Unfolding.{unfolded}
 use Rattle.text.specs.Lines.{cut, linesOf, contentLines}
 use Rattle.line.specs.Grammar.{ContentLine, LineGrammar}
 use Rattle.line.specs.Reading.{lineOf}
-use Rattle.line.specs.WellFormed.{lineCheck}
-use Rattle.line.specs.declared.check.LineCheck.the-variants.{Good}
+use Rattle.line.specs.WellFormed.{lineCheck, allGood}
 
 -- the bytes s are the lines xs
 pub data FileGrammar : List ℕ → List ContentLine → Type 0 where
@@ -19,5 +18,5 @@ pub data FileGrammar : List ℕ → List ContentLine → Type 0 where
 pub record ReadBack (s : List ℕ) (xs : List ContentLine) : Type 0 where
   pub unfolds : unfolded s ≡ s
   pub ended : cut s ≡ linesOf (contentLines s)
-  pub good : lineCheck s ≡ Good
+  pub good : lineCheck s ≡ allGood
   pub read : map lineOf (contentLines s) ≡ xs

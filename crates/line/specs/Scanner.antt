@@ -62,8 +62,3 @@ pub record Unclear (l : List ℕ) : Type 0 where
   pub place : ℕ
   pub inside : place < length l
   pub control : isControl (getD l place 0) ≡ true
-
--- what looking for a control tells
-unfoldable pub ClearBy : List ℕ → Bool → Type 0
-ClearBy l true = Clear l
-ClearBy l false = Unclear l

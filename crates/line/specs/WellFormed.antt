@@ -9,9 +9,12 @@ use Rattle.text.specs.Unfolding.{Nowhere}
 use Rattle.text.specs.Lines.{CutLines, end, unended, line, cut, part, LineAt, NothingAt, linesOf, contentLines, everyLine}
 use Rattle.line.specs.Scanner.{isWellFormed}
 use Rattle.line.specs.Reading.{nameOf}
-use Rattle.line.specs.declared.check.LineCheck.{LineCheck}
-use Rattle.line.specs.declared.check.LineCheck.the-variants.{Good, BadLine}
 use Rattle.line.specs.declared.check.Next.{Next}
+
+-- what a check of lines answers: all pass, or this one is the first that does not; lines are counted from 1
+pub data LineCheck : Type 0 where
+  allGood : LineCheck
+  badLine : ℕ → LineCheck
 
 -- the length of the name of a well formed line; 0, where the line is badly formed
 unfoldable pub wellFormedName : List ℕ → ℕ
@@ -19,9 +22,9 @@ wellFormedName l = cond (isWellFormed l) (length (nameOf l)) 0
 
 -- piece by piece, the first with number n; what no CR LF ends is badly formed
 unfoldable pub lineCheckFrom : ℕ → CutLines → LineCheck
-lineCheckFrom n end = Good
-lineCheckFrom n (unended t) = BadLine n
-lineCheckFrom n (line l p) = elim (isWellFormed l) [ true ↦ lineCheckFrom (n + 1) p | false ↦ BadLine n ]
+lineCheckFrom n end = allGood
+lineCheckFrom n (unended t) = badLine n
+lineCheckFrom n (line l p) = elim (isWellFormed l) [ true ↦ lineCheckFrom (n + 1) p | false ↦ badLine n ]
 
 -- is some line badly formed, and which is the first?
 unfoldable pub lineCheck : List ℕ → LineCheck

@@ -6,13 +6,7 @@ ghost use Prim.Native.Nat.{_+_, _≤_};
 ghost use lib.ListN.{length};
 ghost use Rattle.text.specs.Lines.{breakAt};
 ghost use Rattle.text.specs.Unfolding.{Nowhere};
-ghost use Rattle.line.specs.WellFormed.{lineCheck, Checked, controlAt, NextControl, NextAt};
-
-// The answer; lines are counted from 1.
-pub enum LineCheck {
-    Good,
-    BadLine(usize),
-}
+ghost use Rattle.line.specs.WellFormed.{controlAt, NextControl, NextAt};
 
 // The line at a place.
 pub enum Next {
@@ -98,23 +92,4 @@ pub fn next_good(s: &[u8], from: usize) -> Next
     }
     let n = scan::clear_name(&s[from..e]);
     if n == 0 { Next::Bad } else { Next::Line(e, n) }
-}
-
-// The check of a file whose lines before this place are well formed; the line there has this number.
-pub fn check_lines_from(s: &[u8], from: usize, first: usize) -> LineCheck
-    requires { ⌜ Checked (now s) first from ⌝ }
-    ensures { λ r. ⌜ r ≡ lineCheck (now (s .entry)) ⌝ }
-{
-    let mut at = from;
-    let mut number = first;
-    loop {
-        match next_good(s, at) {
-            Next::Line(e, _) => {
-                at = e + 2;
-                number += 1;
-            }
-            Next::Bad => return LineCheck::BadLine(number),
-            Next::End => return LineCheck::Good,
-        }
-    }
 }

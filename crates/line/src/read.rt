@@ -8,7 +8,7 @@ ghost use Prim.Native.Nat.{_<_};
 ghost use lib.ListN.{length, getD};
 ghost use Rattle.ascii.specs.Names.{sameName};
 ghost use Rattle.line.specs.Reading.{headOf, valueOf, nameOf, parameterTexts, parameterName, isNamed, valuesOf};
-ghost use Rattle.line.specs.Reading.{parameterOf, lineOf, Plain, usageOf, countedWith, hasParameter, hasTwice, hasList, firstValue};
+ghost use Rattle.line.specs.Reading.{parameterOf, lineOf, Plain, usageOf, countedWith, hasParameter, firstValue};
 
 // How often a parameter of a name stands on a line, and whether one of them has more than one value.
 pub struct Usage {
@@ -28,23 +28,6 @@ pub fn value(line: &[u8]) -> &[u8]
     ensures { λ r. ⌜ now r ≡ valueOf (now (line .entry)) ⌝ }
 {
     split::after(line, 58, true)
-}
-
-// What stands before the first semicolon or colon outside quotes.
-pub fn name(line: &[u8]) -> &[u8]
-    ensures { λ r. ⌜ now r ≡ nameOf (now (line .entry)) ⌝ }
-{
-    let mut quoted = false;
-    let mut i = 0;
-    while i < line.len() {
-        let b = line[i];
-        if ((b == 58) | (b == 59)) & !quoted {
-            return &line[..i];
-        }
-        quoted = quoted != (b == 34);
-        i += 1;
-    }
-    line
 }
 
 // Is this the line's name, ASCII case disregarded? The name is n bytes long, and mostly that tells.
@@ -73,13 +56,6 @@ pub fn parameter_count(line: &[u8]) -> usize
     ensures { λ r. ⌜ r ≡ length (parameterTexts (now (line .entry))) ⌝ }
 {
     split::part_count(head(line), 59, true) - 1
-}
-
-// Parameter number n as it is written, counted from 0; nothing, where there are not so many.
-pub fn parameter(line: &[u8], n: usize) -> &[u8]
-    ensures { λ r. ⌜ now r ≡ getD (parameterTexts (now (line .entry))) n [] ⌝ }
-{
-    split::nth_part(split::after(head(line), 59, true), 59, true, n)
 }
 
 pub fn parameter_name(p: &[u8]) -> &[u8]

@@ -2,12 +2,12 @@
 // The states and steps are those of specs/Scanner.
 ghost use Prim.Native.Nat.{_+_, _≤_, _<_};
 ghost use mathlib.Core.Path.{_≡_};
-ghost use mathlib.Core.Bool.{cond, not, _&&_};
+ghost use mathlib.Core.Bool.{cond};
 ghost use lib.Dec.{eqb};
-ghost use lib.ListN.{length, drop};
+ghost use lib.ListN.{drop};
 ghost use Rattle.ascii.specs.Bytes.{isNameByte, isControl};
 ghost use Rattle.line.specs.Grammar.{isQuotable, isUnquoted};
-ghost use Rattle.line.specs.Scanner.{Clear, ClearBy, step, afterValue, isEnding, scan, nameBytes};
+ghost use Rattle.line.specs.Scanner.{Clear, step, afterValue, isEnding, scan, nameBytes};
 ghost use Rattle.line.specs.WellFormed.{wellFormedName};
 
 // What was read last of a line.
@@ -31,13 +31,7 @@ struct Place {
 }
 
 // The length of the name of a well formed line: at most 1,024 bytes, and the scanner ends in the value. Of any other line 0.
-pub fn well_formed_name(line: &[u8]) -> usize
-    ensures { λ r. ⌜ r ≡ wellFormedName (now (line .entry)) ⌝ }
-{
-    if is_clear(line) { clear_name(line) } else { 0 }
-}
-
-// The same of a line without a control, which is all that a value asks.
+// The line has no control, which is all that a value asks.
 pub fn clear_name(line: &[u8]) -> usize
     requires { ⌜ Clear (now line) ⌝ }
     ensures { λ r. ⌜ r ≡ wellFormedName (now (line .entry)) ⌝ }
@@ -47,20 +41,6 @@ pub fn clear_name(line: &[u8]) -> usize
     }
     let n = name_length(line);
     if is_behind_name(line, n) { n } else { 0 }
-}
-
-// Has the line no control?
-fn is_clear(line: &[u8]) -> bool
-    ensures { λ r. ⌜ ClearBy (now (line .entry)) r ⌝ }
-{
-    let mut i = 0;
-    while i < line.len() {
-        if ascii::is_control(line[i]) {
-            return false;
-        }
-        i += 1;
-    }
-    true
 }
 
 // How many name bytes the line begins with.

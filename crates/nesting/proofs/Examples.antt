@@ -13,16 +13,15 @@ use Rattle.ascii.proofs.Bools.{and-left, and-right, clash}
 use Rattle.line.specs.Grammar.{ContentLine}
 use Rattle.line.specs.Splitting.{firstOutside, before, after, splitParts}
 use Rattle.line.specs.Reading.{lineOf, nameOf, headOf, valueOf, parameterTexts}
+use Rattle.line.specs.WellFormed.{LineCheck, allGood, badLine}
 use Rattle.delimiters.specs.Delimiters.{delimiterOf}
 use Rattle.delimiters.specs.Innermost.{isCalendar, isEvent, isFreeBusy, mayBegin}
 use Rattle.nesting.specs.Nesting.{afterBegin, afterEnd, afterProperty, afterWrong, walk, outcome, nestingOf}
-use Rattle.nesting.specs.declared.Nesting.{Nesting}
-use Rattle.nesting.specs.declared.Nesting.the-variants.{Good, BadLine}
 
 -- lines as they are written, and what is expected of them
 pub record Example : Type 0 where
   pub texts : List String
-  pub expected : Nesting
+  pub expected : LineCheck
 
 abbrev pub linesOf : List String → List ContentLine
 linesOf [] = []
@@ -32,17 +31,17 @@ abbrev pub AllHold : List Example → Type 0
 AllHold [] = Unit {0}
 AllHold (x ∷ xs) = (nestingOf (linesOf (x .texts)) ≡ x .expected) × AllHold xs
 
-abbrev same : Nesting → Nesting → Bool
-same Good Good = true
-same Good (BadLine j) = false
-same (BadLine i) Good = false
-same (BadLine i) (BadLine j) = eqb i j
+abbrev same : LineCheck → LineCheck → Bool
+same allGood allGood = true
+same allGood (badLine j) = false
+same (badLine i) allGood = false
+same (badLine i) (badLine j) = eqb i j
 
-same-eq : (a b : Nesting) → same a b ≡ true → a ≡ b
-same-eq Good Good e = refl
-same-eq Good (BadLine j) e = clash e refl
-same-eq (BadLine i) Good e = clash e refl
-same-eq (BadLine i) (BadLine j) e = ap BadLine (eqb-true i j e)
+same-eq : (a b : LineCheck) → same a b ≡ true → a ≡ b
+same-eq allGood allGood e = refl
+same-eq allGood (badLine j) e = clash e refl
+same-eq (badLine i) allGood e = clash e refl
+same-eq (badLine i) (badLine j) e = ap badLine (eqb-true i j e)
 
 abbrev test : List Example → Bool
 test [] = true
@@ -55,7 +54,7 @@ sound (x ∷ xs) e = (
   sound xs (and-right (same (nestingOf (linesOf (x .texts))) (x .expected)) (test xs) e),
 )
 
-abbrev pub example : List String → Nesting → Example
+abbrev pub example : List String → LineCheck → Example
 example ls r = record { texts = ls; expected = r }
 
 -- the same lines, so many times
@@ -73,22 +72,22 @@ wide n = "BEGIN:VCALENDAR" ∷ (times n ("BEGIN:A" ∷ "END:A" ∷ []) ++ ("END:
 
 abbrev pub table : List Example
 table =
-    example ("BEGIN:VCALENDAR" ∷ "END:vcalendar" ∷ []) Good
-    ∷ example ("BEGIN:VCALENDAR" ∷ "BEGIN:VEVENT" ∷ "UID:1" ∷ "BEGIN:VALARM" ∷ "END:VALARM" ∷ "END:VEVENT" ∷ "END:VCALENDAR" ∷ []) Good
-    ∷ example ("BEGIN:VCALENDAR" ∷ "BEGIN:-" ∷ "END:-" ∷ "VCALENDAR:1" ∷ "END:VCALENDAR" ∷ []) Good
-    ∷ example (deep 7) Good
-    ∷ example (deep 8) (BadLine 9)
-    ∷ example (wide 255) Good
-    ∷ example (wide 256) (BadLine 512)
-    ∷ example [] (BadLine 1)
-    ∷ example ("VERSION:2.0" ∷ "BEGIN:VCALENDAR" ∷ []) (BadLine 1)
-    ∷ example ("BEGIN:VCALENDAR" ∷ "VERSION:2.0" ∷ []) (BadLine 3)
-    ∷ example ("BEGIN:VCALENDAR" ∷ "BEGIN:VCALENDAR" ∷ []) (BadLine 2)
-    ∷ example ("BEGIN:VCALENDAR" ∷ "END:VCALENDAR" ∷ "BEGIN:VCALENDAR" ∷ []) (BadLine 3)
-    ∷ example ("BEGIN:VCALENDAR" ∷ "BEGIN:VTODO" ∷ "BEGIN:VEVENT" ∷ []) (BadLine 3)
-    ∷ example ("BEGIN:VCALENDAR" ∷ "BEGIN:VTODO" ∷ "END:VCALENDAR" ∷ []) (BadLine 3)
-    ∷ example ("BEGIN:VCALENDAR" ∷ "BEGIN;X=1:VTODO" ∷ []) (BadLine 2)
-    ∷ example ("BEGIN:VCALENDAR" ∷ "BEGIN:A B" ∷ []) (BadLine 2)
+    example ("BEGIN:VCALENDAR" ∷ "END:vcalendar" ∷ []) allGood
+    ∷ example ("BEGIN:VCALENDAR" ∷ "BEGIN:VEVENT" ∷ "UID:1" ∷ "BEGIN:VALARM" ∷ "END:VALARM" ∷ "END:VEVENT" ∷ "END:VCALENDAR" ∷ []) allGood
+    ∷ example ("BEGIN:VCALENDAR" ∷ "BEGIN:-" ∷ "END:-" ∷ "VCALENDAR:1" ∷ "END:VCALENDAR" ∷ []) allGood
+    ∷ example (deep 7) allGood
+    ∷ example (deep 8) (badLine 9)
+    ∷ example (wide 255) allGood
+    ∷ example (wide 256) (badLine 512)
+    ∷ example [] (badLine 1)
+    ∷ example ("VERSION:2.0" ∷ "BEGIN:VCALENDAR" ∷ []) (badLine 1)
+    ∷ example ("BEGIN:VCALENDAR" ∷ "VERSION:2.0" ∷ []) (badLine 3)
+    ∷ example ("BEGIN:VCALENDAR" ∷ "BEGIN:VCALENDAR" ∷ []) (badLine 2)
+    ∷ example ("BEGIN:VCALENDAR" ∷ "END:VCALENDAR" ∷ "BEGIN:VCALENDAR" ∷ []) (badLine 3)
+    ∷ example ("BEGIN:VCALENDAR" ∷ "BEGIN:VTODO" ∷ "BEGIN:VEVENT" ∷ []) (badLine 3)
+    ∷ example ("BEGIN:VCALENDAR" ∷ "BEGIN:VTODO" ∷ "END:VCALENDAR" ∷ []) (badLine 3)
+    ∷ example ("BEGIN:VCALENDAR" ∷ "BEGIN;X=1:VTODO" ∷ []) (badLine 2)
+    ∷ example ("BEGIN:VCALENDAR" ∷ "BEGIN:A B" ∷ []) (badLine 2)
     ∷ []
 
 pub edges : AllHold table

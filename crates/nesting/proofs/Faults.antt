@@ -13,6 +13,7 @@ use Rattle.ascii.specs.Words.{ascii}
 use Rattle.ascii.proofs.Bools.{and-left, and-right, and-both, clash}
 use Rattle.ascii.proofs.Names.{sameName-iff}
 use Rattle.line.specs.Grammar.{ContentLine, contentLine}
+use Rattle.line.specs.WellFormed.{allGood, badLine}
 use Rattle.delimiters.specs.Delimiters.{delimiterOf, noParameters}
 use Rattle.delimiters.specs.Innermost.{isCalendar, mayBegin}
 use Rattle.delimiters.specs.declared.Delimiter.{Delimiter}
@@ -20,7 +21,6 @@ use Rattle.delimiters.specs.declared.Delimiter.the-variants.{Begins, Ends, Prop
 use Rattle.nesting.specs.Nesting.{Walk, start, inside, closed, broken, afterBegin, outside, afterEnd, afterProperty, afterWrong, afterDelimiter, walk, outcome, nestingOf}
 use Rattle.nesting.specs.WellNested.{numberedFrom}
 use Rattle.nesting.specs.Faults.{GoesOn, BreaksAt, StopsAt, FaultAt, breaks, stops}
-use Rattle.nesting.specs.declared.Nesting.the-variants.{Good, BadLine}
 use Rattle.nesting.proofs.NestingLaws.{walk-numbered, stays-broken, step-end}
 
 -- ---- what is open has names
@@ -184,7 +184,7 @@ unfolding nestingOf outcome
 broken-goes-not-on p j e g =
     let w : walk 1 start (p ++ g .more) ≡ broken j =
     walk-append 1 start p (g .more) ∙ ap (λ (v : Walk). walk (length p + 1) v (g .more)) e ∙ walk-broken (length p + 1) j (g .more) in
-    let q : BadLine j ≡ Good = sym (ap (outcome (length (p ++ g .more) + 1)) w) ∙ g .good in
+    let q : badLine j ≡ allGood = sym (ap (outcome (length (p ++ g .more) + 1)) w) ∙ g .good in
     let z : _≡_ {A = ℕ} 0 1 = cc in
     omega arith
 
@@ -296,7 +296,7 @@ split i j w (x ∷ xs) b e =
 -- ---- from the walk's outcome to the line, and back
 
 -- the walk came to the last line unbroken, and what is open is missing its END lines
-stopped : (xs : List ContentLine) (k : ℕ) → isBroken (walk 1 start xs) ≡ false → nestingOf xs ≡ BadLine (length xs + 1) → nestingOf xs ≡ BadLine k
+stopped : (xs : List ContentLine) (k : ℕ) → isBroken (walk 1 start xs) ≡ false → nestingOf xs ≡ badLine (length xs + 1) → nestingOf xs ≡ badLine k
     → FaultAt xs k
 stopped xs k b e q =
     stops (record {
@@ -305,7 +305,7 @@ stopped xs k b e q =
       unfinished = λ g. let z : _≡_ {A = ℕ} 0 1 = cc in omega arith;
     })
 
-fault-of : (xs : List ContentLine) (k : ℕ) (w : Walk) → walk 1 start xs ≡ w → nestingOf xs ≡ outcome (length xs + 1) w → nestingOf xs ≡ BadLine k
+fault-of : (xs : List ContentLine) (k : ℕ) (w : Walk) → walk 1 start xs ≡ w → nestingOf xs ≡ outcome (length xs + 1) w → nestingOf xs ≡ badLine k
     → FaultAt xs k
 unfolding outcome
 fault-of xs k start e h q = stopped xs k (ap isBroken e) h q
@@ -345,7 +345,7 @@ break-walk p x r v e u b =
     ∙ walk-broken (suc (length p + 1)) (b .number) r
     ∙ ap broken n
 
-bad-of-break : (xs : List ContentLine) (k : ℕ) → BreaksAt xs k → nestingOf xs ≡ BadLine k
+bad-of-break : (xs : List ContentLine) (k : ℕ) → BreaksAt xs k → nestingOf xs ≡ badLine k
 unfolding nestingOf outcome
 bad-of-break xs k f =
     let p = f .before ++ (f .line ∷ []) in
@@ -353,29 +353,29 @@ bad-of-break xs k f =
     let b = broken-of p (isBroken (walk 1 start p)) refl (f .stuck) in
     let w : walk 1 start xs ≡ broken (length (f .before) + 1) =
     ap (walk 1 start) (f .file) ∙ break-walk (f .before) (f .line) (f .behind) (walk 1 start (f .before)) refl u b in
-    ap (outcome (length xs + 1)) w ∙ ap BadLine (sym (f .number))
+    ap (outcome (length xs + 1)) w ∙ ap badLine (sym (f .number))
 
-stop-by : (n : ℕ) (w : Walk) → isBroken w ≡ false → (outcome n w ≡ Good → ⊥) → outcome n w ≡ BadLine n
+stop-by : (n : ℕ) (w : Walk) → isBroken w ≡ false → (outcome n w ≡ allGood → ⊥) → outcome n w ≡ badLine n
 unfolding outcome
 stop-by n start b u = refl
 stop-by n (inside o k) b u = refl
 stop-by n closed b u = absurd (u refl)
 stop-by n (broken j) b u = clash refl b
 
-bad-of-stop : (xs : List ContentLine) (k : ℕ) → StopsAt xs k → nestingOf xs ≡ BadLine k
+bad-of-stop : (xs : List ContentLine) (k : ℕ) → StopsAt xs k → nestingOf xs ≡ badLine k
 unfolding nestingOf
 bad-of-stop xs k f =
     let u = unbroken-of xs (isBroken (walk 1 start xs)) refl (f .goes-on) in
-    stop-by (length xs + 1) (walk 1 start xs) u (f .unfinished) ∙ ap BadLine (sym (f .number))
+    stop-by (length xs + 1) (walk 1 start xs) u (f .unfinished) ∙ ap badLine (sym (f .number))
 
-bad-of-fault : (xs : List ContentLine) (k : ℕ) → FaultAt xs k → nestingOf xs ≡ BadLine k
+bad-of-fault : (xs : List ContentLine) (k : ℕ) → FaultAt xs k → nestingOf xs ≡ badLine k
 bad-of-fault xs k (breaks f) = bad-of-break xs k f
 bad-of-fault xs k (stops f) = bad-of-stop xs k f
 
-fault-of-bad : (xs : List ContentLine) (k : ℕ) → nestingOf xs ≡ BadLine k → FaultAt xs k
+fault-of-bad : (xs : List ContentLine) (k : ℕ) → nestingOf xs ≡ badLine k → FaultAt xs k
 unfolding nestingOf
 fault-of-bad xs k e = fault-of xs k (walk 1 start xs) refl refl e
 
 -- THE THEOREM: the fault names line k exactly where k is as change request R-1 says
-pub fault-iff : (xs : List ContentLine) (k : ℕ) → (nestingOf xs ≡ BadLine k) ↔ FaultAt xs k
+pub fault-iff : (xs : List ContentLine) (k : ℕ) → (nestingOf xs ≡ badLine k) ↔ FaultAt xs k
 fault-iff xs k = (fault-of-bad xs k, bad-of-fault xs k)

@@ -12,6 +12,7 @@ use native.Mathlib.Omega.{arith}
 use lib.ListN.{length, length-append}
 use Rattle.ascii.specs.Names.{sameName}
 use Rattle.line.specs.Grammar.{ContentLine}
+use Rattle.line.specs.WellFormed.{allGood}
 use Rattle.delimiters.specs.Delimiters.{delimiterOf}
 use Rattle.delimiters.specs.Innermost.{isCalendar, mayBegin}
 use Rattle.delimiters.specs.declared.Delimiter.{Delimiter}
@@ -19,7 +20,6 @@ use Rattle.delimiters.specs.declared.Delimiter.the-variants.{Begins, Ends, Prop
 use Rattle.nesting.specs.Nesting.{Walk, start, inside, closed, broken, afterBegin, outside, afterEnd, afterProperty, afterWrong, walk, outcome, nestingOf}
 use Rattle.nesting.specs.Components.{Numbered, begins, ends, other, Items, none, property, component, endOf, itemsOf, treeOf, renderedItems}
 use Rattle.nesting.specs.WellNested.{numberedFrom, componentCount, AllowedAt, NestedAt, nothing, with-property, with-component, WellNested, calendar}
-use Rattle.nesting.specs.declared.Nesting.the-variants.{Good}
 use Rattle.nesting.proofs.NestingLaws.{stepped, walked, delimiters, walk-numbered, delimiters-numbered, may-begin-allowed, step-begin, step-end, step-property, broken-step, closed-last}
 
 -- ---- from a tree to its lines: the tree is read back, and the walk passes it
@@ -216,7 +216,7 @@ parsed (suc n) = parses-more n (parsed n)
 -- ---- the whole file
 
 -- a walk over the whole file that is good has closed
-good-closed : (n : ℕ) (w : Walk) → outcome n w ≡ Good → w ≡ closed
+good-closed : (n : ℕ) (w : Walk) → outcome n w ≡ allGood → w ≡ closed
 unfolding outcome
 good-closed n start e = cc
 good-closed n (inside o k) e = cc
@@ -258,7 +258,7 @@ whole [] w = start-not-closed w
 whole (x ∷ ns) w = whole-step x ns (delimiterOf (x .line)) refl w
 
 -- good lines are the lines of a well nested tree
-pub good-tree : (xs : List ContentLine) → nestingOf xs ≡ Good → Whole (numberedFrom 1 xs)
+pub good-tree : (xs : List ContentLine) → nestingOf xs ≡ allGood → Whole (numberedFrom 1 xs)
 unfolding nestingOf
 good-tree xs e = whole (numberedFrom 1 xs) (sym (walk-numbered 1 start xs) ∙ good-closed (length xs + 1) (walk 1 start xs) e)
 
@@ -279,7 +279,7 @@ tree-read (calendar {b} {e} {k} w c n h) =
     (end-past n 0 (e ∷ []) ∙ ap (endOf 0) (delimiters-end e [] (w .ends)))
     (items-past n 0 (e ∷ []) ∙ ap (itemsOf 1) (delimiters-end e [] (w .ends)))
 
-pub tree-good : {t : Items} (xs : List ContentLine) → WellNested t → renderedItems t ≡ numberedFrom 1 xs → nestingOf xs ≡ Good
+pub tree-good : {t : Items} (xs : List ContentLine) → WellNested t → renderedItems t ≡ numberedFrom 1 xs → nestingOf xs ≡ allGood
 unfolding nestingOf outcome
 tree-good xs g e = ap (outcome (length xs + 1)) (walk-numbered 1 start xs ∙ ap (walked start) (sym e) ∙ tree-walk g)
 
@@ -289,7 +289,7 @@ tree-same xs g e = ap (itemsOf 0) (delimiters-numbered 1 xs ∙ ap delimiters (s
 
 -- THE THEOREM: the nesting is good and t is the tree of the file, exactly where t is well nested and its lines are the file's
 pub nesting-iff : (xs : List ContentLine) (t : Items)
-    → ((nestingOf xs ≡ Good) × (treeOf xs ≡ t)) ↔ (WellNested t × (renderedItems t ≡ numberedFrom 1 xs))
+    → ((nestingOf xs ≡ allGood) × (treeOf xs ≡ t)) ↔ (WellNested t × (renderedItems t ≡ numberedFrom 1 xs))
 nesting-iff xs t = (
   λ h.
       let w = good-tree xs (h .0) in
@@ -299,6 +299,6 @@ nesting-iff xs t = (
 )
 
 -- the same of the bytes of a file: a good file's tree is well nested, and its lines are the file's
-pub file-nested : (s : List ℕ) → nestingIn s ≡ Good → WellNested (treeIn s) × (renderedItems (treeIn s) ≡ numberedFrom 1 (map lineOf (contentLines s)))
+pub file-nested : (s : List ℕ) → nestingIn s ≡ allGood → WellNested (treeIn s) × (renderedItems (treeIn s) ≡ numberedFrom 1 (map lineOf (contentLines s)))
 unfolding nestingIn treeIn
 file-nested s e = nesting-iff (map lineOf (contentLines s)) (treeIn s) .0 (e, refl)

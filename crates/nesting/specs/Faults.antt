@@ -5,13 +5,13 @@ use mathlib.Core.Path.{_≡_}
 use mathlib.Core.List.{List, [], _∷_, _++_}
 use lib.ListN.{length}
 use Rattle.line.specs.Grammar.{ContentLine}
+use Rattle.line.specs.WellFormed.{allGood}
 use Rattle.nesting.specs.Nesting.{nestingOf}
-use Rattle.nesting.specs.declared.Nesting.the-variants.{Good}
 
 -- some continuation of these lines keeps the rules
 pub record GoesOn (p : List ContentLine) : Type 0 where
   pub more : List ContentLine
-  pub good : nestingOf (p ++ more) ≡ Good
+  pub good : nestingOf (p ++ more) ≡ allGood
 
 -- line number k is the first after which none does
 pub record BreaksAt (xs : List ContentLine) (k : ℕ) : Type 0 where
@@ -27,7 +27,7 @@ pub record BreaksAt (xs : List ContentLine) (k : ℕ) : Type 0 where
 pub record StopsAt (xs : List ContentLine) (k : ℕ) : Type 0 where
   pub number : k ≡ length xs + 1
   pub goes-on : GoesOn xs
-  pub unfinished : nestingOf xs ≡ Good → ⊥
+  pub unfinished : nestingOf xs ≡ allGood → ⊥
 
 pub data FaultAt (xs : List ContentLine) (k : ℕ) : Type 0 where
   breaks : BreaksAt xs k → FaultAt xs k

@@ -1,17 +1,16 @@
 -- Right nesting (document 01, Nesting), as one walk over the content lines that knows the components still open.
 -- The line where the walk breaks is the first after which no continuation keeps the rules.
 use Prim.Native.Nat.{ℕ, suc, _+_}
-use mathlib.Core.Bool.{cond, not}
+use mathlib.Core.Bool.{cond}
 use mathlib.Core.List.{List, [], _∷_}
 use lib.ListN.{length}
 use Rattle.ascii.specs.Names.{sameName}
 use Rattle.line.specs.Grammar.{ContentLine}
+use Rattle.line.specs.WellFormed.{LineCheck, allGood, badLine}
 use Rattle.delimiters.specs.Delimiters.{delimiterOf}
 use Rattle.delimiters.specs.Innermost.{isCalendar, mayBegin}
 use Rattle.delimiters.specs.declared.Delimiter.{Delimiter}
 use Rattle.delimiters.specs.declared.Delimiter.the-variants.{Begins, Ends, Property, Wrong}
-use Rattle.nesting.specs.declared.Nesting.{Nesting}
-use Rattle.nesting.specs.declared.Nesting.the-variants.{Good, BadLine}
 
 -- how far the walk is
 pub data Walk : Type 0 where
@@ -70,12 +69,12 @@ walk i w [] = w
 walk i w (x ∷ xs) = walk (suc i) (afterDelimiter (delimiterOf x) i x w) xs
 
 -- a file that just stops breaks at the line after its last
-unfoldable pub outcome : ℕ → Walk → Nesting
-outcome n start = BadLine n
-outcome n (inside o k) = BadLine n
-outcome n closed = Good
-outcome n (broken j) = BadLine j
+unfoldable pub outcome : ℕ → Walk → LineCheck
+outcome n start = badLine n
+outcome n (inside o k) = badLine n
+outcome n closed = allGood
+outcome n (broken j) = badLine j
 
 -- lines are counted from 1
-unfoldable pub nestingOf : List ContentLine → Nesting
+unfoldable pub nestingOf : List ContentLine → LineCheck
 nestingOf xs = outcome (length xs + 1) (walk 1 start xs)

@@ -1,12 +1,6 @@
 // The component tree of a file, and whether its nesting is right: definitions and their theorems.
 // The code that reads them is in the crate structure.
 
-// Is the nesting right, or which line breaks it?
-pub enum Nesting {
-    Good,
-    BadLine(usize),
-}
-
 // Is each line well formed and the nesting right, or which line is the first that is not?
 pub enum Structure {
     Good,

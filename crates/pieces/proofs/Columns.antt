@@ -4,10 +4,10 @@ use mathlib.Core.Path.{_≡_, refl, sym, ap, _∙_}
 use mathlib.Core.List.{List, [], _∷_, _++_}
 use native.Mathlib.Omega.{arith}
 use lib.ListN.{length, take, set, length-append}
-use lib.Seq.{sets, length-sets, lt-length-set, sets-eq, take-nil, take-all, take-at}
+use lib.Seq.{sets, length-sets, lt-length-set, take-nil, take-all}
 use Rattle.time.proofs.Stores.{sets-append}
 use Rattle.periods.specs.BusyTypes.{reportPlace, BusyPeriod}
-use Rattle.pieces.specs.Columns.{flat, stored, Stored, Room}
+use Rattle.pieces.specs.Columns.{flat, stored, Stored}
 
 flat-append : (ps qs : List BusyPeriod) → flat (ps ++ qs) ≡ flat ps ++ flat qs
 unfolding flat
@@ -130,15 +130,3 @@ three-stores o i x y z =
 -- two stores leave every index in bounds
 pub stored-twice : (o : List ℕ) (i x j y : ℕ) {k : ℕ} → k < length o → k < length (set (set o i x) j y)
 stored-twice o i x j y h = lt-length-set (set o i x) j y (lt-length-set o i x h)
-
--- what is stored from the front on is read from the front on
-pub stored-front : {o o′ : List ℕ} {r : ℕ} {ps : List BusyPeriod} → Room o → Stored o 0 ps o′ r
-    → (r ≡ length (stored 0 ps)) × (r ≤ 513) × (take (3 * r) o′ ≡ flat (stored 0 ps))
-stored-front {o} {o′} {r} {ps} l h =
-    let c : r ≡ length (stored 0 ps) = omega (arith, h .count) in
-    let k : r ≤ 513 = stored-few h (omega arith) in
-    let w : length (flat (stored 0 ps)) ≡ 3 * r = omega (arith, flat-length (stored 0 ps)) in (
-      c,
-      k,
-      ap (take (3 * r)) (h .numbers ∙ sets-eq (flat (stored 0 ps)) o 0 (omega arith)) ∙ take-at _ _ (3 * r) w,
-    )

@@ -18,7 +18,7 @@ use Rattle.periods.proofs.BusyTypes.{sameBusy-iff}
 use Rattle.events.specs.Events.{Entry, event, block}
 use Rattle.events.specs.Sizes.{EventSmall}
 use Rattle.events.specs.declared.Event.{Event}
-use Rattle.recurrence.specs.Instances.{startOf, occurs, instancesAtMost}
+use Rattle.recurrence.specs.Instances.{occurs, instancesAtMost}
 use Rattle.recurrence.proofs.Instances.{starts-few}
 use Rattle.pieces.specs.BusyPeriods.{instancePeriod, eventPeriods, entryPeriods, busyPeriods}
 use Rattle.pieces.specs.Covered.{ofType, coveredBy, covered, Covers, by-instance, by-period}

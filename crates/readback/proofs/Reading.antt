@@ -183,11 +183,6 @@ report-types r BusyType.Busy h = report-parts r BusyType.Busy ∙ append-nil (r 
 report-types r BusyType.Tentative h = report-parts r BusyType.Tentative ∙ append-nil (r .periods BusyType.Tentative)
 report-types r BusyType.Unavailable h = report-parts r BusyType.Unavailable
 
--- free time is none of it
-pub report-no-free : (r : Report) → ofType BusyType.Free (reportPeriods r) ≡ []
-unfolding sameBusy reportPlace
-report-no-free r = report-parts r BusyType.Free
-
 -- ---- the one component
 
 -- it is a VFREEBUSY

@@ -17,10 +17,9 @@ use Rattle.text.specs.Lines.{joined}
 use Rattle.time.specs.Writing.{utcText, isUtcByte}
 use Rattle.time.proofs.WritingLaws.{utcText-length, utcText-bytes}
 use Rattle.line.specs.Grammar.{ContentLine, parameter, contentLine, isQuotable, isUnquoted, isValueByte}
-use Rattle.line.specs.WellFormed.{lineCheck}
+use Rattle.line.specs.WellFormed.{lineCheck, allGood}
 use Rattle.line.specs.Rendering.{renderedValue, renderedValues, renderedParameters, rendered, canRender, canRenderAll, Renderable, AllRenderable, no-line, one-more}
 use Rattle.line.specs.File.{ReadBack}
-use Rattle.line.specs.declared.check.LineCheck.{LineCheck}
 use Rattle.line.proofs.Rendering.{renderable-append}
 use Rattle.line.proofs.File.{rendered-back}
 use Rattle.periods.specs.declared.Period.{Period}
@@ -215,7 +214,7 @@ pub report-unfolds : (r : Report) → unfolded (reportBytes r) ≡ reportBytes r
 report-unfolds r = report-back r .unfolds
 
 -- every line is well formed
-pub report-lines-good : (r : Report) → lineCheck (reportBytes r) ≡ LineCheck.Good
+pub report-lines-good : (r : Report) → lineCheck (reportBytes r) ≡ allGood
 report-lines-good r = report-back r .good
 
 -- and they are read as the lines that were written

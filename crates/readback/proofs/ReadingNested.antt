@@ -7,13 +7,13 @@ use lib.ListN.{length}
 use Rattle.ascii.specs.Bytes.{upper, isLetter, isDigit, isNameByte}
 use Rattle.ascii.specs.Names.{sameName, isName}
 use Rattle.line.specs.Grammar.{ContentLine}
+use Rattle.line.specs.WellFormed.{allGood}
 use Rattle.delimiters.specs.Delimiters.{delimiterOf}
 use Rattle.delimiters.specs.Innermost.{isCalendar}
 use Rattle.delimiters.specs.declared.Delimiter.the-variants.{Property}
 use Rattle.nesting.specs.Nesting.{nestingOf}
 use Rattle.nesting.specs.Components.{Numbered, Items, none, property, component, Component, treeOf, componentsIn, propertiesIn, itemsBelow, renderedItems}
 use Rattle.nesting.specs.WellNested.{numberedFrom, componentCount, AllowedAt, NestedAt, nothing, with-property, with-component, WellNested, calendar}
-use Rattle.nesting.specs.declared.Nesting.{Nesting}
 use Rattle.nesting.proofs.WellNested.{tree-good, tree-same}
 use Rattle.periods.specs.BusyTypes.{BusyPeriod}
 use Rattle.calendar.specs.Meaning.{fileLines, componentsOf}
@@ -134,7 +134,7 @@ tree-nested r = calendar (record { begins = refl; ends = refl; names = refl }) r
 
 -- ---- so the nesting is good, and right below VCALENDAR stands the block alone
 
-pub report-nested : (r : Report) → nestingOf (fileLines (reportBytes r)) ≡ Nesting.Good
+pub report-nested : (r : Report) → nestingOf (fileLines (reportBytes r)) ≡ allGood
 report-nested r = ap nestingOf (report-lines-read r) ∙ tree-good (reportContent r) (tree-nested r) (tree-lines r)
 
 pub report-components : (r : Report) → componentsOf (reportBytes r) ≡ blockComponent r ∷ []

@@ -6,7 +6,7 @@ use mathlib.Core.List.{List, [], _∷_, List·Memᴰ, List·Memᴰ·head, List·
 use mathlib.Core.Logic.{_↔_}
 use Rattle.ascii.proofs.Bools.{clash}
 use Rattle.periods.specs.BusyTypes.{BusyPeriod, periodsOf}
-use Rattle.recurrence.specs.TimeRange.{overlaps, periodsOverlap, Decides}
+use Rattle.recurrence.specs.TimeRange.{overlaps, periodsOverlap}
 use Rattle.recurrence.specs.Blocks.{PeriodIn}
 
 or-right : (x : Bool) {y : Bool} → y ≡ true → (x || y) ≡ true
@@ -40,6 +40,3 @@ module _ (a b : ℕ) where
   -- the test says that some period of the list overlaps the range
   pub periods-iff : (ps : List BusyPeriod) → (periodsOverlap a b (periodsOf ps) ≡ true) ↔ PeriodIn a b ps
   periods-iff ps = (overlapping-listed ps, λ i. listed-overlaps (i .listed) (i .passes))
-
-  pub periods-decide : (ps : List BusyPeriod) → Decides (periodsOverlap a b (periodsOf ps)) (PeriodIn a b ps)
-  periods-decide ps = record { holds = overlapping-listed ps; fails = λ n i. clash (listed-overlaps (i .listed) (i .passes)) n }

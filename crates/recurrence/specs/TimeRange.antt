@@ -1,5 +1,5 @@
 -- The time range test (document 01, Events and blocks; RFC 4791 9.9): is an event or a block in the range from a up to, but not including, b?
-use Prim.Native.Nat.{ℕ, _<_, _≤_}
+use Prim.Native.Nat.{ℕ}
 use mathlib.Core.Path.{_≡_}
 use mathlib.Core.Bool.{Bool, true, false, cond, _&&_, _||_}
 use mathlib.Core.List.{List, [], _∷_}

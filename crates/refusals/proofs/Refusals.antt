@@ -8,17 +8,15 @@ use native.Mathlib.Omega.{arith}
 use lib.Dec.{ltb, leb}
 use borrow.Author.Tests.{ltb-true, ltb-false, lt-leb}
 use Rattle.ascii.proofs.Bools.{clash}
-use Rattle.line.specs.WellFormed.{lineCheck}
-use Rattle.line.specs.declared.check.LineCheck.{LineCheck}
+use Rattle.line.specs.WellFormed.{lineCheck, LineCheck, allGood, badLine}
 use Rattle.nesting.specs.Nesting.{nestingOf}
-use Rattle.nesting.specs.declared.Nesting.{Nesting}
 use Rattle.values.specs.declared.times.Context.{Context}
 use Rattle.events.specs.Events.{Entry}
-use Rattle.calendar.specs.Meaning.{calendar, byRules, byValues, byNesting, byLines, fileLines, componentsOf, valueFault, ruleFault, entriesOf, contentsOf, meaningOf, faultOf, structureFault}
+use Rattle.calendar.specs.Meaning.{calendar, byRules, byValues, byLines, fileLines, componentsOf, valueFault, ruleFault, entriesOf, contentsOf, meaningOf, faultOf, structureFault}
 use Rattle.calendar.specs.declared.ValueCheck.{ValueCheck}
 use Rattle.calendar.specs.declared.RuleCheck.{RuleCheck}
 use Rattle.calendar.specs.declared.Fault.{Fault}
-use Rattle.refusals.specs.Refusals.{Row, lowest, RowApplies, NoneApplies, Lowest, NumbersRise, ends, goes-on, sizeRows, lineRow, nestingRow, unsupportedRow, badValueRow, ruleRow, calendarRows, contentsRows}
+use Rattle.refusals.specs.Refusals.{Row, lowest, RowApplies, NoneApplies, Lowest, NumbersRise, ends, goes-on, sizeRows, lineRow, unsupportedRow, badValueRow, ruleRow, calendarRows, contentsRows}
 
 -- a fault and none are apart; one fault has one number
 pub no-fault-here : {A : Type 0} {f : Fault} {n i : ℕ} → f ≡ Fault.At n i → f ≡ Fault.None → A
@@ -168,11 +166,11 @@ sizes-rising cal work rows g = rises 1 2 refl (omega arith) (rises 2 3 refl (ome
 
 -- ---- 6 to 10: the calendar
 
-structure-fault : (l : LineCheck) (n : Nesting) → lowest (lineRow l ∷ nestingRow n ∷ []) ≡ faultOf (byLines l (byNesting n (calendar [])))
-unfolding lowest lineRow nestingRow faultOf byLines byNesting
-structure-fault (LineCheck.BadLine i) n = refl
-structure-fault LineCheck.Good (Nesting.BadLine i) = refl
-structure-fault LineCheck.Good Nesting.Good = refl
+structure-fault : (l n : LineCheck) → lowest (lineRow 6 l ∷ lineRow 7 n ∷ []) ≡ faultOf (byLines 6 l (byLines 7 n (calendar [])))
+unfolding lowest lineRow faultOf byLines
+structure-fault (badLine i) n = refl
+structure-fault allGood (badLine i) = refl
+structure-fault allGood allGood = refl
 
 contents-fault : (v : ValueCheck) (r : RuleCheck) (es : List Entry)
     → lowest (unsupportedRow v ∷ badValueRow v ∷ ruleRow r ∷ []) ≡ faultOf (byValues v (byRules r es))
@@ -182,23 +180,18 @@ contents-fault (ValueCheck.Bad i) r es = refl
 contents-fault ValueCheck.Good (RuleCheck.Broken i) es = refl
 contents-fault ValueCheck.Good RuleCheck.Good es = refl
 
-rows-fault : (l : LineCheck) (n : Nesting) (v : ValueCheck) (r : RuleCheck) (es : List Entry)
-    → lowest (lineRow l ∷ nestingRow n ∷ unsupportedRow v ∷ badValueRow v ∷ ruleRow r ∷ [])
-    ≡ faultOf (byLines l (byNesting n (byValues v (byRules r es))))
-unfolding lowest lineRow nestingRow faultOf byLines byNesting
-rows-fault (LineCheck.BadLine i) n v r es = refl
-rows-fault LineCheck.Good (Nesting.BadLine i) v r es = refl
-rows-fault LineCheck.Good Nesting.Good v r es = contents-fault v r es
+rows-fault : (l n : LineCheck) (v : ValueCheck) (r : RuleCheck) (es : List Entry)
+    → lowest (lineRow 6 l ∷ lineRow 7 n ∷ unsupportedRow v ∷ badValueRow v ∷ ruleRow r ∷ [])
+    ≡ faultOf (byLines 6 l (byLines 7 n (byValues v (byRules r es))))
+unfolding lowest lineRow faultOf byLines
+rows-fault (badLine i) n v r es = refl
+rows-fault allGood (badLine i) v r es = refl
+rows-fault allGood allGood v r es = contents-fault v r es
 
-line-numbered : (l : LineCheck) → lineRow l .number ≡ 6
+line-numbered : (k : ℕ) (l : LineCheck) → lineRow k l .number ≡ k
 unfolding lineRow
-line-numbered LineCheck.Good = refl
-line-numbered (LineCheck.BadLine i) = refl
-
-nesting-numbered : (n : Nesting) → nestingRow n .number ≡ 7
-unfolding nestingRow
-nesting-numbered Nesting.Good = refl
-nesting-numbered (Nesting.BadLine i) = refl
+line-numbered k allGood = refl
+line-numbered k (badLine i) = refl
 
 unsupported-numbered : (v : ValueCheck) → unsupportedRow v .number ≡ 8
 unfolding unsupportedRow
@@ -227,8 +220,8 @@ module _ (c : Context) (u : List ℕ) where
   pub calendar-rising : (rows : List Row) → NumbersRise 10 rows → NumbersRise 5 (calendarRows c u rows)
   unfolding calendarRows contentsRows
   calendar-rising rows g =
-      rises 5 6 (line-numbered _) (omega arith)
-      (rises 6 7 (nesting-numbered _) (omega arith)
+      rises 5 6 (line-numbered 6 _) (omega arith)
+      (rises 6 7 (line-numbered 7 _) (omega arith)
       (rises 7 8 (unsupported-numbered _) (omega arith)
       (rises 8 9 (value-numbered _) (omega arith) (rises 9 10 (rule-numbered _) (omega arith) g))))
 
@@ -243,7 +236,7 @@ module _ (c : Context) (u : List ℕ) where
 
 module _ (c : Context) (u : List ℕ) (rows : List Row) where
   abbrev structure : List Row
-  structure = lineRow (lineCheck u) ∷ nestingRow (nestingOf (fileLines u)) ∷ []
+  structure = lineRow 6 (lineCheck u) ∷ lineRow 7 (nestingOf (fileLines u)) ∷ []
 
   structure-lowest : lowest structure ≡ structureFault u
   unfolding structureFault

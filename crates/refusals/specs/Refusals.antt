@@ -5,10 +5,8 @@ use mathlib.Core.Bool.{Bool, true, false}
 use mathlib.Core.List.{List, [], _∷_, List·Memᴰ}
 use lib.Dec.{ltb}
 use lib.ListN.{length}
-use Rattle.line.specs.WellFormed.{lineCheck}
-use Rattle.line.specs.declared.check.LineCheck.{LineCheck}
+use Rattle.line.specs.WellFormed.{lineCheck, LineCheck, allGood, badLine}
 use Rattle.nesting.specs.Nesting.{nestingOf}
-use Rattle.nesting.specs.declared.Nesting.{Nesting}
 use Rattle.values.specs.declared.times.Context.{Context}
 use Rattle.calendar.specs.Meaning.{fileLines, componentsOf, valueFault, ruleFault}
 use Rattle.calendar.specs.declared.ValueCheck.{ValueCheck}
@@ -58,15 +56,10 @@ sizeRows cal work rows = row 2 0 (ltb 65536 (length cal)) ∷ row 3 0 (ltb (leng
 
 -- ---- the rows of a calendar, from its unfolded bytes
 
--- 6: some line badly formed
-unfoldable pub lineRow : LineCheck → Row
-lineRow LineCheck.Good = row 6 0 false
-lineRow (LineCheck.BadLine i) = row 6 i true
-
--- 7: nesting wrong
-unfoldable pub nestingRow : Nesting → Row
-nestingRow Nesting.Good = row 7 0 false
-nestingRow (Nesting.BadLine i) = row 7 i true
+-- 6: some line badly formed; 7: nesting wrong
+unfoldable pub lineRow : ℕ → LineCheck → Row
+lineRow k allGood = row k 0 false
+lineRow k (badLine i) = row k i true
 
 -- 8: an unsupported thing on the first line with either; 9: a bad value there
 unfoldable pub unsupportedRow : ValueCheck → Row
@@ -91,4 +84,4 @@ contentsRows c u rows =
 
 -- 6 to 10
 unfoldable pub calendarRows : Context → List ℕ → List Row → List Row
-calendarRows c u rows = lineRow (lineCheck u) ∷ nestingRow (nestingOf (fileLines u)) ∷ contentsRows c u rows
+calendarRows c u rows = lineRow 6 (lineCheck u) ∷ lineRow 7 (nestingOf (fileLines u)) ∷ contentsRows c u rows

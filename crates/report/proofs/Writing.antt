@@ -5,7 +5,7 @@ use mathlib.Core.Path.{_≡_, refl, ap, _∙_, sym, subst}
 use mathlib.Core.List.{List, [], _∷_, _++_, append-assoc}
 use native.Mathlib.Omega.{arith}
 use lib.ListN.{length, take, length-append, drop, getD, drop-of-length-le}
-use lib.Seq.{sets, sets-eq, length-sets, take-append-seam, drop-append-seam}
+use lib.Seq.{sets, length-sets}
 use Rattle.text.specs.Lines.{joined}
 use Rattle.time.specs.Writing.{utcText}
 use Rattle.time.specs.Limits.{lastSecond}
@@ -74,15 +74,6 @@ put-then {x = x} {y = y} f g = record {
 -- the output stays as long
 pub put-same : {o p x : List ℕ} {a b : ℕ} → Put o a x p b → length p ≡ length o
 put-same {o} {p} {x} {a} f = ap length (f .bytes) ∙ length-sets o a x
-
--- bytes put at the start are the first of the output, and behind them it stays as it was
-pub put-first : {o p x : List ℕ} {r : ℕ} → Put o 0 x p r → length x ≤ length o → (take r p ≡ x) × (drop r p ≡ drop r o)
-put-first {o} {p} {x} {r} f h =
-    let z : 0 + length x ≡ length x = omega arith in
-    let e : p ≡ x ++ drop (length x) o = f .bytes ∙ sets-eq x o 0 (omega arith) ∙ ap (λ (k : ℕ). x ++ drop k o) z in (
-      rw (f .place, z, e) (take-append-seam x (drop (length x) o)),
-      rw (f .place, z, e) (drop-append-seam x (drop (length x) o)),
-    )
 
 -- the same bytes, said otherwise
 pub put-as : {o p x y : List ℕ} {a b : ℕ} → Put o a x p b → x ≡ y → Put o a y p b

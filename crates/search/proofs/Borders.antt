@@ -5,7 +5,7 @@ use mathlib.Core.Bool.{Bool, true, false}
 use mathlib.Core.List.{List, [], _∷_, _++_, map}
 use native.Mathlib.Omega.{arith}
 use lib.Dec.{ltb}
-use lib.ListN.{length, take, drop, getD, set, length-map, length-take, length-drop, length-append, List·getD-append, List·getD-map, take-append-drop}
+use lib.ListN.{length, take, drop, getD, set, length-map, length-drop, length-append, List·getD-append, List·getD-map, take-append-drop}
 use lib.Seq.{getD-set-same, getD-set-other, getD-append-add, getD-take, getD-drop, ext-getD, length-take-le, take-all}
 use borrow.Author.Tests.{ltb-true, ltb-false}
 use Rattle.ascii.proofs.Bools.{not-so}

@@ -7,7 +7,7 @@ use native.Mathlib.Omega.{arith}
 use borrow.Author.Tests.{leb-true, leb-false, ltb-true, ltb-false, eqb-true, eqb-false, le-leb, lt-leb, lt-ltb, le-ltb, eq-eqb, ne-eqb}
 use lib.Dec.{eqb, leb, ltb}
 use lib.ListN.{length, getD}
-use Rattle.nesting.specs.Components.{none, component, endOf}
+use Rattle.nesting.specs.Components.{none, endOf}
 use Rattle.structure.specs.Rows.{delimitedBy, itemsBy, ItemRows, nothing, with-property, with-component, ItemsAt}
 use Rattle.structure.specs.Items.{itemBy, PropertyAt, InnerAt, ItemAt, is-property, is-inner, is-done}
 use Rattle.structure.specs.declared.items.Item.{Item}

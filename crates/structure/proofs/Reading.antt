@@ -11,8 +11,7 @@ use Rattle.ascii.proofs.Bools.{clash}
 use Rattle.text.specs.Lines.{contentLines}
 use Rattle.line.specs.Grammar.{ContentLine}
 use Rattle.line.specs.Reading.{lineOf, valueOf}
-use Rattle.line.specs.WellFormed.{lineCheck}
-use Rattle.line.specs.declared.check.LineCheck.{LineCheck}
+use Rattle.line.specs.WellFormed.{lineCheck, LineCheck, allGood, badLine}
 use Rattle.delimiters.specs.Delimiters.{delimiterOf}
 use Rattle.delimiters.specs.Innermost.{mayBegin, nestingStepBy, beginsBy, beginsCalendar}
 use Rattle.delimiters.specs.declared.Delimiter.{Delimiter}
@@ -22,7 +21,6 @@ use Rattle.nesting.specs.Nesting.{Walk, start, inside, closed, broken, afterDel
 use Rattle.nesting.specs.Components.{none, itemsOf, delimitedFrom}
 use Rattle.nesting.specs.WellNested.{numberedFrom}
 use Rattle.nesting.specs.Files.{nestingFrom, nestingIn, structureBy}
-use Rattle.nesting.specs.declared.Nesting.{Nesting}
 use Rattle.nesting.specs.declared.Structure.{Structure}
 use Rattle.nesting.proofs.NestingLaws.{afterNestingStep, after-step, Room, opens-room}
 use Rattle.nesting.proofs.NestingLaws.{walk-numbered, stays-broken, after-closed}
@@ -129,7 +127,7 @@ from-none : (i : ℕ) (w : Walk) → nestingFrom i w [] ≡ outcome i w
 unfolding nestingFrom walk
 from-none i w = let n : i + 0 ≡ i = omega arith in ap (λ (j : ℕ). outcome j w) n
 
-from-broken : (i j : ℕ) (xs : List ContentLine) → nestingFrom i (broken j) xs ≡ Nesting.BadLine j
+from-broken : (i j : ℕ) (xs : List ContentLine) → nestingFrom i (broken j) xs ≡ badLine j
 unfolding nestingFrom outcome
 from-broken i j xs = ap (outcome (i + length xs)) (walk-numbered i (broken j) xs ∙ stays-broken j (numberedFrom i xs))
 
@@ -183,7 +181,7 @@ module _ {s index name old rows : List ℕ} {n first begun left i k : ℕ} (r : 
             r .decided o e
             ∙ ap (nestingFrom (i + 1) (inside (name ∷ o) k)) (none-after s i (omega (arith, r .ready .lines .count)))
             ∙ from-none (i + 1) (inside (name ∷ o) k)
-            ∙ ap (λ (t : ℕ). Nesting.BadLine (t + 1)) z;
+            ∙ ap (λ (t : ℕ). badLine (t + 1)) z;
       }
 
   module _ {l : List ℕ} (h : i < n) (p : l ≡ lineBytes s i) {m : NestingStep}
@@ -308,7 +306,7 @@ begins-delimiter Ends v e = clash e refl
 begins-delimiter Property v e = clash e refl
 begins-delimiter Wrong v e = clash e refl
 
-closed-more : (s : List ℕ) (j : ℕ) → j < length (contentLines s) → nestingFrom (j + 1) closed (linesAfter s j) ≡ Nesting.BadLine (j + 1)
+closed-more : (s : List ℕ) (j : ℕ) → j < length (contentLines s) → nestingFrom (j + 1) closed (linesAfter s j) ≡ badLine (j + 1)
 closed-more s j h =
     let x : ContentLine = lineOf (lineBytes s j) in
     ap (nestingFrom (j + 1) closed) (one-after s j h)
@@ -316,7 +314,7 @@ closed-more s j h =
     ∙ ap (λ (w : Walk). nestingFrom (j + 1 + 1) w (linesAfter s (j + 1))) (after-closed (delimiterOf x) (j + 1) x)
     ∙ from-broken (j + 1 + 1) (j + 1) (linesAfter s (j + 1))
 
-closed-end : (s : List ℕ) (j : ℕ) → length (contentLines s) ≤ j → nestingFrom (j + 1) closed (linesAfter s j) ≡ Nesting.Good
+closed-end : (s : List ℕ) (j : ℕ) → length (contentLines s) ≤ j → nestingFrom (j + 1) closed (linesAfter s j) ≡ allGood
 unfolding outcome
 closed-end s j h = ap (nestingFrom (j + 1) closed) (none-after s j h) ∙ from-none (j + 1) closed
 
@@ -327,15 +325,15 @@ items-none s j h = ap (λ (xs : List ContentLine). itemsOf 0 (delimitedFrom (j +
 
 -- ---- what the structure is
 
-good-by : (c : LineCheck) (k : Nesting) → c ≡ LineCheck.Good → k ≡ Nesting.Good → Structure.Good ≡ structureBy c k
+good-by : (c : LineCheck) (k : LineCheck) → c ≡ allGood → k ≡ allGood → Structure.Good ≡ structureBy c k
 unfolding structureBy
 good-by c k p q = rw (p, q)
 
-nesting-by : (c : LineCheck) (k : Nesting) (b : ℕ) → c ≡ LineCheck.Good → k ≡ Nesting.BadLine b → Structure.BadNesting b ≡ structureBy c k
+nesting-by : (c : LineCheck) (k : LineCheck) (b : ℕ) → c ≡ allGood → k ≡ badLine b → Structure.BadNesting b ≡ structureBy c k
 unfolding structureBy
 nesting-by c k b p q = rw (p, q)
 
-line-by : (c : LineCheck) (k : Nesting) (b : ℕ) → LineCheck.BadLine b ≡ c → Structure.BadLine b ≡ structureBy c k
+line-by : (c : LineCheck) (k : LineCheck) (b : ℕ) → badLine b ≡ c → Structure.BadLine b ≡ structureBy c k
 unfolding structureBy
 line-by c k b p = rw (sym p)
 
@@ -347,7 +345,7 @@ isGood (Structure.BadNesting n) = false
 not-good : {A : Type 0} (r : Structure) → isGood r ≡ false → r ≡ Structure.Good → A
 not-good r f e = clash (ap isGood e) f
 
-file-breaks : {s index : List ℕ} (rows : List ℕ) {n : ℕ} (b : ℕ) → Lines s index n → nestingIn s ≡ Nesting.BadLine b
+file-breaks : {s index : List ℕ} (rows : List ℕ) {n : ℕ} (b : ℕ) → Lines s index n → nestingIn s ≡ badLine b
     → StructureRead s index rows (Structure.BadNesting b)
 file-breaks {s} rows b v q =
     record { structure-is = nesting-by (lineCheck s) (nestingIn s) b (v .indexed .good) q; known = not-good (Structure.BadNesting b) refl }

@@ -19,7 +19,7 @@ use Rattle.line.specs.Reading.{lineOf, valueOf}
 use Rattle.delimiters.specs.Innermost.{isCalendar, isEvent, isFreeBusy}
 use Rattle.delimiters.specs.declared.Delimiter.{Delimiter}
 use Rattle.delimiters.specs.declared.Delimiter.the-variants.{Begins, Ends, Property}
-use Rattle.nesting.specs.Components.{Numbered, begins, other, delimitedAs, delimitedFrom, Items, none, property, component, itemsOf, endOf, treeOf, itemsBelow, Component, componentsIn}
+use Rattle.nesting.specs.Components.{Numbered, delimitedAs, delimitedFrom, Items, none, property, component, itemsOf, endOf, treeOf, itemsBelow, Component, componentsIn}
 use Rattle.nesting.specs.WellNested.{AllowedAt, NestedAt, WellNested, calendar}
 use Rattle.nesting.specs.Files.{treeIn}
 use Rattle.nesting.proofs.WellNested.{file-nested}

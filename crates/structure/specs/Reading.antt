@@ -3,11 +3,10 @@ use Prim.Native.Nat.{ℕ, _+_, _*_, _≤_, _<_}
 use mathlib.Core.Path.{_≡_}
 use mathlib.Core.List.{List, _∷_}
 use lib.ListN.{length, getD}
-use Rattle.line.specs.WellFormed.{lineCheck}
+use Rattle.line.specs.WellFormed.{lineCheck, badLine}
 use Rattle.delimiters.specs.declared.Delimiter.the-variants.{Ends}
 use Rattle.nesting.specs.Nesting.{inside, outside}
 use Rattle.nesting.specs.Files.{nestingFrom, nestingIn, structureBy}
-use Rattle.nesting.specs.declared.Nesting.the-variants.{BadLine}
 use Rattle.nesting.specs.declared.Structure.{Structure}
 use Rattle.index.specs.Index.{Lines}
 use Rattle.structure.specs.Rows.{linesAfter, LineIs, ItemRows, FileRows}
@@ -40,7 +39,7 @@ pub record Closes (s name old new : List ℕ) (n first begun left j m : ℕ) : T
 
 -- the file breaks at line b, counted from 1, before the component ends, whatever is open around it
 pub record Breaks (s name : List ℕ) (first begun left b : ℕ) : Type 0 where
-  pub decided : (o : List (List ℕ)) → length o + left ≡ 8 → nestingFrom (first + 1) (inside (name ∷ o) begun) (linesAfter s first) ≡ BadLine b
+  pub decided : (o : List (List ℕ)) → length o + left ≡ 8 → nestingFrom (first + 1) (inside (name ∷ o) begun) (linesAfter s first) ≡ badLine b
 
 -- what reading a component answers
 unfoldable pub ClosesTo : List ℕ → List ℕ → List ℕ → List ℕ → ℕ → ℕ → ℕ → ℕ → Closed → Type 0

@@ -8,6 +8,7 @@ use lib.ListN.{length, drop, getD}
 use Rattle.text.specs.Lines.{contentLines}
 use Rattle.line.specs.Grammar.{ContentLine}
 use Rattle.line.specs.Reading.{lineOf, valueOf}
+use Rattle.line.specs.WellFormed.{allGood}
 use Rattle.delimiters.specs.Delimiters.{delimiterOf}
 use Rattle.delimiters.specs.Innermost.{isEvent, isFreeBusy}
 use Rattle.delimiters.specs.declared.Delimiter.{Delimiter}
@@ -15,7 +16,6 @@ use Rattle.delimiters.specs.declared.Delimiter.the-variants.{Begins, Ends, Prop
 use Rattle.nesting.specs.Components.{Numbered, Delimited, delimitedFrom, Items, none, endOf, itemsOf, Component, componentsIn}
 use Rattle.nesting.specs.WellNested.{NestedAt}
 use Rattle.nesting.specs.Files.{nestingIn}
-use Rattle.nesting.specs.declared.Nesting.the-variants.{Good}
 use Rattle.index.specs.Index.{lineBytes, Indexed}
 
 -- what the component of a name is: 1 an event, 2 a block, 0 anything else
@@ -113,6 +113,6 @@ pub record FileRows (s index rows : List ℕ) : Type 0 where
   pub indexed : Indexed s index
   pub lines : ℕ
   pub top : ItemsAt s rows 0 0 lines (getD rows 2 0)
-  pub nested : nestingIn s ≡ Good
+  pub nested : nestingIn s ≡ allGood
   pub first : getD rows 0 0 ≡ 1
   pub some : 0 < getD rows 2 0

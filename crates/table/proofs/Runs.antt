@@ -35,13 +35,6 @@ unfolding covers
 covers-above none x h = refl
 covers-above (then {p = p} a b c r) x h = rw (secondIn-above (p .start) (p .end) x (omega arith)) (covers-above r x h)
 
--- a second that a rising list covers lies between its bounds
-pub covers-inside : {lo hi x : ℕ} {ps : List Period} → Rising lo ps hi → covers ps x ≡ true → (lo ≤ x) × (x < hi)
-covers-inside {lo} {hi} {x} r e = (
-  ⊎-elim (λ (h : x < lo). clash e (covers-below r x h)) (λ h. h) (below-or-not x lo),
-  ⊎-elim (λ h. h) (λ (h : hi ≤ x). clash e (covers-above r x h)) (below-or-not x hi),
-)
-
 period-same : (p q : Period) → p .start ≡ q .start → p .end ≡ q .end → p ≡ q
 period-same p q a b = ap (λ (n : ℕ). period n (p .end)) a ∙ ap (λ (n : ℕ). period (q .start) n) b
 
@@ -186,13 +179,6 @@ runs-only f s n r same =
 -- equal sets have equal runs, and only they
 pub runs-same : (f g : ℕ → Bool) (s n : ℕ) → ((x : ℕ) → s ≤ x → x < s + n → f x ≡ g x) → runs f s n ≡ runs g s n
 runs-same f g s n same = runs-only g s n (runs-rising f s n) (λ x h k. runs-here f s n x h k ∙ same x h k)
-
-pub runs-differ : (f g : ℕ → Bool) (s n : ℕ) → runs f s n ≡ runs g s n → (x : ℕ) → s ≤ x → x < s + n → f x ≡ g x
-runs-differ f g s n e x h k = sym (runs-here f s n x h k) ∙ ap (λ (ps : List Period). covers ps x) e ∙ runs-here g s n x h k
-
--- the runs of what runs cover
-pub runs-runs : (f : ℕ → Bool) (s n : ℕ) → runs (covers (runs f s n)) s n ≡ runs f s n
-runs-runs f s n = runs-same (covers (runs f s n)) f s n (runs-here f s n)
 
 pub runs-none : (s n : ℕ) → runs (λ x. false) s n ≡ []
 unfolding runs leadIf

@@ -3,18 +3,14 @@
 use Prim.Native.Nat.{ℕ, zero, suc, _+_, _≤_, _<_}
 use mathlib.Core.Path.{_≡_, refl, sym, ap, _∙_}
 use mathlib.Core.List.{List, [], _∷_, _++_}
-use mathlib.Core.Bool.{Bool, _||_}
 use native.Mathlib.Numerals.{add-one}
 use native.Mathlib.Omega.{arith}
 use lib.ListN.{length, take, drop, getD, length-take, drop-of-length-le}
 use lib.Seq.{drop-cons, getD-take, length-take-le}
 use Rattle.periods.specs.declared.Period.{Period}
-use Rattle.periods.specs.Periods.{period, secondIn}
+use Rattle.periods.specs.Periods.{period}
 use Rattle.table.specs.declared.Table.{Table}
-use Rattle.table.specs.Tables.{rows, listed, Sound, Added}
-use Rattle.table.specs.Runs.{runs}
-use Rattle.table.specs.Inserting.{inserted}
-use Rattle.table.proofs.Inserting.{inserted-runs}
+use Rattle.table.specs.Tables.{rows, listed, Sound}
 
 module _ {A : Type 0} (a : List A) (n i : ℕ) where
   -- of the first n elements, what is left at i is the element there and what is left after it
@@ -68,15 +64,6 @@ unfolding rows
 rows-next ss es n i h k l =
     rw (rows-take n ss es, rows-drop i (take n ss) (take n es), rows-drop (i + 1) (take n ss) (take n es))
     (rw (take-next ss n i 0 h k, take-next es n i 0 h l))
-
--- the list of a table with a span added, where the list before is known
-pub added-to : {t r : Table} {a b : ℕ} {ps : List Period} → Added t a b r → listed t ≡ ps → listed r ≡ inserted a b ps
-added-to {a = a} {b = b} d e = d .list ∙ ap (λ (l : List Period). inserted a b l) e
-
--- a table of runs, with a span added, is of the runs with it
-pub added-runs : (f : ℕ → Bool) (s n : ℕ) {t r : Table} {a b : ℕ} → Added t a b r → listed t ≡ runs f s n → s ≤ a → a < b → b ≤ s + n
-    → listed r ≡ runs (λ x. secondIn a b x || f x) s n
-added-runs f s n {a = a} {b = b} d e h k l = added-to d e ∙ inserted-runs f s n a b h k l
 
 -- row i of a table is a period: it stands first in what is left from i on
 pub record RowAt (t : Table) (i : ℕ) (p : Period) : Type 0 where

@@ -1,6 +1,6 @@
 -- Adding a span of seconds to a list of periods: those that end before it stay, those that it overlaps or touches become one with it.
 use Prim.Native.Nat.{ℕ, min, max}
-use mathlib.Core.Bool.{true, false, cond}
+use mathlib.Core.Bool.{true, false}
 use mathlib.Core.List.{List, [], _∷_}
 use lib.Dec.{leb, ltb}
 use Rattle.periods.specs.declared.Period.{Period}

@@ -19,7 +19,6 @@ use lib.Seq.{sets, sets-eq}
 use Rattle.periods.specs.declared.BusyType.{BusyType}
 use Rattle.table.specs.Runs.{runs, Lies}
 use Rattle.table.proofs.Inserting.{insertedAll-all}
-use Rattle.table.proofs.Tables.{listed-length}
 use Rattle.periods.specs.BusyTypes.{reportPlace, sameBusy, BusyPeriod}
 use Rattle.pieces.specs.Columns.{flat}
 use Rattle.pieces.specs.Covered.{ofType, coveredBy}
@@ -157,7 +156,3 @@ built-runs b s m ps rest e f lies d =
 pub built-stored : (b : BusyType) (s m : ℕ) (ps : List BusyPeriod) (o : List ℕ) {c : List ℕ} {n : ℕ} {r : Table} → c ≡ sets o 0 (flat ps)
     → 3 * length ps ≤ length o → n ≡ length ps → ((p : BusyPeriod) → List·Memᴰ p ps → Lies s (s + m) (p .period)) → Built c n (reportPlace b) r → listed r ≡ runs (coveredBy b ps) s m
 built-stored b s m ps o e h = built-runs b s m ps (drop (3 * length ps) o) (e ∙ flat-stored o ps h)
-
--- it lists no more periods than there were pieces
-pub built-few : {c : List ℕ} {n k : ℕ} {r : Table} → Built c n k r → length (listed r) ≤ n
-built-few {r = r} d = omega (arith, listed-length r (d .sound), d .count)

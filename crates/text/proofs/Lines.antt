@@ -169,12 +169,6 @@ breakAt-suc b s i =
     let n : suc i + 1 ≡ suc (i + 1) = omega arith in
     rw n
 
-breakAt-drop : (s : List ℕ) (a i : ℕ) → breakAt (drop a s) i ≡ breakAt s (a + i)
-unfolding breakAt
-breakAt-drop s a i =
-    let n : a + (i + 1) ≡ a + i + 1 = omega arith in
-    rw (getD-drop a s i 0, getD-drop a s (i + 1) 0, n)
-
 first-later : (b c : ℕ) (s : List ℕ) (n : ℕ) → isBreak b c ≡ false → FirstBreak (c ∷ s) 0 n → FirstBreak (b ∷ c ∷ s) 0 (suc n)
 unfolding breakAt
 first-later b c s n e f = record {
@@ -209,21 +203,6 @@ cut-first [] l p e = let z : _≡_ {A = ℕ} 0 1 = cc in absurd (omega arith)
 cut-first (b ∷ []) l p e = let z : _≡_ {A = ℕ} 0 1 = cc in absurd (omega arith)
 cut-first (b ∷ c ∷ s) l p e = first-either b c s l p (isBreak b c) refl e (cut-first (c ∷ s))
 
-pub line-at-first : {s : List ℕ} {from e : ℕ} → LineAt s from e → FirstBreak s from e
-line-at-first {s} {from} {e} h =
-    let n : length (part s from e) ≡ e - from = length-part s from e (h .starts) (omega (arith, h .inside)) in
-    let f : FirstBreak (drop from s) 0 (length (part s from e)) = cut-first (drop from s) _ _ (h .cuts) in
-    let m : from + (e - from) ≡ e = omega (arith, h .starts) in
-    record {
-      here =
-          sym (breakAt-drop s from (e - from) ∙ ap (breakAt s) m)
-          ∙ subst (λ (x : ℕ). breakAt (drop from s) x ≡ true) n (f .here);
-      earlier =
-          λ k a b.
-          let d : from + (k - from) ≡ k = omega arith in
-          sym (breakAt-drop s from (k - from) ∙ ap (breakAt s) d) ∙ f .earlier (k - from) (omega arith) (rw n (omega arith));
-    }
-
 -- cutting loses nothing: each piece with its CR LF again gives the bytes
 bytesOf-grow : (b : ℕ) (p : CutLines) → bytesOf (grow b p) ≡ b ∷ bytesOf p
 bytesOf-grow b end = refl
@@ -250,29 +229,10 @@ bytesOf-cut [] = refl
 bytesOf-cut (b ∷ []) = refl
 bytesOf-cut (b ∷ c ∷ s) = bytesOf-either b c s (isBreak b c) refl (bytesOf-cut s) (bytesOf-cut (c ∷ s))
 
--- so a line and what follows it have two bytes less than the whole, and a piece that is not ended is the whole
-pub cut-length : (s l : List ℕ) (p : CutLines) → cut s ≡ line l p → length l + 2 + length (bytesOf p) ≡ length s
-cut-length s l p e =
-    let whole : l ++ (13 ∷ 10 ∷ bytesOf p) ≡ s = sym (ap bytesOf e) ∙ bytesOf-cut s in
-    omega (arith, simp length-append at (ap length whole))
-
-pub cut-unended : (s t : List ℕ) → cut s ≡ unended t → t ≡ s
-cut-unended s t e = sym (ap bytesOf e) ∙ bytesOf-cut s
-
--- a piece that is not ended has a byte
-pub cut-unended-some : (s t : List ℕ) → cut s ≡ unended t → 0 < length t
-unfolding cut
-cut-unended-some [] t e = let z : _≡_ {A = ℕ} 0 1 = cc in absurd (omega arith)
-cut-unended-some (b ∷ s) t e = rw (cut-unended (b ∷ s) t e) (omega arith)
-
 lineCount-bytes : (p : CutLines) → lineCount p + lineCount p ≤ length (bytesOf p)
 lineCount-bytes end = omega arith
 lineCount-bytes (unended t) = omega arith
 lineCount-bytes (line l p) = simp length-append (omega (arith, lineCount-bytes p))
-
--- a line takes at least its CR LF
-pub lineCount-cut : (s : List ℕ) → lineCount (cut s) + lineCount (cut s) ≤ length s
-lineCount-cut s = rw bytesOf-cut at (lineCount-bytes (cut s))
 
 -- lines written each with CR LF are read back: no CR inside keeps a line whole
 no-break : (b c : ℕ) → not (eqb b 13) ≡ true → isBreak b c ≡ false

@@ -6,7 +6,7 @@ use mathlib.Core.List.{List, [], _∷_, _++_, append-nil, append-assoc}
 use native.Mathlib.Omega.{arith}
 use lib.Dec.{ltb}
 use lib.ListN.{length, length-append, length-drop, take, drop, getD, set, length-set, take-append-drop}
-use lib.Seq.{getD-drop, length-take-le, drop-drop, take-at, drop-at, paste, paste-zero, paste-suc, length-paste, take-paste, drop-paste}
+use lib.Seq.{getD-drop, length-take-le, drop-drop, take-at, paste, paste-zero, paste-suc, length-paste, take-paste, drop-paste}
 use borrow.Author.Tests.{not-true, ne-eqb, ltb-true, ltb-false}
 use Rattle.ascii.proofs.Bools.{and-left, and-right, clash, not-so}
 use Rattle.ascii.proofs.Lists.{drop-next, drop-end}
@@ -336,10 +336,6 @@ unfolded-room {cal} {old} {work} {n} u =
 
 pub unfolded-front : {cal old work : List ℕ} {n : ℕ} → Unfolded cal old work n → take n work ≡ unfolded cal
 unfolded-front {cal} {old} {work} {n} u = ap (take n) (u .bytes) ∙ take-at (unfolded cal) _ n (sym (u .count))
-
-pub unfolded-later : {cal old work : List ℕ} {n : ℕ} → Unfolded cal old work n → drop n work ≡ drop n old
-unfolded-later {cal} {old} {work} {n} u =
-    ap (drop n) (u .bytes) ∙ drop-at (unfolded cal) _ n (sym (u .count)) ∙ ap (λ (k : ℕ). drop k old) (sym (u .count))
 
 -- CR, then CR LF blank LF: the CR LF that unfolding brings together stays
 example-brought-together : unfolded (13 ∷ 13 ∷ 10 ∷ 32 ∷ 10 ∷ []) ≡ 13 ∷ 10 ∷ []

@@ -3,11 +3,11 @@
 use Prim.Native.Nat.{ℕ, suc, _+_, _-_, _*_, _/_, _≤_, _<_, _%_}
 use mathlib.Core.Path.{_≡_, refl, sym, ap, _∙_}
 use mathlib.Core.Bool.{Bool, true, false, cond, _&&_, _||_}
-use mathlib.Core.List.{List, _∷_, _++_}
+use mathlib.Core.List.{List, _++_}
 use native.Mathlib.Omega.{arith}
 use native.Mathlib.Decide.{decLt}
 use lib.Dec.{eqb, ltb, leb}
-use lib.ListN.{length, take, drop}
+use lib.ListN.{length}
 use lib.Seq.{sets}
 use borrow.Author.Tests.{eqb-true, leb-true, ltb-true, le-ltb, le-leb, ne-eqb}
 use Rattle.ascii.specs.Bytes.{isDigit, upper}
@@ -257,12 +257,3 @@ utcText-one t u h k e =
     let z : DateTime.At Kind.Utc (t + epoch) ≡ DateTime.At Kind.Utc (u + epoch) = sym (read-written t h) ∙ ap readDateTime e ∙ read-written u k in
     let w : t + epoch ≡ u + epoch = cc in
     omega arith
-
--- a start and an end with one byte between them: both halves as they were written
-pub start-written : (t b : ℕ) (l : List ℕ) → take 16 (utcText t ++ (b ∷ l)) ≡ utcText t
-unfolding utcText dateText timeText
-start-written t b l = refl
-
-pub end-written : (t b : ℕ) (l : List ℕ) → drop 17 (utcText t ++ (b ∷ l)) ≡ l
-unfolding utcText dateText timeText
-end-written t b l = refl

@@ -192,8 +192,3 @@ unfolding allPeriods goodPeriods
 goodPeriods-all [] e = refl
 goodPeriods-all (PeriodRead.Of p ∷ ps) e = ap (λ (l : List PeriodRead). PeriodRead.Of p ∷ l) (goodPeriods-all ps e)
 goodPeriods-all (PeriodRead.Bad ∷ ps) e = clash e refl
-
-pub goodPeriods-written : (s e : ℕ) → s < e → e ≤ lastSecond
-    → goodPeriods (periodItems (utcText s ++ (47 ∷ utcText e))) ≡ record { start = s; end = e } ∷ []
-unfolding goodPeriods
-goodPeriods-written s e h k = ap goodPeriods (periodItems-written s e h k)

@@ -1,6 +1,6 @@
 -- The parts of a rule: the digits of a number, the parts one after the other, and how large what they make can be.
 use Prim.Native.Nat.{ℕ, _+_, _-_, _*_, _^_, _≤_, _<_, max}
-use mathlib.Core.Path.{_≡_, refl, sym, ap, _∙_, subst}
+use mathlib.Core.Path.{_≡_, refl, sym, ap, _∙_}
 use mathlib.Core.Bool.{Bool, true, false, cond, _&&_, _||_}
 use mathlib.Core.List.{List, [], _∷_, map}
 use native.Mathlib.Omega.{arith}
@@ -208,13 +208,6 @@ numberTo-small most l n e = go (between 1 4 (length l) && every isDigit l && bet
         let w : between 1 most (decimal 0 l) ≡ true = and-right (between 1 4 (length l) && every isDigit l) _ p in
         rw (← z) (leb-true _ _ (and-left (leb 1 (decimal 0 l)) _ w), leb-true _ _ (and-right (leb 1 (decimal 0 l)) _ w))
     go false p k = let z : _≡_ {A = ℕ} 0 1 = cc in absurd (omega arith)
-
--- what a limit holds
-pub count-small : (l : Limit) (n : ℕ) → LimitSmall l → l ≡ Limit.Count n → (1 ≤ n) × (n ≤ 9999)
-count-small l n h e = subst LimitSmall e h
-
-pub until-small : (l : Limit) (t : Time) → LimitSmall l → l ≡ Limit.Until t → t .second ≤ lastSecond
-until-small l t h e = subst LimitSmall e h
 
 -- what one part adds
 abbrev PartSmall : Part → Type 0

@@ -1,6 +1,6 @@
 -- The value of RRULE (document 01, Values): parts cut at each semicolon, FREQ, INTERVAL, COUNT and UNTIL.
-use Prim.Native.Nat.{ℕ, _+_, _-_, _*_, _≤_, max}
-use mathlib.Core.Bool.{true, false, cond, not, _&&_, _||_}
+use Prim.Native.Nat.{ℕ, _≤_, max}
+use mathlib.Core.Bool.{true, false, cond, _&&_, _||_}
 use mathlib.Core.List.{List, [], _∷_, map}
 use lib.Dec.{eqb, ltb}
 use lib.ListN.{length}

@@ -2,7 +2,8 @@
 // What they print is compared with stored output.
 use crate::out::print;
 use crate::out::print_number;
-use line::check::LineCheck;
+use index::Filled;
+use line::check::Next;
 use text::Collation;
 use text::Span;
 ghost use Prim.Native.Nat.{_≤_};
@@ -58,25 +59,35 @@ fn show_parameter(p: &[u8]) {
 
 fn show_parameters(l: &[u8]) {
     let count = line::read::parameter_count(l);
+    let texts = line::split::after(line::read::head(l), 59, true);
     let mut i = 0;
     while i < count {
-        show_parameter(line::read::parameter(l, i));
+        show_parameter(line::split::nth_part(texts, 59, true, i));
         i += 1;
     }
 }
 
-fn show_line(l: &[u8]) {
-    if 0 < line::scan::well_formed_name(l) {
-        print(b" [");
-        print(line::read::name(l));
-        show_parameters(l);
-        print(b" value");
-        show_value(line::read::value(l));
-        print(b"]");
-    } else {
-        print(b" [bad ");
-        print_number(l.len() as u64);
-        print(b"]");
+fn show_parts(l: &[u8]) {
+    print(b" [");
+    print(line::split::before(line::read::head(l), 59, true));
+    show_parameters(l);
+    print(b" value");
+    show_value(line::read::value(l));
+    print(b"]");
+}
+
+fn show_bad(l: &[u8]) {
+    print(b" [bad ");
+    print_number(l.len() as u64);
+    print(b"]");
+}
+
+// The line l, which starts at this place of s.
+fn show_line(s: &[u8], from: usize, l: &[u8]) {
+    match line::check::next_good(s, from) {
+        Next::Line(_, _) => show_parts(l),
+        Next::Bad => show_bad(l),
+        Next::End => {}
     }
 }
 
@@ -85,7 +96,7 @@ fn show_lines(s: &[u8]) {
     loop {
         match text::next_line(s, from) {
             Span::Line(e, next) => {
-                show_line(&s[from..e]);
+                show_line(s, from, &s[from..e]);
                 from = next;
             }
             Span::End => return,
@@ -93,10 +104,13 @@ fn show_lines(s: &[u8]) {
     }
 }
 
-fn show_check(s: &[u8]) {
-    match line::check::check_lines_from(s, 0, 1) {
-        LineCheck::Good => print(b" good"),
-        LineCheck::BadLine(n) => {
+fn show_check(s: &[u8])
+    requires { ⌜ length (now s) ≤ 65536 ⌝ }
+{
+    let mut index = [0u32; 16385];
+    match index::fill_index(&mut index, s) {
+        Filled::Lines(_) => print(b" good"),
+        Filled::BadLine(n) => {
             print(b" bad line ");
             print_number(n as u64);
         }

@@ -6,19 +6,25 @@ use Rattle.vectors.proofs.lines.show_parameters.Statement.{statement}
 use Rattle.vectors.proofs.lines.show_parameters.Tie as tie
 
 abbrev Inv-loop : tie.InvT-loop
-Inv-loop l count i₀ i = Unit
+Inv-loop l count texts i₀ i = Unit
 
 abbrev μ-loop : tie.MeasureT-loop
-μ-loop l count i₀ i = count - i
+μ-loop l count texts i₀ i = count - i
 
 parameter-count-requires : tie.Need-parameter-count-requires Inv-loop μ-loop
 parameter-count-requires c κs = search needs
 
+head-requires : tie.Need-head-requires Inv-loop μ-loop
+head-requires c κs = search needs
+
+after-requires : tie.Need-after-requires Inv-loop μ-loop
+after-requires c κs = search needs
+
 loop-holds : tie.Need-loop-holds Inv-loop μ-loop
 loop-holds c = tt
 
-parameter-requires : tie.Need-parameter-requires Inv-loop μ-loop
-parameter-requires c κs = search needs
+nth-part-requires : tie.Need-nth-part-requires Inv-loop μ-loop
+nth-part-requires c κs = search needs
 
 show-parameter-requires : tie.Need-show-parameter-requires Inv-loop μ-loop
 show-parameter-requires c κs = search needs
@@ -42,8 +48,10 @@ show-parameters-spec =
     Inv-loop
     μ-loop
     parameter-count-requires
+    head-requires
+    after-requires
     loop-holds
-    parameter-requires
+    nth-part-requires
     show-parameter-requires
     add-i
     loop-less

@@ -1,5 +1,7 @@
 -- `vectors::lines::show_unfolded` is safe and ends: the unfolded bytes fit the work buffer.
+use native.Mathlib.Omega.{arith}
 use Rattle.text.proofs.Unfolding.{unfolded-room}
+use Rattle.refusals.proofs.Stages.{unfolded-long, unfolded-small}
 use lib.Seq.{length-take-le}
 use mathlib.Core.Path.{sym}
 use borrow.Author.Needs.{needs}
@@ -34,7 +36,7 @@ slice-aggregate-show-check : tie.Need-slice-aggregate-show-check
 slice-aggregate-show-check c = sym (length-take-le _ _ (unfolded-room (c .before .before .before .unfold-into .ensures)))
 
 show-check-requires : tie.Need-show-check-requires
-show-check-requires c κs = search needs
+show-check-requires c κs = omega (arith, unfolded-small (c .before .before .before .unfold-into .ensures) (omega arith), unfolded-long (c .before .before .before .unfold-into .ensures))
 
 array-share-prefix-work-2 : tie.Need-array-share-prefix-work-2
 array-share-prefix-work-2 c = unfolded-room (c .before .before .before .before .unfold-into .ensures)
