@@ -3,15 +3,15 @@
 use Prim.Native.Nat.{ℕ, _≤_, _<_, zero, suc, _+_, _-_}
 use mathlib.Core.Path.{_≡_, sym, ap, _∙_, refl, subst}
 use mathlib.Core.Bool.{Bool, true, false, _&&_}
-use mathlib.Core.List.{List, _++_, [], _∷_, List·Memᴰ}
+use mathlib.Core.List.{List, [], _∷_, append-assoc, List·Memᴰ}
 use native.Mathlib.Omega.{arith}
-use lib.Dec.{ltb, leb}
+use lib.Dec.{ltb}
 use lib.IntN.{ℤ}
-use lib.ListN.{length, take, drop}
+use lib.ListN.{length, take}
 use lib.Seq.{sets}
-use borrow.Author.Tests.{ltb-true, leb-true, lt-leb, lt-ltb, le-ltb}
+use borrow.Author.Tests.{ltb-true, leb-true, lt-ltb, le-ltb}
 use Rattle.ascii.proofs.Bools.{and-left, and-right, clash}
-use Rattle.text.specs.Unfolding.{unfolded, Unfolded}
+use Rattle.text.specs.Unfolding.{Unfolded}
 use Rattle.text.proofs.Unfolding.{unfolded-front}
 use Rattle.time.specs.Limits.{lastSecond, rangeGood}
 use Rattle.periods.specs.declared.Period.{Period}
@@ -33,13 +33,12 @@ use Rattle.pieces.specs.Covered.{coveredBy, covered}
 use Rattle.pieces.specs.Pieces.{busyPieces}
 use Rattle.pieces.proofs.Columns.{stored-all}
 use Rattle.pieces.proofs.Pieces.{busyPieces-cover, pieces-inside}
-use Rattle.refusals.specs.Refusals.{Row, lowest, NumbersRise, ends, row}
+use Rattle.refusals.specs.Refusals.{Row, firstRefusal, row, structureRows, contentsRows, calendarRows}
 use Rattle.refusals.specs.Offsets.{offsetGood, offsetRead}
-use Rattle.refusals.specs.Stages.{earlyFault, workBy}
+use Rattle.refusals.specs.Stages.{workBy}
 use Rattle.refusals.specs.declared.OffsetRead.{OffsetRead}
 use Rattle.refusals.proofs.Offsets.{read-out, shift-bound, offset-given}
-use Rattle.refusals.proofs.Refusals.{lowest-above, row-applies, row-passed, rises, structure-passed, structure-refused, calendar-rising, contents-passed, contents-refused}
-use Rattle.refusals.proofs.Stages.{work-by}
+use Rattle.refusals.proofs.Refusals.{row-applies, row-passed, structure-passed, structure-refused, contents-passed, contents-refused}
 use Rattle.structure.specs.Reading.{StructureRead}
 use Rattle.nesting.specs.declared.Structure.{Structure}
 use Rattle.contents.specs.Contents.{ContentsAre}
@@ -48,8 +47,8 @@ use Rattle.contents.proofs.Contents.{structure-found}
 use Rattle.tables.specs.Building.{Built}
 use Rattle.tables.proofs.Building.{built-stored}
 use Rattle.collecting.specs.declared.Collected.{Collected}
-use Rattle.collecting.specs.CalendarTerms.{stampGood, pieceRows}
-use Rattle.collecting.specs.CollectStages.{callRead, Refuses, Tabled, ContentsTabled, CalendarTabled, CollectedAs, laterRows, laterPeriods, AllSound, Typed, unlessFault, fewestPeriods}
+use Rattle.collecting.specs.CalendarTerms.{stampGood, pieceRow}
+use Rattle.collecting.specs.CollectStages.{callRead, Refuses, Tabled, ContentsTabled, CalendarTabled, CalendarCollected, pieceRows, AllSound, Typed, unlessFault, fewestPeriods}
 
 -- ---- range, stamp and offset
 
@@ -113,7 +112,7 @@ refuses f p q r =
     }
 
 module _ {rows : List Row} {ps : BusyType → List Period} {r : Collected} where
-  pub tabled-refused : {n i : ℕ} → lowest rows ≡ Fault.At n i → Refuses (Fault.At n i) r → Tabled rows ps r
+  pub tabled-refused : {n i : ℕ} → firstRefusal rows ≡ Fault.At n i → Refuses (Fault.At n i) r → Tabled rows ps r
   unfolding unlessFault
   tabled-refused e k =
       record {
@@ -122,7 +121,7 @@ module _ {rows : List Row} {ps : BusyType → List Period} {r : Collected} where
         sound = k .sound;
       }
 
-  pub tabled-passed : {more : List Row} → lowest rows ≡ lowest more → Tabled more ps r → Tabled rows ps r
+  pub tabled-passed : {more : List Row} → firstRefusal rows ≡ firstRefusal more → Tabled more ps r → Tabled rows ps r
   tabled-passed e t =
       record {
         fault-is = t .fault-is ∙ sym e;
@@ -175,8 +174,8 @@ module _ (a e : ℕ) (es : List Entry) where
       (λ x k l. busyPieces-cover b u a e x es ∙ ap (λ (t : Bool). t && covered b es x) (secondIn-true a e x k (omega (arith, range-end h))))
 
   module _ {o o′ : List ℕ} {n : ℕ} (h : Stored o 0 (busyPieces a e es) o′ n) where
-    stored-many : 512 < n → lowest (pieceRows (busyPieces a e es) []) ≡ Fault.At 11 0
-    unfolding pieceRows stored
+    stored-many : 512 < n → firstRefusal (pieceRow (busyPieces a e es) ∷ []) ≡ Fault.At 11 0
+    unfolding pieceRow stored
     stored-many k =
         row-applies _ _ (lt-ltb 512 (length (busyPieces a e es)) (omega (arith, h .count, take-least 513 (busyPieces a e es))))
 
@@ -190,11 +189,11 @@ module _ (a e : ℕ) (es : List Entry) where
       stored-numbers : o′ ≡ sets o 0 (flat (busyPieces a e es))
       stored-numbers = h .numbers ∙ ap (λ (ps : List BusyPeriod). sets o 0 (flat ps)) all-stored
 
-      few-stored : lowest (pieceRows (busyPieces a e es) []) ≡ Fault.None
-      unfolding pieceRows lowest
+      few-stored : firstRefusal (pieceRow (busyPieces a e es) ∷ []) ≡ Fault.None
+      unfolding pieceRow firstRefusal
       few-stored = row-passed (row 11 0 (ltb 512 (length (busyPieces a e es)))) [] (le-ltb 512 (length (busyPieces a e es)) (omega (arith, stored-count)))
 
-      tabled-stored : {r : Collected} → Room o → a < e → Typed o′ n r → Tabled (pieceRows (busyPieces a e es) []) (fewestPeriods a e es) r
+      tabled-stored : {r : Collected} → Room o → a < e → Typed o′ n r → Tabled (pieceRow (busyPieces a e es) ∷ []) (fewestPeriods a e es) r
       unfolding unlessFault
       tabled-stored l w t =
           record {
@@ -216,54 +215,34 @@ module _ {c : Context} {u rows : List ℕ} {a e : ℕ} {o o′ entries : List �
   contents-refuse q w = tabled-refused (contents-refused c u _ (sym (k .fault-is) ∙ q)) w
 
   module _ (q : x .fault ≡ Fault.None) where
-    contents-pass : Tabled (pieceRows (busyPieces a e (entriesOf c (componentsOf u))) []) (fewestPeriods a e (entriesOf c (componentsOf u))) r → ContentsTabled c u a e r
+    contents-pass : Tabled (pieceRows c u a e) (fewestPeriods a e (entriesOf c (componentsOf u))) r → ContentsTabled c u a e r
     contents-pass t = tabled-passed (contents-passed c u _ (sym (k .fault-is) ∙ q)) t
 
     pub contents-many : 512 < x .count → Refuses (Fault.At 11 0) r → ContentsTabled c u a e r
+    unfolding pieceRows
     contents-many m w = contents-pass (tabled-refused (stored-many a e _ (k .stored q) m) w)
 
     pub contents-few : x .count ≤ 512 → Room o → a < e → Typed o′ (x .count) r → ContentsTabled c u a e r
+    unfolding pieceRows
     contents-few m l w t = contents-pass (tabled-stored a e _ (k .stored q) m l w t)
 
--- ---- the work buffer
-
-module _ (cal work : List ℕ) where
-  module _ {rows : List Row} {ps : BusyType → List Period} {r : Collected} where
-    -- a refusal by 1 to 5 leaves the buffer as it was; otherwise the unfolded calendar is left in it
-    pub collected-early : {n i : ℕ} → lowest rows ≡ Fault.At n i → leb n 5 ≡ true → Refuses (Fault.At n i) r → CollectedAs rows ps cal work r work
-    unfolding earlyFault
-    collected-early {n} {i} f h k =
-        record { tabled = tabled-refused f k; work-left = sym (ap (λ (g : Fault). workBy g cal work) f ∙ work-by cal work (Fault.At n i) h) }
-
-    collected-late : {left : List ℕ} → left ≡ unfolded cal ++ drop (length (unfolded cal)) work → earlyFault (lowest rows) ≡ false
-        → Tabled rows ps r → CollectedAs rows ps cal work r left
-    collected-late u h t = record { tabled = t; work-left = u ∙ sym (work-by cal work (lowest rows) h) }
-
 -- ---- from the calendar on
-
-late-above : (rows : List Row) → NumbersRise 5 rows → earlyFault (lowest rows) ≡ false
-unfolding earlyFault
-late-above rows g = go (lowest rows) refl
-  where
-    go : (f : Fault) → lowest rows ≡ f → earlyFault f ≡ false
-    go Fault.None h = refl
-    go (Fault.At n i) h = lt-leb n 5 (lowest-above rows g h)
-
-later-late : (c : Context) (cal : List ℕ) (a e : ℕ) → earlyFault (lowest (laterRows c cal a e)) ≡ false
-unfolding laterRows pieceRows
-later-late c cal a e = late-above (laterRows c cal a e) (calendar-rising c (unfolded cal) _ (rises 10 11 refl (omega arith) ends))
 
 -- by what reading the structure answered
 module _ {u index rows : List ℕ} {x : Structure} (k : StructureRead u index rows x) {f : Fault} (q : f ≡ structureRefusal x) where
   pub structure-refuses : (c : Context) (a e : ℕ) {r : Collected} {n i : ℕ} → f ≡ Fault.At n i → Refuses (Fault.At n i) r → CalendarTabled c u a e r
-  structure-refuses c a e h w = tabled-refused (structure-refused c u _ (structure-found k q ∙ h)) w
+  unfolding calendarRows
+  structure-refuses c a e h w =
+      tabled-refused (ap firstRefusal (append-assoc (structureRows u) (contentsRows c u) (pieceRows c u a e)) ∙ structure-refused u _ (structure-found k q ∙ h)) w
 
   pub structure-passes : (c : Context) (a e : ℕ) {r : Collected} → f ≡ Fault.None → ContentsTabled c u a e r → CalendarTabled c u a e r
-  structure-passes c a e h t = tabled-passed (structure-passed c u _ (structure-found k q ∙ h)) t
+  unfolding calendarRows
+  structure-passes c a e h t =
+      tabled-passed (ap firstRefusal (append-assoc (structureRows u) (contentsRows c u) (pieceRows c u a e)) ∙ structure-passed u _ (structure-found k q ∙ h)) t
 
 -- the unfolded calendar was left in the buffer
 pub calendar-collected : (c : Context) (cal work : List ℕ) (a e : ℕ) {left : List ℕ} {m : ℕ} {r : Collected} → Unfolded cal work left m
-    → CalendarTabled c (take m left) a e r → CollectedAs (laterRows c cal a e) (laterPeriods c cal a e) cal work r left
-unfolding laterRows laterPeriods
+    → CalendarTabled c (take m left) a e r → CalendarCollected c cal work a e r left
+unfolding workBy
 calendar-collected c cal work a e {r = r} k t =
-    collected-late cal work (k .bytes) (later-late c cal a e) (subst (λ (u : List ℕ). CalendarTabled c u a e r) (unfolded-front k) t)
+    record { tabled = subst (λ (u : List ℕ). CalendarTabled c u a e r) (unfolded-front k) t; work-left = k .bytes }

@@ -1,7 +1,7 @@
 -- The calendar terms of a call (document 01, Two questions): calendar, range, offset, stamp and work buffer; what they report, and refusals 1 to 3 and 6 to 11.
 use Prim.Native.Nat.{ℕ, _-_}
 use mathlib.Core.Bool.{Bool, not, _&&_}
-use mathlib.Core.List.{List, _∷_}
+use mathlib.Core.List.{List, [], _∷_, _++_}
 use lib.Dec.{ltb, leb}
 use lib.ListN.{length}
 use lib.IntN.{ℤ}
@@ -53,13 +53,23 @@ reportFor m =
       periods = λ b. runs (coveredIn (m .calendar) (m .offset) b) (m .start) (m .end - m .start);
     }
 
--- 11: more than 512 busy pieces
-unfoldable pub pieceRows : List BusyPeriod → List Row → List Row
-pieceRows ps rows = row 11 0 (ltb 512 (length ps)) ∷ rows
+-- ---- their rows, in the order in which they are asked
 
--- 1: range, stamp or offset; then the rows of sizes, calendar and pieces
-unfoldable pub collectRows : CalendarTerms → List Row → List Row
-collectRows m rows =
-    row 1 0 (not (rangeGood (m .start) (m .end) && stampGood (m .stamp) && offsetGood (m .offset)))
-    ∷ sizeRows (m .calendar) (m .work)
-    (calendarRows (contextOf (m .offset)) (unfolded (m .calendar)) (pieceRows (piecesFor m) rows))
+-- 1: range, stamp or offset
+unfoldable pub termsRow : CalendarTerms → Row
+termsRow m = row 1 0 (not (rangeGood (m .start) (m .end) && stampGood (m .stamp) && offsetGood (m .offset)))
+
+-- 1 to 3, before the calendar is unfolded
+unfoldable pub earlyRows : CalendarTerms → List Row
+earlyRows m = termsRow m ∷ sizeRows (m .calendar) (m .work)
+
+-- 11: more than 512 busy pieces
+unfoldable pub pieceRow : List BusyPeriod → Row
+pieceRow ps = row 11 0 (ltb 512 (length ps))
+
+-- 6 to 11, of the unfolded calendar
+unfoldable pub lateRows : CalendarTerms → List Row
+lateRows m = calendarRows (contextOf (m .offset)) (unfolded (m .calendar)) ++ (pieceRow (piecesFor m) ∷ [])
+
+unfoldable pub collectRows : CalendarTerms → List Row
+collectRows m = earlyRows m ++ lateRows m

@@ -2,7 +2,7 @@
 use Prim.Native.Nat.{ℕ, _-_}
 use mathlib.Core.Path.{_≡_}
 use mathlib.Core.Bool.{true, cond, _&&_}
-use mathlib.Core.List.{List, []}
+use mathlib.Core.List.{List, [], _∷_, _++_}
 use lib.IntN.{ℤ}
 use Rattle.time.specs.Limits.{rangeGood}
 use Rattle.text.specs.Unfolding.{unfolded}
@@ -18,12 +18,12 @@ use Rattle.calendar.specs.Meaning.{entriesOf, componentsOf}
 use Rattle.calendar.specs.declared.Fault.{Fault}
 use Rattle.pieces.specs.Covered.{covered}
 use Rattle.pieces.specs.Pieces.{busyPieces}
-use Rattle.refusals.specs.Refusals.{Row, lowest, contentsRows, calendarRows}
+use Rattle.refusals.specs.Refusals.{Row, firstRefusal, contentsRows, calendarRows}
 use Rattle.refusals.specs.Offsets.{offsetRead}
 use Rattle.refusals.specs.declared.OffsetRead.{OffsetRead}
 use Rattle.refusals.specs.Stages.{workBy}
 use Rattle.tables.specs.Building.{Built}
-use Rattle.collecting.specs.CalendarTerms.{stampGood, pieceRows}
+use Rattle.collecting.specs.CalendarTerms.{stampGood, pieceRow}
 use Rattle.collecting.specs.declared.Collected.{Collected}
 
 -- refusal 1: the offset once it is read, where range and stamp are good
@@ -56,17 +56,12 @@ unfoldable pub unlessFault : Fault → List Period → List Period
 unlessFault Fault.None ps = ps
 unlessFault (Fault.At n i) ps = []
 
--- the lowest refusal of some rows, and the tables of these periods where there is none
+-- the first refusal of some rows, and the tables of these periods where there is none
 pub record Tabled (rows : List Row) (periods : BusyType → List Period) (r : Collected) : Type 0 where
-  pub fault-is : r .fault ≡ lowest rows
+  pub fault-is : r .fault ≡ firstRefusal rows
   pub periods-are : (b : BusyType) → isBusy b ≡ true
-      → byType (r .busy) (r .tentative) (r .unavailable) b ≡ unlessFault (lowest rows) (periods b)
+      → byType (r .busy) (r .tentative) (r .unavailable) b ≡ unlessFault (firstRefusal rows) (periods b)
   pub sound : AllSound r
-
--- the same, and the work buffer that goes with it
-pub record CollectedAs (rows : List Row) (periods : BusyType → List Period) (cal work : List ℕ) (r : Collected) (left : List ℕ) : Type 0 where
-  pub tabled : Tabled rows periods r
-  pub work-left : left ≡ workBy (lowest rows) cal work
 
 -- ---- rows and periods from a stage on
 
@@ -74,19 +69,19 @@ pub record CollectedAs (rows : List Row) (periods : BusyType → List Period) (c
 unfoldable pub fewestPeriods : ℕ → ℕ → List Entry → BusyType → List Period
 fewestPeriods a e es b = runs (covered b es) a (e - a)
 
--- the lowest of 8 to 11, and the tables where there is none
+-- 11, for the events and blocks of an unfolded calendar
+unfoldable pub pieceRows : Context → List ℕ → ℕ → ℕ → List Row
+pieceRows c u a e = pieceRow (busyPieces a e (entriesOf c (componentsOf u))) ∷ []
+
+-- the first of 8 to 11, and the tables where there is none
 abbrev pub ContentsTabled : Context → List ℕ → ℕ → ℕ → Collected → Type 0
-ContentsTabled c u a e r =
-    Tabled (contentsRows c u (pieceRows (busyPieces a e (entriesOf c (componentsOf u))) [])) (fewestPeriods a e (entriesOf c (componentsOf u))) r
+ContentsTabled c u a e r = Tabled (contentsRows c u ++ pieceRows c u a e) (fewestPeriods a e (entriesOf c (componentsOf u))) r
 
--- the lowest of 6 to 11, and the tables where there is none
+-- the first of 6 to 11, and the tables where there is none
 abbrev pub CalendarTabled : Context → List ℕ → ℕ → ℕ → Collected → Type 0
-CalendarTabled c u a e r =
-    Tabled (calendarRows c u (pieceRows (busyPieces a e (entriesOf c (componentsOf u))) [])) (fewestPeriods a e (entriesOf c (componentsOf u))) r
+CalendarTabled c u a e r = Tabled (calendarRows c u ++ pieceRows c u a e) (fewestPeriods a e (entriesOf c (componentsOf u))) r
 
--- 6 to 11
-unfoldable pub laterRows : Context → List ℕ → ℕ → ℕ → List Row
-laterRows c cal a e = calendarRows c (unfolded cal) (pieceRows (busyPieces a e (entriesOf c (componentsOf (unfolded cal)))) [])
-
-unfoldable pub laterPeriods : Context → List ℕ → ℕ → ℕ → BusyType → List Period
-laterPeriods c cal a e = fewestPeriods a e (entriesOf c (componentsOf (unfolded cal)))
+-- the same of a calendar that is unfolded first: that is left in the work buffer
+pub record CalendarCollected (c : Context) (cal work : List ℕ) (a e : ℕ) (r : Collected) (left : List ℕ) : Type 0 where
+  pub tabled : CalendarTabled c (unfolded cal) a e r
+  pub work-left : left ≡ workBy Fault.None cal work

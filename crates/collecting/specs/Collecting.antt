@@ -9,9 +9,9 @@ use Rattle.table.specs.Tables.{Sound}
 use Rattle.report.specs.Writing.{byType}
 use Rattle.periods.specs.BusyTypes.{isBusy}
 use Rattle.calendar.specs.declared.Fault.{Fault}
-use Rattle.refusals.specs.Refusals.{lowest}
+use Rattle.refusals.specs.Refusals.{firstRefusal}
 use Rattle.refusals.specs.Stages.{workBy}
-use Rattle.collecting.specs.CalendarTerms.{CalendarTerms, reportFor, collectRows}
+use Rattle.collecting.specs.CalendarTerms.{CalendarTerms, reportFor, earlyRows, collectRows}
 use Rattle.collecting.specs.declared.Collected.{Collected}
 
 -- the periods of each type, none where there is a refusal
@@ -21,10 +21,10 @@ periodsBy (Fault.At n i) m b = []
 
 -- the whole promise: the refusal or none, every byte of the work buffer, and the three tables
 pub record Collects (m : CalendarTerms) (r : Collected) (work-left : List ℕ) : Type 0 where
-  pub fault-is : r .fault ≡ lowest (collectRows m [])
-  pub work-left-is : work-left ≡ workBy (lowest (collectRows m [])) (m .calendar) (m .work)
+  pub fault-is : r .fault ≡ firstRefusal (collectRows m)
+  pub work-left-is : work-left ≡ workBy (firstRefusal (earlyRows m)) (m .calendar) (m .work)
   pub periods-are : (b : BusyType) → isBusy b ≡ true
-      → byType (r .busy) (r .tentative) (r .unavailable) b ≡ periodsBy (lowest (collectRows m [])) m b
+      → byType (r .busy) (r .tentative) (r .unavailable) b ≡ periodsBy (firstRefusal (collectRows m)) m b
   pub busy-sound : Sound (r .busy)
   pub tentative-sound : Sound (r .tentative)
   pub unavailable-sound : Sound (r .unavailable)

@@ -6,14 +6,13 @@ use table::Table;
 use time::limits;
 use values::times::Context;
 ghost use mathlib.Core.Path.{_≡_};
-ghost use mathlib.Core.List.{List};
-ghost use Prim.Native.Nat.{ℕ, _*_, _≤_, _<_};
+ghost use Prim.Native.Nat.{_*_, _≤_, _<_};
 ghost use lib.ListN.{length};
 ghost use Rattle.pieces.specs.Columns.{Room};
 ghost use Rattle.values.specs.Times.{ContextGood};
 ghost use Rattle.time.specs.Limits.{lastSecond};
 ghost use Rattle.collecting.specs.Collecting.{Collects};
-ghost use Rattle.collecting.specs.CollectStages.{callRead, Refuses, Typed, ContentsTabled, CalendarTabled, CollectedAs, laterRows, laterPeriods};
+ghost use Rattle.collecting.specs.CollectStages.{callRead, Refuses, Typed, ContentsTabled, CalendarTabled, CalendarCollected};
 ghost use Rattle.structure.specs.Rows.{FileRows};
 
 // The lowest refusal or none, and the periods of each busy type.
@@ -168,7 +167,7 @@ fn collect_calendar(work: &mut [u8], cal: &[u8], c: Context, start: u64, end: u6
     requires { ⌜ length (now cal) ≤ 65536 ⌝ }
     requires { ⌜ ContextGood c ⌝ }
     requires { ⌜ (start < end) × (end ≤ lastSecond) ⌝ }
-    ensures { λ r. ⌜ CollectedAs (laterRows c (now (cal .entry)) start end) (laterPeriods c (now (cal .entry)) start end) (now (cal .entry)) (now (work .entry)) r (now (work .exit)) ⌝ }
+    ensures { λ r. ⌜ CalendarCollected c (now (cal .entry)) (now (work .entry)) start end r (now (work .exit)) ⌝ }
 {
     let n = text::unfold_into(work, cal);
     collect_unfolded(&work[..n], c, start, end)

@@ -18,10 +18,10 @@ use Rattle.report.proofs.Bytes.{parts-length}
 use Rattle.collecting.specs.CalendarTerms.{reportFor}
 use Rattle.engine.specs.Answers.{outcomeOf}
 use Rattle.engine.specs.Reporting.{ReportCall, Reported}
-use Rattle.engine.specs.Meanings.{IsReport, OnReport, HasRoom, ReadsBack}
+use Rattle.engine.specs.Demands.{IsReport, OnReport, HasRoom, ReadsBack}
 use Rattle.engine.specs.declared.Answer.{Answer}
-use Rattle.engine.proofs.ReportAnswers.{written-report}
-use Rattle.engine.proofs.Meanings.{says-covered, reads-back, one-meaning}
+use Rattle.engine.proofs.DemandsAnswers.{written-report}
+use Rattle.engine.proofs.DemandsReports.{says-covered, reads-back, one-meaning}
 use Rattle.demands.specs.PairedCalls.{lengthOf, sameReports, ReadBackCalls, Compared}
 
 -- ---- the length of a report
@@ -148,5 +148,5 @@ module _ {cal work out w o work₂ out₂ w₂ o₂ : List ℕ} {start end stamp
       record {
         first-call = p;
         second-call = q;
-        one-meaning = one-meaning (record { same-start = refl; same-end = refl; same-stamp = refl }) p q;
+        one-meaning = one-meaning p q;
       }

@@ -8,7 +8,7 @@ use lib.ListN.{take}
 use Rattle.ascii.specs.Names.{sameBytes}
 use Rattle.report.specs.Heads.{headsMatch}
 use Rattle.engine.specs.Reporting.{ReportCall, Reported}
-use Rattle.engine.specs.Meanings.{IsReport, SaysCovered, OnReport, ReadsBack, OneMeaning}
+use Rattle.engine.specs.Demands.{IsReport, SaysCovered, OnReport, ReadsBack, OneMeaning}
 use Rattle.engine.specs.declared.Answer.{Answer}
 use Rattle.demands.specs.declared.ReadBack.{ReadBack}
 use Rattle.demands.specs.declared.Pair.{Pair}

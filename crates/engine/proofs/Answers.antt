@@ -1,16 +1,10 @@
--- Outcomes: refused or not, outcomes of different kinds, the answer to a report call by its refusal,
--- and the work buffer that goes with an outcome.
+-- Outcomes: refused or not, outcomes of different kinds, and the answer to a report call by its refusal.
 use Prim.Native.Nat.{ℕ}
 use mathlib.Core.Path.{_≡_, refl, sym, ap}
-use mathlib.Core.Bool.{Bool, true, false}
-use mathlib.Core.List.{List, _++_}
+use mathlib.Core.Bool.{Bool}
 use native.Mathlib.Omega.{arith}
-use lib.ListN.{length, drop}
-use Rattle.text.specs.Unfolding.{unfolded}
 use Rattle.calendar.specs.declared.Fault.{Fault}
-use Rattle.refusals.specs.Stages.{earlyFault}
-use Rattle.refusals.proofs.Stages.{work-by}
-use Rattle.engine.specs.Answers.{Outcome, verdict, report, refusal, refusalIn, workAfter, unlessRefused, outcomeOf, answerBy, lengthIn}
+use Rattle.engine.specs.Answers.{Outcome, verdict, report, refusal, unlessRefused, outcomeOf, answerBy, lengthIn}
 
 pub refused : {f : Fault} {n i : ℕ} (o : Outcome) → f ≡ Fault.At n i → unlessRefused f o ≡ refusal n
 unfolding unlessRefused
@@ -27,7 +21,7 @@ verdict-apart b k e = let z : _≡_ {A = ℕ} 0 1 = cc in absurd (omega arith)
 pub report-apart : (n k : ℕ) → report n ≡ refusal k → ⊥
 report-apart n k e = let z : _≡_ {A = ℕ} 0 1 = cc in absurd (omega arith)
 
--- an outcome that is a refusal names the lowest row; one that is none has no row
+-- an outcome that is a refusal names the first row; one that is none has no row
 pub refusal-found : {k : ℕ} (o : Outcome) → ((n : ℕ) → o ≡ refusal n → ⊥) → (f : Fault) → unlessRefused f o ≡ refusal k → (i : ℕ) × (f ≡ Fault.At k i)
 unfolding unlessRefused
 refusal-found {k} o h Fault.None e = absurd (h k e)
@@ -63,9 +57,3 @@ pub answer-by : (f : Fault) (n : ℕ) → outcomeOf (answerBy f (lengthIn (unles
 unfolding outcomeOf answerBy lengthIn unlessRefused
 answer-by Fault.None n = refl
 answer-by (Fault.At k i) n = refl
-
--- the work buffer by whether the outcome is a refusal by 1 to 5
-pub left-by : (cal work : List ℕ) {t : Bool} (o : Outcome) → earlyFault (refusalIn o) ≡ t
-    → workAfter o cal work ≡ elim t as (λ y. List ℕ) [ true ↦ work | false ↦ unfolded cal ++ drop (length (unfolded cal)) work ]
-unfolding workAfter
-left-by cal work o e = work-by cal work (refusalIn o) e

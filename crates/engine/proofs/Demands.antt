@@ -1,5 +1,4 @@
--- The manager's demands of a match call follow from its promise,
--- and answers that keep no call's promise (document 01, How far the contracts reach).
+-- The demands hold. Here: what a match call's verdict says, and the three closed statements.
 use Prim.Native.Nat.{ℕ}
 use mathlib.Core.Path.{_≡_, refl, sym, ap, _∙_}
 use mathlib.Core.Bool.{Bool, true, false, not, true≢false}
@@ -15,33 +14,19 @@ use Rattle.query_check.specs.WellFormed.{queryGood}
 use Rattle.query_check.proofs.WellFormed.{query-records}
 use Rattle.query_check.proofs.QueryRules.{queryGood-iff}
 use Rattle.nesting.specs.Files.{treeIn}
-use Rattle.refusals.specs.Refusals.{NoneApplies, lowest, sizeRows}
+use Rattle.refusals.specs.Refusals.{NoneApplies, firstRefusal, sizeRows}
 use Rattle.refusals.specs.Offsets.{offsetGood, contextOf}
-use Rattle.refusals.specs.Stages.{earlyFault}
-use Rattle.refusals.proofs.Refusals.{none-iff, lowest-iff}
+use Rattle.refusals.proofs.Refusals.{none-iff, stage-none}
 use Rattle.filter.specs.FilterRules.{QueryPasses}
 use Rattle.filter.specs.Tests.{queryHolds}
 use Rattle.filter.proofs.FilterRules.{query-iff}
 use Rattle.engine.specs.declared.Answer.{Answer}
-use Rattle.engine.specs.Answers.{verdict, Outcome, outcomeOf, refusalIn}
-use Rattle.engine.specs.Matching.{MatchCall, queryRows, matchRows, verdictBy, verdictOf, matchOutcome, Matched}
-use Rattle.engine.specs.Demands.{AnswersOrRefuses, MatchesWhen}
-use Rattle.engine.proofs.Answers.{refused, let-through, verdict-apart, refusal-found, verdict-found, no-report, same-verdict, left-by}
-use Rattle.engine.proofs.MatchingLaws.{match-rising}
-
--- ---- Demand 1
-
-module _ {m : MatchCall} {a : Answer} {left : List ℕ} (p : Matched m a left) where
-  pub answers-or-refuses : AnswersOrRefuses m a
-  unfolding matchOutcome NoneApplies
-  answers-or-refuses =
-      record {
-        refused-when =
-            λ k.
-            let n = lowest-iff (matchRows m) k (match-rising m) in
-            (λ e. n .0 (refusal-found (verdict (verdictOf m)) (verdict-apart (verdictOf m)) (lowest (matchRows m)) (sym (p .answered) ∙ e)), λ l. p .answered ∙ refused _ (n .1 l .1));
-        verdict-when = λ h. (verdictOf m, p .answered ∙ let-through _ (none-iff (matchRows m) .1 h));
-      }
+use Rattle.engine.specs.Answers.{verdict, outcomeOf}
+use Rattle.engine.specs.Matching.{MatchCall, queryRows, offsetRow, earlyMatchRows, matchRows, verdictBy, verdictOf, matchOutcome, Matched}
+use Rattle.engine.specs.Demands.{MatchesWhen, Demand1, Demand2, Demand3}
+use Rattle.engine.proofs.Answers.{let-through, verdict-found, same-verdict}
+use Rattle.engine.proofs.DemandsAnswers.{match-decided, match-work, report-decided, report-work, output-left}
+use Rattle.engine.proofs.DemandsReports.{says-covered, reads-back, one-meaning}
 
 -- ---- Demand 2
 
@@ -52,18 +37,19 @@ holds false f = absurd (f refl)
 module _ (m : MatchCall) (h : NoneApplies (matchRows m)) where
   -- rows 1 and 4 do not apply
   pub none-offset : offsetGood (m .offset) ≡ true
-  unfolding NoneApplies matchRows
-  none-offset = holds (offsetGood (m .offset)) (λ e. h 1 (record { which = _; listed = List·Memᴰ·head refl; numbered = refl; applies = e }))
+  unfolding NoneApplies matchRows earlyMatchRows offsetRow
+  none-offset = holds (offsetGood (m .offset)) (λ e. h 1 0 (record { which = _; listed = List·Memᴰ·head refl; numbered = refl; lined = refl; applies = e }))
 
   pub none-query : queryGood (m .query) ≡ true
-  unfolding NoneApplies matchRows sizeRows queryRows
+  unfolding NoneApplies matchRows earlyMatchRows offsetRow sizeRows queryRows
   none-query =
       holds (queryGood (m .query))
-      (λ e. h 4
+      (λ e. h 4 0
       (record {
         which = _;
         listed = List·Memᴰ·tail (List·Memᴰ·tail (List·Memᴰ·tail (List·Memᴰ·head refl)));
         numbered = refl;
+        lined = refl;
         applies = e;
       }))
 
@@ -90,7 +76,7 @@ module _ {m : MatchCall} {a : Answer} {left : List ℕ} (p : Matched m a left) w
       record {
         matched-when = (
           λ e.
-              let v = verdict-found (verdictOf m) (lowest (matchRows m)) (sym (p .answered) ∙ e) in
+              let v = verdict-found (verdictOf m) (firstRefusal (matchRows m)) (sym (p .answered) ∙ e) in
               let h : NoneApplies (matchRows m) = none-iff (matchRows m) .0 (v .0) in
               let w = queryGood-iff (m .query) .0 (none-query m h) in
               (h, w, verdict-iff m h w .0 (v .1)),
@@ -103,16 +89,6 @@ module _ {m : MatchCall} {a : Answer} {left : List ℕ} (p : Matched m a left) w
 -- ---- answers that keep no promise
 
 module _ {m : MatchCall} {left : List ℕ} where
-  -- a refusal where nothing refuses
-  pub refuses-everything : {n : ℕ} → NoneApplies (matchRows m) → Matched m (Answer.Refused n) left → ⊥
-  unfolding NoneApplies outcomeOf
-  refuses-everything {n} h p = h n (answers-or-refuses p .refused-when n .0 refl .applies)
-
-  -- a length, made up or not, for a match
-  pub length-given : {n : ℕ} → Matched m (Answer.Length n) left → ⊥
-  unfolding matchOutcome outcomeOf
-  length-given {n} p = no-report (lowest (matchRows m)) (verdictOf m) n (p .answered)
-
   -- no, where nothing refuses and the query passes
   pub always-no : NoneApplies (matchRows m) → (w : WellFormedQuery (m .query))
       → QueryPasses (contextOf (m .offset)) (m .query) (w .sections) (treeIn (unfolded (m .calendar)))
@@ -124,8 +100,30 @@ module _ {m : MatchCall} {left : List ℕ} where
 -- an answer that leaves the work buffer as it was: only where the unfolded calendar stood in it before
 pub work-unwritten : {m : MatchCall} {b : Bool} → Matched m (Answer.Verdict b) (m .work)
     → take (length (unfolded (m .calendar))) (m .work) ≡ unfolded (m .calendar)
-unfolding outcomeOf refusalIn earlyFault
+unfolding matchOutcome outcomeOf matchRows
 work-unwritten {m} {b} p =
     let cal = m .calendar in
     let n = length (unfolded cal) in
-    ap (take n) (p .work-left ∙ left-by cal (m .work) (matchOutcome m) (ap (λ (x : Outcome). earlyFault (refusalIn x)) (sym (p .answered)))) ∙ take-at (unfolded cal) _ n refl
+    let early = earlyMatchRows m in
+    let none = verdict-found (verdictOf m) (firstRefusal (matchRows m)) (sym (p .answered)) .0 in
+    ap (take n) (match-work p .unfolded-when (none-iff early .0 (stage-none early _ none))) ∙ take-at (unfolded cal) _ n refl
+
+-- ---- the demands
+
+pub demand-1 : Demand1
+demand-1 =
+    record {
+      of-match = λ m a left p. (match-decided p, match-work p);
+      of-report = λ m a left out-left p. (report-decided p, report-work p, output-left p);
+    }
+
+pub demand-2 : Demand2
+demand-2 =
+    record {
+      of-match = λ m a left p. matches-when p;
+      of-report = λ m a left out-left p. says-covered p;
+      of-two = λ m again a b left out-left left-again out-again p q. reads-back p q;
+    }
+
+pub demand-3 : Demand3
+demand-3 = record { of-two = λ x y a b left-x out-x left-y out-y p q. one-meaning p q }

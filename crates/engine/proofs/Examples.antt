@@ -32,11 +32,11 @@ use Rattle.property_tests.specs.PropertyTests.{propertiesHold}
 use Rattle.events.specs.Events.{endingBy, repeatBy, eventMade, eventWith, eventFrom, eventBy}
 use Rattle.events.specs.ComponentProperties.{noProperties, timeGiven, durationGiven, ruleGiven, statusGiven, transparencyGiven, withProperty, withSpan, withBusy, withProperties}
 use Rattle.calendar.specs.Meaning.{scopeOf, componentScope, propertyValuesIn, faultOr, faultIn, valueFault, eventOf, isBroken, brokenOr, ruleFault, fileLines, componentsOf}
-use Rattle.refusals.specs.Refusals.{lowest, sizeRows, lineRow, unsupportedRow, badValueRow, ruleRow, calendarRows, contentsRows}
+use Rattle.refusals.specs.Refusals.{firstRefusal, sizeRows, lineRow, structureRows, unsupportedRow, badValueRow, ruleRow, calendarRows, contentsRows}
 use Rattle.refusals.specs.Offsets.{offsetGood}
 use Rattle.filter.specs.Tests.{rangeHolds, someComponentNamed, someComponent, componentHolds, childrenHold, componentTest, queryHolds}
 use Rattle.engine.specs.Answers.{Outcome, verdict, refusal, unlessRefused}
-use Rattle.engine.specs.Matching.{MatchCall, misplacedIn, queryRows, matchRows, verdictBy, verdictOf, matchOutcome}
+use Rattle.engine.specs.Matching.{MatchCall, misplacedIn, queryRows, earlyMatchRows, offsetRow, matchRows, verdictBy, verdictOf, matchOutcome}
 
 -- ---- the queries and the calendars
 
@@ -120,5 +120,5 @@ table =
     ∷ []
 
 pub edges : AllHold table
-unfolding matchOutcome unlessRefused lowest matchRows offsetGood sizeRows queryRows queryGood sectionsGood sectionsOf behindRecords countFits byteAt placeWithin behindTextSection behindTexts behindText recordsGood rangesGood everyBelow componentsGood componentGood nameGood componentAt isName textOf textFrom textPlace isNameByte isLetter parentGood sameName upper propertiesGood parametersGood misplacedIn rangeMisplaced componentsMisplaced someBelow componentMisplaced propertiesMisplaced calendarRows contentsRows lineRow lineCheck lineCheckFrom cut unfolded isFold isBreak isBlank isWellFormed scan isEnding step isDigit isControl nestingOf outcome walk fileLines contentLines delimiterOf lineOf nameOf before firstOutside headOf parameterTexts splitParts valueOf after afterEnd afterBegin isCalendar unsupportedRow valueFault componentsOf componentsIn itemsBelow treeOf itemsOf delimitedFrom badValueRow ruleRow ruleFault verdictOf verdictBy queryHolds componentTest componentHolds someComponent treeIn rangeHolds propertiesHold childrenHold hasChildComponent hasProperty someComponentNamed afterProperty mayBegin faultIn propertiesIn faultOr propertyValueOf beforePeriods withPeriods valueAs propertyOf componentScope scopeOf isEvent timesOr unlessZoned hasParameter parametersNamed startBy timeIn timeOf readTime formOf hasTwice hasList someList timeBy readDateTime clockAt clockOf dateAt three yearAt joined pairAt digitPair checkedDay isDay monthDays lengthIn monthLengths timeAt checkedTime atSecond utcSecond since epoch dayNumber daysBeforeYear endingBy repeatBy eventMade eventWith eventFrom eventBy noProperties timeGiven durationGiven ruleGiven statusGiven transparencyGiven withProperty withSpan withBusy withProperties propertyValuesIn eventOf isBroken brokenOr isUnsupported eventProperty isLeap yearDays beforeIn daysBeforeMonth
+unfolding matchOutcome unlessRefused firstRefusal matchRows earlyMatchRows offsetRow offsetGood sizeRows queryRows queryGood sectionsGood sectionsOf behindRecords countFits byteAt placeWithin behindTextSection behindTexts behindText recordsGood rangesGood everyBelow componentsGood componentGood nameGood componentAt isName textOf textFrom textPlace isNameByte isLetter parentGood sameName upper propertiesGood parametersGood misplacedIn rangeMisplaced componentsMisplaced someBelow componentMisplaced propertiesMisplaced calendarRows structureRows contentsRows lineRow lineCheck lineCheckFrom cut unfolded isFold isBreak isBlank isWellFormed scan isEnding step isDigit isControl nestingOf outcome walk fileLines contentLines delimiterOf lineOf nameOf before firstOutside headOf parameterTexts splitParts valueOf after afterEnd afterBegin isCalendar unsupportedRow valueFault componentsOf componentsIn itemsBelow treeOf itemsOf delimitedFrom badValueRow ruleRow ruleFault verdictOf verdictBy queryHolds componentTest componentHolds someComponent treeIn rangeHolds propertiesHold childrenHold hasChildComponent hasProperty someComponentNamed afterProperty mayBegin faultIn propertiesIn faultOr propertyValueOf beforePeriods withPeriods valueAs propertyOf componentScope scopeOf isEvent timesOr unlessZoned hasParameter parametersNamed startBy timeIn timeOf readTime formOf hasTwice hasList someList timeBy readDateTime clockAt clockOf dateAt three yearAt joined pairAt digitPair checkedDay isDay monthDays lengthIn monthLengths timeAt checkedTime atSecond utcSecond since epoch dayNumber daysBeforeYear endingBy repeatBy eventMade eventWith eventFrom eventBy noProperties timeGiven durationGiven ruleGiven statusGiven transparencyGiven withProperty withSpan withBusy withProperties propertyValuesIn eventOf isBroken brokenOr isUnsupported eventProperty isLeap yearDays beforeIn daysBeforeMonth
 edges = (refl, (refl, (refl, (refl, (refl, (refl, (refl, (refl, (refl, (refl, (refl, (refl, (refl, (refl, (refl, (refl, (refl, tt)))))))))))))))))

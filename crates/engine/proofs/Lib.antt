@@ -1,9 +1,9 @@
 pub mod Answers
 pub mod MatchingLaws
 pub mod MatchStages
-pub mod Demands
 pub mod ReportWriting
 pub mod ReportingLaws
-pub mod ReportAnswers
-pub mod Meanings
+pub mod DemandsAnswers
+pub mod DemandsReports
+pub mod Demands
 pub mod Examples

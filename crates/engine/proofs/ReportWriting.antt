@@ -1,23 +1,20 @@
 -- The last stage of a report: where the output is too short, and what is left in it where it is not.
 use Prim.Native.Nat.{ℕ, _+_, _≤_, _<_}
 use mathlib.Core.Path.{_≡_, refl, sym, ap, _∙_}
-use mathlib.Core.Bool.{Bool, true, false}
 use mathlib.Core.List.{List, _++_}
 use native.Mathlib.Omega.{arith}
-use lib.Dec.{ltb}
 use lib.ListN.{length, drop}
 use lib.Seq.{sets-eq}
-use borrow.Author.Tests.{ltb-true, ltb-false, lt-ltb, le-ltb}
+use borrow.Author.Tests.{lt-ltb, le-ltb}
 use Rattle.table.specs.Tables.{Sound}
 use Rattle.table.specs.declared.Table.{Table}
 use Rattle.report.specs.Bytes.{reportBytes, reportLength}
 use Rattle.report.specs.Writing.{reportOf, Put}
 use Rattle.report.proofs.Writing.{tables-length}
-use Rattle.refusals.specs.Refusals.{lowest}
-use Rattle.refusals.specs.Stages.{earlyFault}
+use Rattle.refusals.specs.Refusals.{firstRefusal}
 use Rattle.calendar.specs.declared.Fault.{Fault}
-use Rattle.engine.specs.Answers.{Outcome, report, lengthIn, refusalIn, unlessRefused}
-use Rattle.engine.specs.Reporting.{outputAfter}
+use Rattle.engine.specs.Answers.{Outcome, report, lengthIn, unlessRefused}
+use Rattle.engine.specs.Reporting.{outputRow, outputAfter}
 use Rattle.engine.specs.ReportWriting.{writeRows, writeOutcome, Wrote}
 use Rattle.engine.specs.declared.reporting.Written.{Written}
 
@@ -30,28 +27,19 @@ module _ (a b s : ℕ) (x y z : Table) (g : Sound x × Sound y × Sound z) {n : 
   counted-room h = omega (arith, counted)
 
 module _ (bytes out : List ℕ) where
-  rows-short : length out < length bytes → lowest (writeRows bytes out) ≡ Fault.At 12 0
-  unfolding writeRows lowest
+  rows-short : length out < length bytes → firstRefusal (writeRows bytes out) ≡ Fault.At 12 0
+  unfolding writeRows outputRow firstRefusal
   rows-short h = rw (lt-ltb (length out) (length bytes) h)
 
-  rows-room : length bytes ≤ length out → lowest (writeRows bytes out) ≡ Fault.None
-  unfolding writeRows lowest
+  rows-room : length bytes ≤ length out → firstRefusal (writeRows bytes out) ≡ Fault.None
+  unfolding writeRows outputRow firstRefusal
   rows-room h = rw (le-ltb (length out) (length bytes) h)
 
-  outcome-by : {f : Fault} → lowest (writeRows bytes out) ≡ f → writeOutcome bytes out ≡ unlessRefused f (report (length bytes))
+  outcome-by : {f : Fault} → firstRefusal (writeRows bytes out) ≡ f → writeOutcome bytes out ≡ unlessRefused f (report (length bytes))
   unfolding writeOutcome
   outcome-by e = ap (λ (f : Fault). unlessRefused f (report (length bytes))) e
 
-  -- neither is a refusal by 1 to 5
-  pub write-late : earlyFault (refusalIn (writeOutcome bytes out)) ≡ false
-  unfolding refusalIn earlyFault unlessRefused
-  write-late = go (ltb (length out) (length bytes)) refl
-    where
-      go : (t : Bool) → ltb (length out) (length bytes) ≡ t → earlyFault (refusalIn (writeOutcome bytes out)) ≡ false
-      go true e = ap (λ (x : Outcome). earlyFault (refusalIn x)) (outcome-by (rows-short (ltb-true _ _ e)))
-      go false e = ap (λ (x : Outcome). earlyFault (refusalIn x)) (outcome-by (rows-room (ltb-false _ _ e)))
-
-  wrote : {w : Written} {left : List ℕ} {f : Fault} → lowest (writeRows bytes out) ≡ f → w .fault ≡ f → w .length ≡ lengthIn (unlessRefused f (report (length bytes)))
+  wrote : {w : Written} {left : List ℕ} {f : Fault} → firstRefusal (writeRows bytes out) ≡ f → w .fault ≡ f → w .length ≡ lengthIn (unlessRefused f (report (length bytes)))
       → left ≡ outputAfter (unlessRefused f (report (length bytes))) bytes out → Wrote bytes out w left
   wrote e f g h =
       record {

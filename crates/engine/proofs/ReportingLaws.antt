@@ -1,15 +1,14 @@
 -- The rows of a report call and what is known where none applies; from its collected tables on,
 -- the rows that are left, what can be written, and the outcome at each way out.
-use Prim.Native.Nat.{ℕ, _≤_, _<_}
+use Prim.Native.Nat.{ℕ, _≤_}
 use mathlib.Core.Path.{_≡_, refl, sym, ap, _∙_, subst}
 use mathlib.Core.Bool.{false, true, _&&_}
-use mathlib.Core.List.{List, List·Memᴰ, List·Memᴰ·head, List·Memᴰ·tail, []}
+use mathlib.Core.List.{List, List·Memᴰ, List·Memᴰ·head, List·Memᴰ·tail}
 use native.Mathlib.Omega.{arith}
 use lib.ListN.{length}
 use lib.IntN.{ℤ}
 use borrow.Author.Tests.{ltb-false, not-false}
 use Rattle.ascii.proofs.Bools.{not-so, and-left, and-right}
-use Rattle.text.specs.Unfolding.{unfolded}
 use Rattle.time.specs.Limits.{rangeGood}
 use Rattle.periods.specs.declared.BusyType.{BusyType}
 use Rattle.periods.specs.BusyTypes.{isBusy, reportPlace}
@@ -18,11 +17,10 @@ use Rattle.report.specs.Bytes.{periodCount, Report, reportBytes, GoodPeriods, W
 use Rattle.report.specs.Writing.{byType, reportOf}
 use Rattle.report.proofs.Bytes.{equal-bytes}
 use Rattle.calendar.specs.declared.Fault.{Fault}
-use Rattle.refusals.specs.Refusals.{NoneApplies, Row, NumbersRise, ends, goes-on, sizeRows, calendarRows, contentsRows, lowest}
-use Rattle.refusals.specs.Offsets.{contextOf, offsetGood}
-use Rattle.refusals.specs.Stages.{earlyFault, workBy}
-use Rattle.refusals.proofs.Refusals.{none-iff, stage-passed, stage-refused, rises, sizes-rising, calendar-rising}
-use Rattle.collecting.specs.CalendarTerms.{pieceRows, collectRows, stampGood, piecesFor, reportFor, CalendarTerms}
+use Rattle.refusals.specs.Refusals.{NoneApplies, Row, sizeRows, structureRows, calendarRows, contentsRows, firstRefusal}
+use Rattle.refusals.specs.Offsets.{offsetGood}
+use Rattle.refusals.proofs.Refusals.{none-iff, stage-passed, stage-refused}
+use Rattle.collecting.specs.CalendarTerms.{termsRow, earlyRows, pieceRow, lateRows, collectRows, stampGood, piecesFor, reportFor, CalendarTerms}
 use Rattle.collecting.specs.Collecting.{periodsBy, Collects}
 use Rattle.collecting.specs.declared.Collected.{Collected}
 use Rattle.collecting.proofs.CalendarTerms.{periods-few, writable}
@@ -30,36 +28,20 @@ use Rattle.engine.specs.declared.Answer.{Answer}
 use Rattle.engine.specs.declared.ReportTables.{ReportTables}
 use Rattle.engine.specs.declared.reporting.Written.{Written}
 use Rattle.engine.specs.Reporting.{ReportCall, reportRows, reportOutcome, outputAfter, Reported, ReportedTables}
-use Rattle.engine.specs.Answers.{Outcome, report, refusal, outcomeOf, answerBy, lengthIn, refusalIn, workAfter, unlessRefused}
+use Rattle.engine.specs.Answers.{Outcome, report, refusal, outcomeOf, answerBy, lengthIn, unlessRefused}
 use Rattle.engine.specs.ReportWriting.{writeRows, writeOutcome, Wrote}
-use Rattle.engine.proofs.Answers.{refused, answer-by, left-by}
-use Rattle.engine.proofs.ReportWriting.{write-late}
-
--- ---- the table of a report call
-
--- rows above a number are above any lower one
-from-lower : {n m : ℕ} {rows : List Row} → n ≤ m → NumbersRise m rows → NumbersRise n rows
-from-lower h ends = ends
-from-lower {n} {m} h (goes-on {r = r} k g) = let z : n < r .number = omega arith in goes-on z g
-
-pub report-rising : (m : ReportCall) → NumbersRise 0 (reportRows m)
-unfolding reportRows collectRows pieceRows
-report-rising m =
-    rises 0 1 refl (omega arith)
-    (sizes-rising _ _ _
-    (from-lower (omega arith)
-    (calendar-rising (contextOf (m .terms .offset)) (unfolded (m .terms .calendar)) _ (rises 10 11 refl (omega arith) (rises 11 12 refl (omega arith) ends)))))
+use Rattle.engine.proofs.Answers.{refused, answer-by}
 
 -- no row of a call that nothing refuses applies
 pub not-applied : (m : ReportCall) → NoneApplies (reportRows m) → {r : Row} → List·Memᴰ r (reportRows m) → r .applies ≡ false
 unfolding NoneApplies
-not-applied m h {r} l = not-so (r .applies) (λ e. h (r .number) (record { which = r; listed = l; numbered = refl; applies = e }))
+not-applied m h {r} l = not-so (r .applies) (λ e. h (r .number) (r .line) (record { which = r; listed = l; numbered = refl; lined = refl; applies = e }))
 
 -- ---- what is known where nothing refuses
 
 module _ (m : ReportCall) (h : NoneApplies (reportRows m)) where
   first-row : (rangeGood (m .terms .start) (m .terms .end) && stampGood (m .terms .stamp) && offsetGood (m .terms .offset)) ≡ true
-  unfolding reportRows collectRows
+  unfolding reportRows collectRows earlyRows termsRow
   first-row = not-false _ (not-applied m h (List·Memᴰ·head refl))
 
   pub range-good : rangeGood (m .terms .start) (m .terms .end) ≡ true
@@ -69,7 +51,7 @@ module _ (m : ReportCall) (h : NoneApplies (reportRows m)) where
   stamp-good = and-right (rangeGood (m .terms .start) (m .terms .end)) _ (and-left (rangeGood (m .terms .start) (m .terms .end) && stampGood (m .terms .stamp)) _ first-row)
 
   pub few-pieces : length (piecesFor (m .terms)) ≤ 512
-  unfolding reportRows collectRows sizeRows calendarRows contentsRows pieceRows
+  unfolding reportRows collectRows earlyRows lateRows sizeRows calendarRows structureRows contentsRows pieceRow
   few-pieces =
       ltb-false _ _
       (not-applied m h
@@ -84,22 +66,14 @@ few-periods m h = omega (arith, periods-few (m .terms) (range-good m h), few-pie
 -- ---- the rows that are left once the tables are collected
 
 module _ (m : CalendarTerms) where
-  pub collect-passed : (rows : List Row) → lowest (collectRows m []) ≡ Fault.None → lowest (collectRows m rows) ≡ lowest rows
-  unfolding collectRows sizeRows calendarRows contentsRows pieceRows
-  collect-passed rows e = stage-passed (collectRows m []) rows e
-
-  pub collect-refused : {n i : ℕ} (rows : List Row) → lowest (collectRows m []) ≡ Fault.At n i → lowest (collectRows m rows) ≡ Fault.At n i
-  unfolding collectRows sizeRows calendarRows contentsRows pieceRows
-  collect-refused rows e = stage-refused (collectRows m []) rows e
-
-  first-good : lowest (collectRows m []) ≡ Fault.None → (rangeGood (m .start) (m .end) && stampGood (m .stamp) && offsetGood (m .offset)) ≡ true
-  unfolding collectRows NoneApplies
+  first-good : firstRefusal (collectRows m) ≡ Fault.None → (rangeGood (m .start) (m .end) && stampGood (m .stamp) && offsetGood (m .offset)) ≡ true
+  unfolding collectRows earlyRows termsRow NoneApplies
   first-good e =
       not-false _
-      (not-so _ (λ h. none-iff (collectRows m []) .0 e 1 (record { which = _; listed = List·Memᴰ·head refl; numbered = refl; applies = h })))
+      (not-so _ (λ h. none-iff (collectRows m) .0 e 1 0 (record { which = _; listed = List·Memᴰ·head refl; numbered = refl; lined = refl; applies = h })))
 
   -- range and stamp are good, so the report keeps the limits
-  collect-writable : lowest (collectRows m []) ≡ Fault.None → Writable (reportFor m)
+  collect-writable : firstRefusal (collectRows m) ≡ Fault.None → Writable (reportFor m)
   collect-writable e =
       let two = and-left (rangeGood (m .start) (m .end) && stampGood (m .stamp)) _ (first-good e) in
       writable m (and-left (rangeGood (m .start) (m .end)) _ two) (and-right (rangeGood (m .start) (m .end)) _ two)
@@ -119,7 +93,7 @@ module _ {m : CalendarTerms} {r : Collected} {left : List ℕ} (k : Collects m r
   told = reportOf (m .start) (m .end) (m .stamp) (r .busy) (r .tentative) (r .unavailable)
 
   module _ (e : r .fault ≡ Fault.None) where
-    none-collected : lowest (collectRows m []) ≡ Fault.None
+    none-collected : firstRefusal (collectRows m) ≡ Fault.None
     none-collected = sym (k .fault-is) ∙ e
 
     periods-told : (b : BusyType) → isBusy b ≡ true → told .periods b ≡ reportFor m .periods b
@@ -148,20 +122,14 @@ module _ {m : CalendarTerms} {r : Collected} {left : List ℕ} (k : Collects m r
 
     module _ (out : List ℕ) where
       -- the rows that are left are those of the writing
-      rows-left : lowest (reportRows (into out)) ≡ lowest (writeRows (reportBytes (reportFor m)) out)
+      rows-left : firstRefusal (reportRows (into out)) ≡ firstRefusal (writeRows (reportBytes (reportFor m)) out)
       unfolding reportRows writeRows
-      rows-left = collect-passed m _ none-collected
+      rows-left = stage-passed (collectRows m) _ none-collected
 
       -- the outcome is that of the writing
       outcome-left : reportOutcome (into out) ≡ writeOutcome (reportBytes (reportFor m)) out
       unfolding reportOutcome writeOutcome
       outcome-left = ap (λ (f : Fault). unlessRefused f (report (length (reportBytes (reportFor m))))) rows-left
-
-      work-left : left ≡ workAfter (reportOutcome (into out)) (m .calendar) (m .work)
-      unfolding workBy earlyFault
-      work-left =
-          k .work-left-is ∙ ap (λ (f : Fault). workBy f (m .calendar) (m .work)) none-collected
-          ∙ sym (left-by (m .calendar) (m .work) (reportOutcome (into out)) (ap (λ (x : Outcome). earlyFault (refusalIn x)) outcome-left ∙ write-late (reportBytes (reportFor m)) out))
 
     -- what was written is the report, with its refusal and its length
     pub tables-written : {out out-left : List ℕ} {w : Written} → Wrote (reportBytes told) out w out-left
@@ -171,7 +139,7 @@ module _ {m : CalendarTerms} {r : Collected} {left : List ℕ} (k : Collects m r
         record {
           fault-is = v .fault-is ∙ sym (rows-left out);
           length-is = v .length-is ∙ ap lengthIn (sym (outcome-left out));
-          work-left-is = work-left out;
+          work-left-is = k .work-left-is;
           output-left-is = v .output-left-is ∙ ap (λ (o : Outcome). outputAfter o (reportBytes (reportFor m)) out) (sym (outcome-left out));
           periods-are = k .periods-are;
           busy-sound = k .busy-sound;
@@ -181,16 +149,14 @@ module _ {m : CalendarTerms} {r : Collected} {left : List ℕ} (k : Collects m r
 
   -- a refusal of the tables is the call's
   pub tables-refused : {n i : ℕ} {out : List ℕ} → r .fault ≡ Fault.At n i → ReportedTables (into out) (with-tables (Fault.At n i) 0) left out
-  unfolding reportOutcome reportRows lengthIn outputAfter workAfter workBy refusalIn earlyFault
+  unfolding reportOutcome reportRows lengthIn outputAfter
   tables-refused {n} {i} {out} e =
       let f = sym (k .fault-is) ∙ e in
-      let o : reportOutcome (into out) ≡ refusal n = refused _ (collect-refused m _ f) in
+      let o : reportOutcome (into out) ≡ refusal n = refused _ (stage-refused (collectRows m) _ f) in
       record {
-        fault-is = sym (collect-refused m _ f);
+        fault-is = sym (stage-refused (collectRows m) _ f);
         length-is = ap lengthIn (sym o);
-        work-left-is =
-            k .work-left-is ∙ ap (λ (x : Fault). workBy x (m .calendar) (m .work)) f
-            ∙ ap (λ (x : Outcome). workAfter x (m .calendar) (m .work)) (sym o);
+        work-left-is = k .work-left-is;
         output-left-is = ap (λ (x : Outcome). outputAfter x (reportBytes (reportFor m)) out) (sym o);
         periods-are = k .periods-are;
         busy-sound = k .busy-sound;
@@ -203,7 +169,7 @@ pub tables-answer : {m : ReportCall} {r : ReportTables} {left out-left : List �
     → Reported m (answerBy (r .fault) (r .length)) left out-left
 unfolding reportOutcome
 tables-answer {m} {r} p =
-    let f = lowest (reportRows m) in
+    let f = firstRefusal (reportRows m) in
     let n = length (reportBytes (reportFor (m .terms))) in
     record {
       answered =

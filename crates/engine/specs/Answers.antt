@@ -1,9 +1,7 @@
 -- The public answer and its three kinds (document 01, Refusal numbers): yes or no, how long the report is, or which refusal.
 use Prim.Native.Nat.{ℕ}
 use mathlib.Core.Bool.{Bool}
-use mathlib.Core.List.{List}
 use Rattle.calendar.specs.declared.Fault.{Fault}
-use Rattle.refusals.specs.Stages.{workBy}
 use Rattle.engine.specs.declared.Answer.{Answer}
 
 pub data Outcome : Type 0 where
@@ -28,17 +26,7 @@ lengthIn (verdict b) = 0
 lengthIn (report n) = n
 lengthIn (refusal k) = 0
 
--- the refusal of an outcome, if it is one; the line plays no part in the buffers
-unfoldable pub refusalIn : Outcome → Fault
-refusalIn (verdict b) = Fault.None
-refusalIn (report n) = Fault.None
-refusalIn (refusal n) = Fault.At n 0
-
--- the work buffer afterwards
-unfoldable pub workAfter : Outcome → List ℕ → List ℕ → List ℕ
-workAfter o cal work = workBy (refusalIn o) cal work
-
--- the lowest refusal that applies, else the answer
+-- the first refusal that applies, else the answer
 unfoldable pub unlessRefused : Fault → Outcome → Outcome
 unlessRefused Fault.None o = o
 unlessRefused (Fault.At n i) o = refusal n

@@ -1,8 +1,6 @@
 pub mod Answers
 pub mod Matching
 pub mod MatchStages
-pub mod Demands
 pub mod Reporting
 pub mod ReportWriting
-pub mod ReportAnswers
-pub mod Meanings
+pub mod Demands

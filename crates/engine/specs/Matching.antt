@@ -2,7 +2,7 @@
 use Prim.Native.Nat.{ℕ}
 use mathlib.Core.Path.{_≡_}
 use mathlib.Core.Bool.{Bool, false, not}
-use mathlib.Core.List.{List, [], _∷_}
+use mathlib.Core.List.{List, [], _∷_, _++_}
 use lib.IntN.{ℤ}
 use Rattle.text.specs.Unfolding.{unfolded}
 use Rattle.nesting.specs.Files.{treeIn}
@@ -11,9 +11,10 @@ use Rattle.query.specs.Sections.{sectionsOf}
 use Rattle.query.specs.declared.SectionsRead.{SectionsRead}
 use Rattle.query_check.specs.WellFormed.{queryGood, rangeMisplaced}
 use Rattle.filter.specs.Tests.{queryHolds}
-use Rattle.refusals.specs.Refusals.{Row, row, lowest, sizeRows, calendarRows}
+use Rattle.refusals.specs.Refusals.{Row, row, firstRefusal, sizeRows, calendarRows}
 use Rattle.refusals.specs.Offsets.{offsetGood, contextOf}
-use Rattle.engine.specs.Answers.{Outcome, verdict, outcomeOf, workAfter, unlessRefused}
+use Rattle.refusals.specs.Stages.{workBy}
+use Rattle.engine.specs.Answers.{Outcome, verdict, outcomeOf, unlessRefused}
 use Rattle.engine.specs.declared.Answer.{Answer}
 
 -- what is handed in
@@ -28,14 +29,20 @@ unfoldable pub misplacedIn : List ℕ → SectionsRead → Bool
 misplacedIn s (SectionsRead.Of q) = rangeMisplaced s q
 misplacedIn s SectionsRead.Bad = false
 
-unfoldable pub queryRows : List ℕ → List Row → List Row
-queryRows s rows = row 4 0 (not (queryGood s)) ∷ row 5 0 (misplacedIn s (sectionsOf s)) ∷ rows
+unfoldable pub queryRows : List ℕ → List Row
+queryRows s = row 4 0 (not (queryGood s)) ∷ row 5 0 (misplacedIn s (sectionsOf s)) ∷ []
 
--- 1: the offset; then the rows of sizes, query and calendar
+-- 1: the offset
+unfoldable pub offsetRow : ℤ → Row
+offsetRow o = row 1 0 (not (offsetGood o))
+
+-- 1 to 5, before the calendar is unfolded
+unfoldable pub earlyMatchRows : MatchCall → List Row
+earlyMatchRows m = offsetRow (m .offset) ∷ (sizeRows (m .calendar) (m .work) ++ queryRows (m .query))
+
+-- then 6 to 10, of the unfolded calendar
 unfoldable pub matchRows : MatchCall → List Row
-matchRows m =
-    row 1 0 (not (offsetGood (m .offset)))
-    ∷ sizeRows (m .calendar) (m .work) (queryRows (m .query) (calendarRows (contextOf (m .offset)) (unfolded (m .calendar)) []))
+matchRows m = earlyMatchRows m ++ calendarRows (contextOf (m .offset)) (unfolded (m .calendar))
 
 -- the query on the component tree of the unfolded calendar
 unfoldable pub verdictBy : Context → List ℕ → List ℕ → SectionsRead → Bool
@@ -45,11 +52,11 @@ verdictBy c cal s SectionsRead.Bad = false
 unfoldable pub verdictOf : MatchCall → Bool
 verdictOf m = verdictBy (contextOf (m .offset)) (m .calendar) (m .query) (sectionsOf (m .query))
 
--- the lowest refusal that applies, else the verdict
+-- the first refusal that applies, else the verdict
 unfoldable pub matchOutcome : MatchCall → Outcome
-matchOutcome m = unlessRefused (lowest (matchRows m)) (verdict (verdictOf m))
+matchOutcome m = unlessRefused (firstRefusal (matchRows m)) (verdict (verdictOf m))
 
 -- the whole promise of a match call: its answer, and every byte of the work buffer it leaves
 pub record Matched (m : MatchCall) (a : Answer) (left : List ℕ) : Type 0 where
   pub answered : outcomeOf a ≡ matchOutcome m
-  pub work-left : left ≡ workAfter (matchOutcome m) (m .calendar) (m .work)
+  pub work-left : left ≡ workBy (firstRefusal (earlyMatchRows m)) (m .calendar) (m .work)

@@ -2,23 +2,22 @@
 use mathlib.Core.Path.{_≡_}
 use Prim.Native.Nat.{ℕ}
 use mathlib.Core.List.{List, [], _∷_}
-use lib.Dec.{ltb}
 use lib.ListN.{length}
-use Rattle.refusals.specs.Refusals.{Row, row, lowest}
+use Rattle.refusals.specs.Refusals.{Row, firstRefusal}
 use Rattle.engine.specs.Answers.{Outcome, report, lengthIn, unlessRefused}
-use Rattle.engine.specs.Reporting.{outputAfter}
+use Rattle.engine.specs.Reporting.{outputRow, outputAfter}
 use Rattle.engine.specs.declared.reporting.Written.{Written}
 
 -- 12
 unfoldable pub writeRows : List ℕ → List ℕ → List Row
-writeRows bytes out = row 12 0 (ltb (length out) (length bytes)) ∷ []
+writeRows bytes out = outputRow bytes out ∷ []
 
 -- what row 12 alone lets through: the bytes' length
 unfoldable pub writeOutcome : List ℕ → List ℕ → Outcome
-writeOutcome bytes out = unlessRefused (lowest (writeRows bytes out)) (report (length bytes))
+writeOutcome bytes out = unlessRefused (firstRefusal (writeRows bytes out)) (report (length bytes))
 
 -- the bytes stand first in the output, or it is too short for them and unchanged
 pub record Wrote (bytes out : List ℕ) (w : Written) (out-left : List ℕ) : Type 0 where
-  pub fault-is : w .fault ≡ lowest (writeRows bytes out)
+  pub fault-is : w .fault ≡ firstRefusal (writeRows bytes out)
   pub length-is : w .length ≡ lengthIn (writeOutcome bytes out)
   pub output-left-is : out-left ≡ outputAfter (writeOutcome bytes out) bytes out

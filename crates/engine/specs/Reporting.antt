@@ -10,10 +10,11 @@ use Rattle.periods.specs.declared.BusyType.{BusyType}
 use Rattle.periods.specs.BusyTypes.{isBusy}
 use Rattle.report.specs.Bytes.{reportBytes}
 use Rattle.report.specs.Writing.{byType}
-use Rattle.refusals.specs.Refusals.{Row, row, lowest}
-use Rattle.collecting.specs.CalendarTerms.{CalendarTerms, reportFor, collectRows}
+use Rattle.refusals.specs.Refusals.{Row, row, firstRefusal}
+use Rattle.refusals.specs.Stages.{workBy}
+use Rattle.collecting.specs.CalendarTerms.{CalendarTerms, reportFor, earlyRows, collectRows}
 use Rattle.collecting.specs.Collecting.{periodsBy}
-use Rattle.engine.specs.Answers.{Outcome, verdict, report, refusal, outcomeOf, lengthIn, workAfter, unlessRefused}
+use Rattle.engine.specs.Answers.{Outcome, verdict, report, refusal, outcomeOf, lengthIn, unlessRefused}
 use Rattle.engine.specs.declared.Answer.{Answer}
 use Rattle.engine.specs.declared.ReportTables.{ReportTables}
 
@@ -23,12 +24,16 @@ pub record ReportCall : Type 0 where
   pub output : List ℕ
 
 -- 12: output buffer shorter than the report
-unfoldable pub reportRows : ReportCall → List Row
-reportRows m = collectRows (m .terms) (row 12 0 (ltb (length (m .output)) (length (reportBytes (reportFor (m .terms))))) ∷ [])
+unfoldable pub outputRow : List ℕ → List ℕ → Row
+outputRow bytes out = row 12 0 (ltb (length out) (length bytes))
 
--- the lowest refusal that applies, else the length of the report
+-- the rows of the terms, then 12
+unfoldable pub reportRows : ReportCall → List Row
+reportRows m = collectRows (m .terms) ++ (outputRow (reportBytes (reportFor (m .terms))) (m .output) ∷ [])
+
+-- the first refusal that applies, else the length of the report
 unfoldable pub reportOutcome : ReportCall → Outcome
-reportOutcome m = unlessRefused (lowest (reportRows m)) (report (length (reportBytes (reportFor (m .terms)))))
+reportOutcome m = unlessRefused (firstRefusal (reportRows m)) (report (length (reportBytes (reportFor (m .terms)))))
 
 -- the output afterwards: as it was where there is a refusal, else the report and behind it what was there
 unfoldable pub outputAfter : Outcome → List ℕ → List ℕ → List ℕ
@@ -39,17 +44,17 @@ outputAfter (refusal k) bytes out = out
 -- the whole promise of a report call: its answer, every byte of the work buffer and every byte of the output
 pub record Reported (m : ReportCall) (a : Answer) (work-left out-left : List ℕ) : Type 0 where
   pub answered : outcomeOf a ≡ reportOutcome m
-  pub work-left-is : work-left ≡ workAfter (reportOutcome m) (m .terms .calendar) (m .terms .work)
+  pub work-left-is : work-left ≡ workBy (firstRefusal (earlyRows (m .terms))) (m .terms .calendar) (m .terms .work)
   pub output-left-is : out-left ≡ outputAfter (reportOutcome m) (reportBytes (reportFor (m .terms))) (m .output)
 
 -- the same call, which hands out besides what its report was written from: the refusal or none with its line, the length, and the periods of each type
 pub record ReportedTables (m : ReportCall) (r : ReportTables) (work-left out-left : List ℕ) : Type 0 where
-  pub fault-is : r .fault ≡ lowest (reportRows m)
+  pub fault-is : r .fault ≡ firstRefusal (reportRows m)
   pub length-is : r .length ≡ lengthIn (reportOutcome m)
-  pub work-left-is : work-left ≡ workAfter (reportOutcome m) (m .terms .calendar) (m .terms .work)
+  pub work-left-is : work-left ≡ workBy (firstRefusal (earlyRows (m .terms))) (m .terms .calendar) (m .terms .work)
   pub output-left-is : out-left ≡ outputAfter (reportOutcome m) (reportBytes (reportFor (m .terms))) (m .output)
   pub periods-are : (b : BusyType) → isBusy b ≡ true
-      → byType (r .busy) (r .tentative) (r .unavailable) b ≡ periodsBy (lowest (collectRows (m .terms) [])) (m .terms) b
+      → byType (r .busy) (r .tentative) (r .unavailable) b ≡ periodsBy (firstRefusal (collectRows (m .terms))) (m .terms) b
   pub busy-sound : Sound (r .busy)
   pub tentative-sound : Sound (r .tentative)
   pub unavailable-sound : Sound (r .unavailable)

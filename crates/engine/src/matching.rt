@@ -14,7 +14,7 @@ ghost use Rattle.structure.specs.Rows.{FileRows};
 ghost use Rattle.query.specs.Fits.{Fits};
 ghost use Rattle.query_check.specs.WellFormed.{recordsGood};
 ghost use Rattle.engine.specs.Answers.{outcomeOf};
-ghost use Rattle.engine.specs.MatchStages.{Answered, contentsOutcome, unfoldedOutcome, queryOutcome, calendarOutcome};
+ghost use Rattle.engine.specs.MatchStages.{contentsOutcome, unfoldedOutcome, CalendarAnswered, QueryAnswered};
 
 // Refusals 8 to 10, then the filter. A match has no range: the pieces of the first second are stored, and nobody asks for them.
 fn match_contents(
@@ -105,7 +105,7 @@ fn match_calendar(work: &mut [u8], cal: &[u8], query: &[u8], q: Sections, c: Con
     requires { ⌜ Fits (now query) q ⌝ }
     requires { ⌜ recordsGood (now query) q ≡ true ⌝ }
     requires { ⌜ ContextGood c ⌝ }
-    ensures { λ r. ⌜ Answered (calendarOutcome c (now (cal .entry)) (now (query .entry)) q) (now (cal .entry)) (now (work .entry)) r (now (work .exit)) ⌝ }
+    ensures { λ r. ⌜ CalendarAnswered c (now (cal .entry)) (now (query .entry)) q (now (work .entry)) r (now (work .exit)) ⌝ }
 {
     let n = text::unfold_into(work, cal);
     match_unfolded(&work[..n], query, q, c)
@@ -116,7 +116,7 @@ pub fn match_query(work: &mut [u8], cal: &[u8], query: &[u8], c: Context) -> Ans
     requires { ⌜ length (now cal) ≤ length (now work) ⌝ }
     requires { ⌜ length (now cal) ≤ 65536 ⌝ }
     requires { ⌜ ContextGood c ⌝ }
-    ensures { λ r. ⌜ Answered (queryOutcome c (now (cal .entry)) (now (query .entry))) (now (cal .entry)) (now (work .entry)) r (now (work .exit)) ⌝ }
+    ensures { λ r. ⌜ QueryAnswered c (now (cal .entry)) (now (query .entry)) (now (work .entry)) r (now (work .exit)) ⌝ }
 {
     match query_check::read_query(query) {
         QueryRead::Bad => Answer::Refused(4),

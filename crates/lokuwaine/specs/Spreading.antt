@@ -4,9 +4,11 @@ use mathlib.Core.Path.{_≡_}
 use mathlib.Core.Bool.{Bool, true, false}
 use mathlib.Core.List.{List}
 use Rattle.report.specs.Bytes.{reportBytes}
-use Rattle.collecting.specs.CalendarTerms.{reportFor}
-use Rattle.engine.specs.Answers.{Outcome, verdict, report, refusal, outcomeOf, workAfter}
-use Rattle.engine.specs.Matching.{MatchCall, matchOutcome}
+use Rattle.refusals.specs.Refusals.{firstRefusal}
+use Rattle.refusals.specs.Stages.{workBy}
+use Rattle.collecting.specs.CalendarTerms.{reportFor, earlyRows}
+use Rattle.engine.specs.Answers.{Outcome, verdict, report, refusal, outcomeOf}
+use Rattle.engine.specs.Matching.{MatchCall, earlyMatchRows, matchOutcome}
 use Rattle.engine.specs.Reporting.{ReportCall, reportOutcome, outputAfter}
 use Rattle.engine.specs.declared.Answer.{Answer}
 use Rattle.lokuwaine.specs.declared.Spread.{Spread}
@@ -36,12 +38,12 @@ pub record MatchSpread (m : MatchCall) (kind value line : ℕ) (left : List ℕ)
   pub kind-is : kind ≡ kindOf (matchOutcome m)
   pub value-is : value ≡ valueOf (matchOutcome m)
   pub line-is : line ≡ 0
-  pub work-left-is : left ≡ workAfter (matchOutcome m) (m .calendar) (m .work)
+  pub work-left-is : left ≡ workBy (firstRefusal (earlyMatchRows m)) (m .calendar) (m .work)
 
 -- the same of a report, and its output
 pub record ReportSpread (m : ReportCall) (kind value line : ℕ) (work-left out-left : List ℕ) : Type 0 where
   pub kind-is : kind ≡ kindOf (reportOutcome m)
   pub value-is : value ≡ valueOf (reportOutcome m)
   pub line-is : line ≡ 0
-  pub work-left-is : work-left ≡ workAfter (reportOutcome m) (m .terms .calendar) (m .terms .work)
+  pub work-left-is : work-left ≡ workBy (firstRefusal (earlyRows (m .terms))) (m .terms .calendar) (m .terms .work)
   pub output-left-is : out-left ≡ outputAfter (reportOutcome m) (reportBytes (reportFor (m .terms))) (m .output)

@@ -1,45 +1,34 @@
--- What the stage of sizes refuses, whatever rows follow, and what it leaves to them where it refuses nothing; what stands in the work buffer.
+-- What the stage of sizes refuses, whatever rows follow, and what it leaves to them where it refuses nothing; what was unfolded into the work buffer.
 use Prim.Native.Nat.{ℕ, _≤_, _<_}
-use mathlib.Core.Path.{_≡_, refl, sym, ap}
+use mathlib.Core.Path.{_≡_, refl, sym}
 use mathlib.Core.Bool.{Bool, true, false}
-use mathlib.Core.List.{List, [], _++_}
+use mathlib.Core.List.{List, _++_}
 use native.Mathlib.Omega.{arith}
-use lib.Dec.{ltb, leb}
-use lib.ListN.{length, take, drop}
+use lib.Dec.{ltb}
+use lib.ListN.{length, take}
 use lib.Seq.{length-take-le}
 use borrow.Author.Tests.{ltb-true, ltb-false, lt-ltb, le-ltb}
-use Rattle.text.specs.Unfolding.{unfolded, Unfolded}
+use Rattle.text.specs.Unfolding.{Unfolded}
 use Rattle.text.proofs.Unfolding.{unfolded-room, length-unfolded}
 use Rattle.calendar.specs.declared.Fault.{Fault}
-use Rattle.refusals.specs.Refusals.{Row, lowest, sizeRows}
-use Rattle.refusals.specs.Stages.{sizeFault, earlyFault, workBy}
-use Rattle.refusals.proofs.Refusals.{no-fault-here, same-number, stage-passed, stage-refused}
+use Rattle.refusals.specs.Refusals.{Row, firstRefusal, sizeRows}
+use Rattle.refusals.specs.Stages.{sizeFault}
+use Rattle.refusals.proofs.Refusals.{no-fault-here, stage-passed, stage-refused}
 
 -- ---- 2 and 3: sizes
 
 module _ (cal work : List ℕ) where
   pub calendar-long : 65536 < length cal → Fault.At 2 0 ≡ sizeFault cal work
-  unfolding sizeFault sizeRows lowest
+  unfolding sizeFault sizeRows firstRefusal
   calendar-long h = rw (lt-ltb 65536 (length cal) h)
 
   pub work-short : length cal ≤ 65536 → length work < length cal → Fault.At 3 0 ≡ sizeFault cal work
-  unfolding sizeFault sizeRows lowest
+  unfolding sizeFault sizeRows firstRefusal
   work-short h k = rw (le-ltb 65536 (length cal) h, lt-ltb (length work) (length cal) k)
 
   pub sizes-good : length cal ≤ 65536 → length cal ≤ length work → Fault.None ≡ sizeFault cal work
-  unfolding sizeFault sizeRows lowest
+  unfolding sizeFault sizeRows firstRefusal
   sizes-good h k = rw (le-ltb 65536 (length cal) h, le-ltb (length work) (length cal) k)
-
-  -- the numbers of this stage, and the room where it refuses nothing
-  by-sizes : {A : Type 0} → (sizeFault cal work ≡ Fault.At 2 0 → A) → (sizeFault cal work ≡ Fault.At 3 0 → A)
-      → (length cal ≤ length work → sizeFault cal work ≡ Fault.None → A)
-      → A
-  by-sizes {A} two three none = go (ltb 65536 (length cal)) refl (ltb (length work) (length cal)) refl
-    where
-      go : (s : Bool) → ltb 65536 (length cal) ≡ s → (t : Bool) → ltb (length work) (length cal) ≡ t → A
-      go true e t k = two (sym (calendar-long (ltb-true _ _ e)))
-      go false e true k = three (sym (work-short (ltb-false _ _ e) (ltb-true _ _ k)))
-      go false e false k = none (ltb-false _ _ k) (sym (sizes-good (ltb-false _ _ e) (ltb-false _ _ k)))
 
   pub sizes-small : sizeFault cal work ≡ Fault.None → length cal ≤ 65536
   sizes-small e = go (ltb 65536 (length cal)) refl
@@ -49,27 +38,21 @@ module _ (cal work : List ℕ) where
       go false k = ltb-false _ _ k
 
   pub sizes-room : sizeFault cal work ≡ Fault.None → length cal ≤ length work
-  sizes-room e = by-sizes (λ k. no-fault-here k e) (λ k. no-fault-here k e) (λ r k. r)
+  sizes-room e = go (ltb (length work) (length cal)) refl
+    where
+      go : (t : Bool) → ltb (length work) (length cal) ≡ t → length cal ≤ length work
+      go true k = no-fault-here (sym (work-short (sizes-small e) (ltb-true _ _ k))) e
+      go false k = ltb-false _ _ k
 
-  pub sizes-early : {n i : ℕ} → sizeFault cal work ≡ Fault.At n i → leb n 5 ≡ true
-  sizes-early e =
-      by-sizes (λ k. rw (same-number e k)) (λ k. rw (same-number e k)) (λ r k. no-fault-here e k)
-
-  pub sizes-passed : (rows : List Row) → sizeFault cal work ≡ Fault.None → lowest (sizeRows cal work rows) ≡ lowest rows
+  pub sizes-passed : (rows : List Row) → sizeFault cal work ≡ Fault.None → firstRefusal (sizeRows cal work ++ rows) ≡ firstRefusal rows
   unfolding sizeFault sizeRows
-  sizes-passed rows e = stage-passed (sizeRows cal work []) rows e
+  sizes-passed rows e = stage-passed (sizeRows cal work) rows e
 
-  pub sizes-refused : {n i : ℕ} (rows : List Row) → sizeFault cal work ≡ Fault.At n i → lowest (sizeRows cal work rows) ≡ Fault.At n i
+  pub sizes-refused : {n i : ℕ} (rows : List Row) → sizeFault cal work ≡ Fault.At n i → firstRefusal (sizeRows cal work ++ rows) ≡ Fault.At n i
   unfolding sizeFault sizeRows
-  sizes-refused rows e = stage-refused (sizeRows cal work []) rows e
+  sizes-refused rows e = stage-refused (sizeRows cal work) rows e
 
 -- ---- the unfolded calendar in the work buffer
-
-module _ (cal work : List ℕ) where
-  pub work-by : {y : Bool} (f : Fault) → earlyFault f ≡ y
-      → workBy f cal work ≡ elim y as (λ z. List ℕ) [ true ↦ work | false ↦ unfolded cal ++ drop (length (unfolded cal)) work ]
-  unfolding workBy
-  work-by f h = ap (λ (y : Bool). elim y as (λ z. List ℕ) [ true ↦ work | false ↦ unfolded cal ++ drop (length (unfolded cal)) work ]) h
 
 module _ {cal work left : List ℕ} {n : ℕ} (u : Unfolded cal work left n) where
   pub unfolded-long : n ≡ length (take n left)

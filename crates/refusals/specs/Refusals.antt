@@ -1,8 +1,8 @@
--- The refusal table (document 01, Refusal numbers): a row for each number, with its own condition, and the lowest that applies.
-use Prim.Native.Nat.{ℕ, _<_}
+-- The refusal table (document 01, Refusal numbers): a row for each number, with its own condition; the first of a call's list that applies is given.
+use Prim.Native.Nat.{ℕ}
 use mathlib.Core.Path.{_≡_}
 use mathlib.Core.Bool.{Bool, true, false}
-use mathlib.Core.List.{List, [], _∷_, List·Memᴰ}
+use mathlib.Core.List.{List, [], _∷_, _++_, List·Memᴰ}
 use lib.Dec.{ltb}
 use lib.ListN.{length}
 use Rattle.line.specs.WellFormed.{lineCheck, LineCheck, allGood, badLine}
@@ -23,36 +23,38 @@ abbrev pub row : ℕ → ℕ → Bool → Row
 row n i t = record { number = n; line = i; applies = t }
 
 -- the first row that applies
-unfoldable pub lowest : List Row → Fault
-lowest [] = Fault.None
-lowest (r ∷ rs) = elim (r .applies) [ true ↦ Fault.At (r .number) (r .line) | false ↦ lowest rs ]
+unfoldable pub firstRefusal : List Row → Fault
+firstRefusal [] = Fault.None
+firstRefusal (r ∷ rs) = elim (r .applies) [ true ↦ Fault.At (r .number) (r .line) | false ↦ firstRefusal rs ]
 
--- row k applies, whether or not a lower one does
-pub record RowApplies (rows : List Row) (k : ℕ) : Type 0 where
+-- row k applies, its fault at line i, whether or not one before it does
+pub record RowApplies (rows : List Row) (k i : ℕ) : Type 0 where
   pub which : Row
   pub listed : List·Memᴰ which rows
   pub numbered : which .number ≡ k
+  pub lined : which .line ≡ i
   pub applies : which .applies ≡ true
 
 -- no row applies: no numbered refusal is given
 unfoldable pub NoneApplies : List Row → Type 0
-NoneApplies rows = (k : ℕ) → RowApplies rows k → ⊥
+NoneApplies rows = (k i : ℕ) → RowApplies rows k i → ⊥
 
--- row k applies and no lower one does
-pub record Lowest (rows : List Row) (k : ℕ) : Type 0 where
-  pub applies : RowApplies rows k
-  pub none-lower : (j : ℕ) → j < k → RowApplies rows j → ⊥
-
--- the numbers rise down the table
-pub data NumbersRise : ℕ → List Row → Type 0 where
-  ends : {n : ℕ} → NumbersRise n []
-  goes-on : {n : ℕ} {r : Row} {rs : List Row} → n < r .number → NumbersRise (r .number) rs → NumbersRise n (r ∷ rs)
+-- row k applies, its fault at line i, and no row before it does
+pub record FirstApplies (rows : List Row) (k i : ℕ) : Type 0 where
+  pub before : List Row
+  pub which : Row
+  pub behind : List Row
+  pub whole : rows ≡ before ++ (which ∷ behind)
+  pub none-before : NoneApplies before
+  pub numbered : which .number ≡ k
+  pub lined : which .line ≡ i
+  pub applies : which .applies ≡ true
 
 -- ---- the rows of sizes
 
 -- 2: more than 65,536 bytes of calendar; 3: too little work buffer for it
-unfoldable pub sizeRows : List ℕ → List ℕ → List Row → List Row
-sizeRows cal work rows = row 2 0 (ltb 65536 (length cal)) ∷ row 3 0 (ltb (length work) (length cal)) ∷ rows
+unfoldable pub sizeRows : List ℕ → List ℕ → List Row
+sizeRows cal work = row 2 0 (ltb 65536 (length cal)) ∷ row 3 0 (ltb (length work) (length cal)) ∷ []
 
 -- ---- the rows of a calendar, from its unfolded bytes
 
@@ -77,11 +79,15 @@ unfoldable pub ruleRow : RuleCheck → Row
 ruleRow RuleCheck.Good = row 10 0 false
 ruleRow (RuleCheck.Broken i) = row 10 i true
 
--- 8 to 10, before others
-unfoldable pub contentsRows : Context → List ℕ → List Row → List Row
-contentsRows c u rows =
-    unsupportedRow (valueFault c (componentsOf u)) ∷ badValueRow (valueFault c (componentsOf u)) ∷ ruleRow (ruleFault c (componentsOf u)) ∷ rows
+-- 6 and 7
+unfoldable pub structureRows : List ℕ → List Row
+structureRows u = lineRow 6 (lineCheck u) ∷ lineRow 7 (nestingOf (fileLines u)) ∷ []
+
+-- 8 to 10
+unfoldable pub contentsRows : Context → List ℕ → List Row
+contentsRows c u =
+    unsupportedRow (valueFault c (componentsOf u)) ∷ badValueRow (valueFault c (componentsOf u)) ∷ ruleRow (ruleFault c (componentsOf u)) ∷ []
 
 -- 6 to 10
-unfoldable pub calendarRows : Context → List ℕ → List Row → List Row
-calendarRows c u rows = lineRow 6 (lineCheck u) ∷ lineRow 7 (nestingOf (fileLines u)) ∷ contentsRows c u rows
+unfoldable pub calendarRows : Context → List ℕ → List Row
+calendarRows c u = structureRows u ++ contentsRows c u

@@ -3,7 +3,7 @@
 use Prim.Native.Nat.{ℕ, _≤_, _<_, suc, _-_, _+_}
 use mathlib.Core.Path.{_≡_, refl, sym, ap, _∙_, subst}
 use mathlib.Core.Bool.{true, not, _&&_, Bool, false}
-use mathlib.Core.List.{List, [], _∷_, append-nil, List·Memᴰ, List·Memᴰ·head, List·Memᴰ·tail, List·Memᴰ·not-nil, List·Memᴰ·cases-cons, List·Memᴰ·append-cases}
+use mathlib.Core.List.{List, [], _∷_, append-nil, append-assoc, List·Memᴰ, List·Memᴰ·head, List·Memᴰ·tail, List·Memᴰ·not-nil, List·Memᴰ·cases-cons, List·Memᴰ·append-cases}
 use mathlib.Core.Logic.{_↔_, _⊎_, inl, inr, ⊎-elim}
 use native.Mathlib.Omega.{arith}
 use lib.IntN.{ℤ, pos}
@@ -31,20 +31,19 @@ use Rattle.pieces.specs.Pieces.{busyPieces}
 use Rattle.pieces.proofs.Covered.{covered-iff}
 use Rattle.pieces.proofs.Pieces.{Inside, piecesOf-same}
 use Rattle.refusals.specs.Offsets.{offsetGood, contextOf}
-use Rattle.refusals.specs.Refusals.{NoneApplies, lowest, calendarRows}
-use Rattle.refusals.proofs.Refusals.{none-iff, row-passed, calendar-lowest, calendar-passed}
+use Rattle.refusals.specs.Refusals.{NoneApplies, firstRefusal, calendarRows}
+use Rattle.refusals.proofs.Refusals.{none-iff, row-passed, stage-passed, calendar-first}
 use Rattle.refusals.proofs.Stages.{sizes-good, sizes-passed}
 use Rattle.readback.specs.Reading.{reportPeriods, reportMeaning}
 use Rattle.readback.proofs.ReadingLines.{report-unfolds}
 use Rattle.readback.proofs.Reading.{reportBlock, report-entries, report-types, report-means}
-use Rattle.collecting.specs.CalendarTerms.{CalendarTerms, stampGood, entriesIn, coveredIn, reportFor, piecesFor, pieceRows, collectRows}
+use Rattle.collecting.specs.CalendarTerms.{CalendarTerms, stampGood, entriesIn, coveredIn, reportFor, piecesFor, termsRow, earlyRows, pieceRow, lateRows, collectRows}
 use Rattle.collecting.proofs.CalendarTerms.{writable, periods-cover, rising-writable, periods-rising}
 use Rattle.engine.specs.declared.Answer.{Answer}
-use Rattle.engine.specs.Reporting.{ReportCall, Reported, reportRows}
-use Rattle.engine.specs.Meanings.{IsReport, StandsUnder, SaysCovered, OnReport, HasRoom, ReadsBack, SameRange, SameSeconds, OneMeaning}
-use Rattle.engine.specs.ReportAnswers.{ReportWritten}
+use Rattle.engine.specs.Reporting.{ReportCall, Reported, outputRow, reportRows}
+use Rattle.engine.specs.Demands.{IsReport, StandsUnder, SaysCovered, OnReport, HasRoom, ReadsBack, SameRange, SameSeconds, OneMeaning}
 use Rattle.engine.specs.Answers.{outcomeOf}
-use Rattle.engine.proofs.ReportAnswers.{written-report, reports-or-refuses}
+use Rattle.engine.proofs.DemandsAnswers.{ReportWritten, report-given, written-report}
 use Rattle.engine.proofs.ReportingLaws.{range-good, stamp-good, few-periods}
 
 -- ---- a report read as a calendar
@@ -98,8 +97,11 @@ says-covered {m} {a} {out-left = out-left} p = record { stands-when = stands }
         let g = range-good m (z .none-applies) in
         let same : (o : ℤ) → coveredIn (take n out-left) o b x ≡ coveredIn (m .terms .calendar) (m .terms .offset) b x =
         λ o. ap (λ (c : List ℕ). coveredIn c o b x) (z .its-bytes) ∙ read-covers (m .terms) g (stamp-good m (z .none-applies)) o b u x h k in
-        let reads = covered-reads (m .terms .calendar) (m .terms .offset) b x (let l : x ≤ lastSecond = omega (arith, range-limit (m .terms .start) (m .terms .end) g) in l) in
-        (λ f. reads .0 (sym (same (pos 0)) ∙ f (pos 0) zero-good), λ c o q. same o ∙ reads .1 c)
+        let l : x ≤ lastSecond = omega (arith, range-limit (m .terms .start) (m .terms .end) g) in
+        let reads = covered-reads (m .terms .calendar) (m .terms .offset) b x l in
+        let again : (o : ℤ) → (coveredIn (take n out-left) o b x ≡ true) ↔ Covers (entriesIn (take n out-left) o) b x =
+        λ o. covered-reads (take n out-left) o b x l in
+        (λ f. reads .0 (sym (same (pos 0)) ∙ again (pos 0) .1 (f (pos 0) zero-good)), λ c o q. again o .0 (same o ∙ reads .1 c))
 
 -- ---- the pieces of a report are its own periods
 
@@ -144,24 +146,26 @@ periods-length r =
 
 -- ---- rows that pass
 
-no-row : lowest [] ≡ Fault.None
-unfolding lowest
+no-row : firstRefusal [] ≡ Fault.None
+unfolding firstRefusal
 no-row = refl
 
 -- a table passes where each stage does
 pub none-refuses : (m : ReportCall) → (rangeGood (m .terms .start) (m .terms .end) && stampGood (m .terms .stamp) && offsetGood (m .terms .offset)) ≡ true
     → length (m .terms .calendar) ≤ 65536
     → length (m .terms .calendar) ≤ length (m .terms .work)
-    → lowest (calendarRows (contextOf (m .terms .offset)) (unfolded (m .terms .calendar)) []) ≡ Fault.None
+    → firstRefusal (calendarRows (contextOf (m .terms .offset)) (unfolded (m .terms .calendar))) ≡ Fault.None
     → length (piecesFor (m .terms)) ≤ 512
     → length (reportBytes (reportFor (m .terms))) ≤ length (m .output)
     → NoneApplies (reportRows m)
-unfolding NoneApplies reportRows collectRows pieceRows
+unfolding NoneApplies reportRows collectRows earlyRows termsRow lateRows pieceRow outputRow
 none-refuses m one two three six eleven twelve =
     none-iff (reportRows m) .0
-    (row-passed _ _ (ap not one)
+    (ap firstRefusal (append-assoc (earlyRows (m .terms)) (lateRows (m .terms)) _)
+    ∙ row-passed _ _ (ap not one)
     ∙ sizes-passed (m .terms .calendar) (m .terms .work) _ (sym (sizes-good (m .terms .calendar) (m .terms .work) two three))
-    ∙ calendar-passed (contextOf (m .terms .offset)) (unfolded (m .terms .calendar)) _ six
+    ∙ ap firstRefusal (append-assoc (calendarRows (contextOf (m .terms .offset)) (unfolded (m .terms .calendar))) (pieceRow (piecesFor (m .terms)) ∷ []) _)
+    ∙ stage-passed (calendarRows (contextOf (m .terms .offset)) (unfolded (m .terms .calendar))) _ six
     ∙ row-passed _ _ (le-ltb 512 _ eleven)
     ∙ row-passed _ _ (le-ltb _ _ twelve)
     ∙ no-row)
@@ -202,11 +206,11 @@ module _ {r : Report} (c : Canonical r) {m : ReportCall} (k : CallOn r m) where
   first-on = and-both (and-both range-on (rw (k .its-stamp) (c .stamp-fits))) (k .offset-good)
 
   -- 6 to 10
-  calendar-on : lowest (calendarRows (contextOf (m .terms .offset)) (unfolded (m .terms .calendar)) []) ≡ Fault.None
+  calendar-on : firstRefusal (calendarRows (contextOf (m .terms .offset)) (unfolded (m .terms .calendar))) ≡ Fault.None
   unfolding reportMeaning faultOf
   calendar-on =
-      ap (λ (u : List ℕ). lowest (calendarRows (contextOf (m .terms .offset)) u [])) (ap unfolded (k .its-bytes) ∙ report-unfolds r)
-      ∙ calendar-lowest (contextOf (m .terms .offset)) (reportBytes r)
+      ap (λ (u : List ℕ). firstRefusal (calendarRows (contextOf (m .terms .offset)) u)) (ap unfolded (k .its-bytes) ∙ report-unfolds r)
+      ∙ calendar-first (contextOf (m .terms .offset)) (reportBytes r)
       ∙ ap faultOf (report-means (contextOf (m .terms .offset)) can-write)
 
   -- 11: its pieces are its own periods
@@ -265,7 +269,7 @@ reads-back {m} {again} {a} {b} {out-left = out-left} {out-again = out-again} p q
         let r = call-canonical m (z .none-applies) in
         let k = call-on z c h in
         let y = bytes-on r k in
-        let j : IsReport b n = subst (IsReport b) (ap length y ∙ sym (z .its-length)) (reports-or-refuses q .report-when (none-on r k)) in
+        let j : IsReport b n = subst (IsReport b) (ap length y ∙ sym (z .its-length)) (report-given q (none-on r k)) in
         (j, written-report q j .its-bytes ∙ y ∙ sym (z .its-bytes))
 
 -- ---- every canonical report is the report of some call that nothing refuses
@@ -299,17 +303,33 @@ some-call {r} c = (none-on c (on-itself r), bytes-on c (on-itself r))
 before-end : (a e t : ℕ) → a ≤ t → t < a + (e - a) → t < e
 before-end a e t h k = omega arith
 
-module _ {x y : CalendarTerms} (r : SameRange x y) where
-  pub same-periods : SameSeconds x y → (b : BusyType) → isBusy b ≡ true → reportFor x .periods b ≡ reportFor y .periods b
-  unfolding SameSeconds reportFor
-  same-periods s b u =
-      let g = coveredIn (y .calendar) (y .offset) b in
-      runs-same (coveredIn (x .calendar) (x .offset) b) g (x .start) (x .end - x .start) (λ t h k. s b u t h (before-end (x .start) (x .end) t h k))
+-- two tests that hold together are one
+same-test : (s t : Bool) → ((s ≡ true) ↔ (t ≡ true)) → s ≡ t
+same-test true t f = sym (f .0 refl)
+same-test false true f = f .1 refl
+same-test false false f = refl
+
+module _ {x y : CalendarTerms} (r : SameRange x y) (g : rangeGood (x .start) (x .end) ≡ true) (s : SameSeconds x y) where
+  same-covered : (b : BusyType) → isBusy b ≡ true → (t : ℕ) → x .start ≤ t → t < x .end
+      → coveredIn (x .calendar) (x .offset) b t ≡ coveredIn (y .calendar) (y .offset) b t
+  unfolding SameSeconds
+  same-covered b u t h k =
+      let l : t ≤ lastSecond = omega (arith, range-limit (x .start) (x .end) g) in
+      let one = covered-reads (x .calendar) (x .offset) b t l in
+      let two = covered-reads (y .calendar) (y .offset) b t l in
+      let both = s b u t h k in
+      same-test _ _ (λ e. two .1 (both .0 (one .0 e)), λ e. one .1 (both .1 (two .0 e)))
+
+  same-periods : (b : BusyType) → isBusy b ≡ true → reportFor x .periods b ≡ reportFor y .periods b
+  unfolding reportFor
+  same-periods b u =
+      let f = coveredIn (y .calendar) (y .offset) b in
+      runs-same (coveredIn (x .calendar) (x .offset) b) f (x .start) (x .end - x .start) (λ t h k. same-covered b u t h (before-end (x .start) (x .end) t h k))
       ∙ rw (r .same-start, r .same-end)
 
-  pub same-bytes : SameSeconds x y → reportBytes (reportFor x) ≡ reportBytes (reportFor y)
+  pub same-bytes : reportBytes (reportFor x) ≡ reportBytes (reportFor y)
   unfolding reportFor
-  same-bytes s = equal-bytes (reportFor x) (reportFor y) (r .same-start) (r .same-end) (r .same-stamp) (same-periods s)
+  same-bytes = equal-bytes (reportFor x) (reportFor y) (r .same-start) (r .same-end) (r .same-stamp) same-periods
 
 -- ---- same bytes, same seconds
 
@@ -324,28 +344,36 @@ same-second x y f g e b u t h k i j =
 
 -- ---- Demand 3
 
-module _ {x y : ReportCall} {a b : Answer} {work-x out-x work-y out-y : List ℕ} (r : SameRange (x .terms) (y .terms)) (p : Reported x a work-x out-x)
-    (q : Reported y b work-y out-y) where
-  same-report : (n k : ℕ) → IsReport a n → IsReport b k → ((n ≡ k) × (take n out-x ≡ take k out-y)) ↔ SameSeconds (x .terms) (y .terms)
-  unfolding SameSeconds
-  same-report n k e f =
-      let v = written-report p e in
-      let w = written-report q f in (
-        λ z d u t h l.
-            same-second x y (v .none-applies) (w .none-applies) (sym (v .its-bytes) ∙ z .1 ∙ w .its-bytes) d u t h l (rw (← r .same-start) h) (rw (← r .same-end) l),
-        λ s.
-            let z = same-bytes r s in
-            (v .its-length ∙ ap length z ∙ sym (w .its-length), v .its-bytes ∙ z ∙ sym (w .its-bytes)),
-      )
+module _ {x y : ReportCall} {a b : Answer} {work-x out-x work-y out-y : List ℕ} (p : Reported x a work-x out-x) (q : Reported y b work-y out-y) where
+  module _ (r : SameRange (x .terms) (y .terms)) (n k : ℕ) (e : IsReport a n) (f : IsReport b k) where
+    seconds-of : take n out-x ≡ take k out-y → SameSeconds (x .terms) (y .terms)
+    unfolding SameSeconds
+    seconds-of z d u t h l =
+        let v = written-report p e in
+        let w = written-report q f in
+        let g = range-good x (v .none-applies) in
+        let late : t ≤ lastSecond = omega (arith, range-limit (x .terms .start) (x .terms .end) g) in
+        let one = covered-reads (x .terms .calendar) (x .terms .offset) d t late in
+        let two = covered-reads (y .terms .calendar) (y .terms .offset) d t late in
+        let same =
+        same-second x y (v .none-applies) (w .none-applies) (sym (v .its-bytes) ∙ z ∙ w .its-bytes) d u t h l (rw (← r .same-start) h) (rw (← r .same-end) l) in
+        (λ c. two .0 (sym same ∙ one .1 c), λ c. one .0 (same ∙ two .1 c))
+
+    report-of : SameSeconds (x .terms) (y .terms) → (n ≡ k) × (take n out-x ≡ take k out-y)
+    report-of s =
+        let v = written-report p e in
+        let w = written-report q f in
+        let z = same-bytes r (range-good x (v .none-applies)) s in
+        (v .its-length ∙ ap length z ∙ sym (w .its-length), v .its-bytes ∙ z ∙ sym (w .its-bytes))
 
   pub one-meaning : OneMeaning x a out-x y b out-y
   one-meaning =
       record {
         both-report = (
           λ z. (written-report p (z .2 .0) .none-applies, written-report q (z .2 .1) .none-applies),
-          λ h. (length (reportBytes (reportFor (x .terms))), length (reportBytes (reportFor (y .terms))), (reports-or-refuses p .report-when (h .0), reports-or-refuses q .report-when (h .1))),
+          λ h. (length (reportBytes (reportFor (x .terms))), length (reportBytes (reportFor (y .terms))), (report-given p (h .0), report-given q (h .1))),
         );
-        same-report = same-report;
+        same-report = λ r n k e f. (λ z. seconds-of r n k e f (z .1), report-of r n k e f);
       }
 
 -- ---- one report for calendars that differ
