@@ -1,3 +1,4 @@
 pub mod Meaning
 pub mod Checks
 pub mod Periods
+pub mod FirstFaults
