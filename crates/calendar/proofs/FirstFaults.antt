@@ -33,7 +33,7 @@ module _ {A : Type 0} {P : A → Type 0} where
         holds = f .holds;
       }
 
-  no-first : {y : A} → First P [] y → ⊥
+  pub no-first : {y : A} → First P [] y → ⊥
   no-first {y} f = go (f .before) (f .whole)
     where
       go : (l : List A) → [] ≡ l ++ (y ∷ f .behind) → ⊥

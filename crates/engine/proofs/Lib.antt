@@ -3,6 +3,7 @@ pub mod MatchingLaws
 pub mod MatchStages
 pub mod ReportWriting
 pub mod ReportingLaws
+pub mod Sentences
 pub mod DemandsAnswers
 pub mod DemandsReports
 pub mod Demands

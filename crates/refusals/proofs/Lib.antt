@@ -1,3 +1,4 @@
 pub mod Offsets
 pub mod Refusals
 pub mod Stages
+pub mod Sentences

@@ -2,16 +2,17 @@
 use Prim.Native.Nat.{ℕ, suc, _≤_}
 use mathlib.Core.Path.{_≡_, refl, sym, ap, _∙_, subst}
 use mathlib.Core.Bool.{Bool, true, false, and-false}
+use mathlib.Core.Logic.{_↔_}
 use native.Mathlib.Omega.{arith}
-use lib.Dec.{T}
+use lib.Dec.{T, leb}
 use lib.IntN.{ℤ, pos, negsuc, natAbs, _+ℤ_}
 use lib.Signed.{ltZ, leZ, nonNeg}
 use mir.Syntax.{w64}
 use mir.Val.{SFits, Fits, toZ, ofZ}
 use mir.ValLaws.{toZ-ofZ}
 use borrow.Author.Tests.{ltb-true, ltb-false, le-leb, lt-leb, le-ltb, leb-true}
-use Rattle.ascii.proofs.Bools.{and-right, clash}
-use Rattle.refusals.specs.Offsets.{offsetGood, shiftOf, offsetRead}
+use Rattle.ascii.proofs.Bools.{and-left, and-right, and-both, clash}
+use Rattle.refusals.specs.Offsets.{offsetGood, OffsetWithin, shiftOf, offsetRead}
 use Rattle.refusals.specs.declared.OffsetRead.{OffsetRead}
 
 -- ---- a test and its opposite
@@ -44,6 +45,14 @@ shift-most (negsuc n) e = omega arith
 pub shift-small : (o : ℤ) → offsetGood o ≡ true → shiftOf o ≤ 100800
 unfolding offsetGood
 shift-small o e = shift-most o (and-right (leZ (negsuc 50399) o) _ e)
+
+pub within-iff : (o : ℤ) → (offsetGood o ≡ true) ↔ OffsetWithin o
+unfolding offsetGood
+within-iff (pos n) = (λ e. leb-true n 50400 e, λ h. le-leb n 50400 h)
+within-iff (negsuc n) = (
+  λ e. let h = leb-true n 50399 (and-left (leb n 50399) true e) in omega (arith, h),
+  λ h. and-both (le-leb n 50399 (omega (arith, h))) refl,
+)
 
 -- ---- what was read tells whether the offset is good
 

@@ -11,10 +11,12 @@ use Rattle.nesting.specs.Nesting.{nestingOf}
 use Rattle.values.specs.declared.times.Context.{Context}
 use Rattle.events.specs.Events.{Entry}
 use Rattle.calendar.specs.Meaning.{calendar, byRules, byValues, byLines, fileLines, componentsOf, valueFault, ruleFault, entriesOf, contentsOf, meaningOf, faultOf, structureFault}
+use Rattle.calendar.specs.FirstFaults.{First}
+use Rattle.calendar.proofs.FirstFaults.{first-here, first-later, no-first, first-cases}
 use Rattle.calendar.specs.declared.ValueCheck.{ValueCheck}
 use Rattle.calendar.specs.declared.RuleCheck.{RuleCheck}
 use Rattle.calendar.specs.declared.Fault.{Fault}
-use Rattle.refusals.specs.Refusals.{Row, firstRefusal, RowApplies, NoneApplies, FirstApplies, lineRow, unsupportedRow, badValueRow, ruleRow, structureRows, contentsRows, calendarRows}
+use Rattle.refusals.specs.Refusals.{Row, firstRefusal, RowApplies, NoneApplies, Applies, FirstApplies, lineRow, unsupportedRow, badValueRow, ruleRow, structureRows, contentsRows, calendarRows}
 
 -- a fault and none are apart; one fault has one number and one line
 pub no-fault-here : {A : Type 0} {f : Fault} {n i : ℕ} → f ≡ Fault.At n i → f ≡ Fault.None → A
@@ -68,7 +70,7 @@ stage-none xs ys e = go (firstRefusal xs) refl
 
 -- ---- rows that apply
 
-applies-cases : (r : Row) (rs : List Row) (k i : ℕ) → RowApplies (r ∷ rs) k i → ((r .number ≡ k) × (r .line ≡ i) × (r .applies ≡ true)) ⊎ RowApplies rs k i
+pub applies-cases : (r : Row) (rs : List Row) (k i : ℕ) → RowApplies (r ∷ rs) k i → ((r .number ≡ k) × (r .line ≡ i) × (r .applies ≡ true)) ⊎ RowApplies rs k i
 applies-cases r rs k i a =
     ⊎-elim
     (λ e. inl (ap (λ (x : Row). x .number) (sym e) ∙ a .numbered, ap (λ (x : Row). x .line) (sym e) ∙ a .lined, ap (λ (x : Row). x .applies) (sym e) ∙ a .applies))
@@ -94,50 +96,38 @@ none-applies (r ∷ rs) e k i a = go (r .applies) refl (λ h. none-applies rs h 
 
 -- ---- the first that applies
 
--- one more row in front that does not apply
-none-more : (r : Row) (rs : List Row) → r .applies ≡ false → NoneApplies rs → NoneApplies (r ∷ rs)
-unfolding NoneApplies
-none-more r rs h f k i a = ⊎-elim (λ x. clash (x .2) h) (f k i) (applies-cases r rs k i a)
-
-none-in-none : NoneApplies []
-unfolding NoneApplies
-none-in-none k i a = List·Memᴰ·not-nil (a .listed)
-
-first-here : {k i : ℕ} (r : Row) (rs : List Row) → r .applies ≡ true → firstRefusal (r ∷ rs) ≡ Fault.At k i → FirstApplies (r ∷ rs) k i
-first-here r rs h e =
-    let f = row-applies r rs h in
-    record {
-      before = [];
-      which = r;
-      behind = rs;
-      whole = refl;
-      none-before = none-in-none;
-      numbered = same-number f e;
-      lined = same-line f e;
-      applies = h;
-    }
-
-first-later : {k i : ℕ} (r : Row) (rs : List Row) → r .applies ≡ false → FirstApplies rs k i → FirstApplies (r ∷ rs) k i
-first-later r rs h f =
-    record {
-      before = r ∷ f .before;
-      which = f .which;
-      behind = f .behind;
-      whole = ap (λ (xs : List Row). r ∷ xs) (f .whole);
-      none-before = none-more r (f .before) h (f .none-before);
-      numbered = f .numbered;
-      lined = f .lined;
-      applies = f .applies;
-    }
-
 first-found : {k i : ℕ} (rows : List Row) → firstRefusal rows ≡ Fault.At k i → FirstApplies rows k i
-unfolding firstRefusal
+unfolding firstRefusal Applies
 first-found [] e = no-fault-here e refl
 first-found {k} {i} (r ∷ rs) e = go (r .applies) refl (first-found rs)
   where
     go : (t : Bool) → r .applies ≡ t → (firstRefusal rs ≡ Fault.At k i → FirstApplies rs k i) → FirstApplies (r ∷ rs) k i
-    go true h ih = first-here r rs h e
-    go false h ih = first-later r rs h (ih (sym (row-passed r rs h) ∙ e))
+    go true h ih =
+        let f = row-applies r rs h in
+        record { which = r; first = first-here r rs h; numbered = same-number f e; lined = same-line f e }
+    go false h ih =
+        let f = ih (sym (row-passed r rs h) ∙ e) in
+        record { which = f .which; first = first-later r rs (λ a. clash a h) (f .first); numbered = f .numbered; lined = f .lined }
+
+found-first : {k i : ℕ} (rows : List Row) → FirstApplies rows k i → firstRefusal rows ≡ Fault.At k i
+unfolding Applies
+found-first [] f = absurd (no-first (f .first))
+found-first {k} {i} (r ∷ rs) f = go (first-cases r rs (f .first)) (r .applies) refl (found-first rs)
+  where
+    go : ((f .which ≡ r) × Applies r) ⊎ ((Applies r → ⊥) × First Applies rs (f .which)) → (t : Bool) → r .applies ≡ t
+        → (FirstApplies rs k i → firstRefusal rs ≡ Fault.At k i) → firstRefusal (r ∷ rs) ≡ Fault.At k i
+    go (inl h) t q ih =
+        row-applies r rs (h .1)
+        ∙ ap (λ (x : Row). Fault.At (x .number) (x .line)) (sym (h .0))
+        ∙ ap (λ (n : ℕ). Fault.At n (f .which .line)) (f .numbered)
+        ∙ ap (λ (n : ℕ). Fault.At k n) (f .lined)
+    go (inr h) true q ih = absurd (h .0 q)
+    go (inr h) false q ih =
+        row-passed r rs q ∙ ih (record { which = f .which; first = h .1; numbered = f .numbered; lined = f .lined })
+
+-- a number is given, with its line, exactly when its row is the first that applies
+pub first-iff : (rows : List Row) (k i : ℕ) → (firstRefusal rows ≡ Fault.At k i) ↔ FirstApplies rows k i
+first-iff rows k i = (first-found rows, found-first rows)
 
 -- some row applies where one is the first
 pub first-applies : {k i : ℕ} (rows : List Row) → firstRefusal rows ≡ Fault.At k i → RowApplies rows k i
@@ -158,19 +148,6 @@ none-iff rows = (none-applies rows, λ h. go h (firstRefusal rows) refl)
     go : ((k i : ℕ) → RowApplies rows k i → ⊥) → (f : Fault) → firstRefusal rows ≡ f → firstRefusal rows ≡ Fault.None
     go h Fault.None e = e
     go h (Fault.At n i) e = absurd (h n i (first-applies rows e))
-
--- a number is given, with its line, exactly when its row is the first that applies
-pub first-iff : (rows : List Row) (k i : ℕ) → (firstRefusal rows ≡ Fault.At k i) ↔ FirstApplies rows k i
-first-iff rows k i = (
-  first-found rows,
-  λ f.
-      let rest = f .which ∷ f .behind in
-      ap firstRefusal (f .whole)
-      ∙ stage-passed (f .before) rest (none-iff (f .before) .1 (f .none-before))
-      ∙ row-applies (f .which) (f .behind) (f .applies)
-      ∙ ap (λ (n : ℕ). Fault.At n (f .which .line)) (f .numbered)
-      ∙ ap (λ (n : ℕ). Fault.At k n) (f .lined),
-)
 
 -- ---- 6 to 10: the calendar
 

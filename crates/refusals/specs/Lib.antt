@@ -1,3 +1,4 @@
 pub mod Refusals
 pub mod Offsets
 pub mod Stages
+pub mod Sentences

@@ -1,5 +1,5 @@
 -- The zone offset (document 01, Two questions): from -50,400 to 50,400 seconds; it is signed here and nowhere below.
-use Prim.Native.Nat.{ℕ, suc, _+_, _-_}
+use Prim.Native.Nat.{ℕ, suc, _+_, _-_, _≤_, _<_}
 use mathlib.Core.Bool.{Bool, cond, _&&_}
 use lib.IntN.{ℤ, pos, negsuc}
 use lib.Signed.{leZ}
@@ -9,6 +9,11 @@ use Rattle.refusals.specs.declared.OffsetRead.{OffsetRead}
 -- negsuc n is -(n + 1)
 unfoldable pub offsetGood : ℤ → Bool
 offsetGood o = leZ (negsuc 50399) o && leZ o (pos 50400)
+
+-- the same for the reader
+abbrev pub OffsetWithin : ℤ → Type 0
+OffsetWithin (pos n) = n ≤ 50400
+OffsetWithin (negsuc n) = n < 50400
 
 -- the offset and 50,400 more: from 0 to 100,800 where the offset is good
 unfoldable pub shiftOf : ℤ → ℕ

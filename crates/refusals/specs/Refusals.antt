@@ -9,6 +9,7 @@ use Rattle.line.specs.WellFormed.{lineCheck, LineCheck, allGood, badLine}
 use Rattle.nesting.specs.Nesting.{nestingOf}
 use Rattle.values.specs.declared.times.Context.{Context}
 use Rattle.calendar.specs.Meaning.{fileLines, componentsOf, valueFault, ruleFault}
+use Rattle.calendar.specs.FirstFaults.{First}
 use Rattle.calendar.specs.declared.ValueCheck.{ValueCheck}
 use Rattle.calendar.specs.declared.RuleCheck.{RuleCheck}
 use Rattle.calendar.specs.declared.Fault.{Fault}
@@ -39,16 +40,15 @@ pub record RowApplies (rows : List Row) (k i : ℕ) : Type 0 where
 unfoldable pub NoneApplies : List Row → Type 0
 NoneApplies rows = (k i : ℕ) → RowApplies rows k i → ⊥
 
--- row k applies, its fault at line i, and no row before it does
+unfoldable pub Applies : Row → Type 0
+Applies r = r .applies ≡ true
+
+-- row k is the first that applies, its fault at line i
 pub record FirstApplies (rows : List Row) (k i : ℕ) : Type 0 where
-  pub before : List Row
   pub which : Row
-  pub behind : List Row
-  pub whole : rows ≡ before ++ (which ∷ behind)
-  pub none-before : NoneApplies before
+  pub first : First Applies rows which
   pub numbered : which .number ≡ k
   pub lined : which .line ≡ i
-  pub applies : which .applies ≡ true
 
 -- ---- the rows of sizes
 
