@@ -1,3 +1,4 @@
 pub mod TimesLaws
 pub mod RuleLaws
+pub mod RuleGrammar
 pub mod PeriodLaws

@@ -1,3 +1,4 @@
 pub mod Times
 pub mod Rule
+pub mod RuleGrammar
 pub mod Period
