@@ -143,7 +143,7 @@ block-same a j b k s =
 
 -- ---- numbers read as what they were made of
 
-kind-back : (x : Kind) → kindOf (kindNumber x) ≡ x
+pub kind-back : (x : Kind) → kindOf (kindNumber x) ≡ x
 unfolding kindOf kindNumber
 kind-back Kind.Utc = refl
 kind-back Kind.Floating = refl

@@ -1,4 +1,5 @@
 pub mod ComponentProperties
+pub mod ComponentRules
 pub mod EntryRows
 pub mod Events
 pub mod Sizes

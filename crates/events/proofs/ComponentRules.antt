@@ -1,0 +1,764 @@
+-- THE THEOREMS of component rules: a VEVENT and a VFREEBUSY are read exactly where their lines keep the rules, and are broken otherwise.
+use Prim.Native.Nat.{ℕ, zero, suc, _+_, _≤_, _<_}
+use mathlib.Core.Path.{_≡_, refl, sym, ap, _∙_, subst}
+use mathlib.Core.Bool.{Bool, true, false, cond, _&&_, _||_}
+use mathlib.Core.Logic.{_↔_, _⊎_, inl, inr, ⊎-elim}
+use mathlib.Core.List.{List, [], _∷_, List·Memᴰ, List·Memᴰ·head, List·Memᴰ·tail}
+use native.Mathlib.Omega.{arith}
+use lib.Dec.{ltb, leb}
+use borrow.Author.Tests.{leb-true, ltb-true, lt-ltb, le-leb, eqb-true, eq-eqb}
+use Rattle.ascii.specs.Names.{sameBytes}
+use Rattle.ascii.specs.Words.{ascii}
+use Rattle.ascii.proofs.Bools.{and-left, and-right, clash}
+use Rattle.time.specs.declared.date_time.Kind.{Kind}
+use Rattle.time.specs.declared.duration.Duration.{Duration}
+use Rattle.values.specs.declared.times.Time.{Time}
+use Rattle.values.specs.declared.rule.Limit.{Limit}
+use Rattle.values.specs.declared.rule.Rule.{Rule}
+use Rattle.property.specs.declared.PropertyValue.{PropertyValue}
+use Rattle.events.specs.ComponentProperties.{noProperties, timeGiven, durationGiven, ruleGiven, statusGiven, transparencyGiven, withSpan, withBusy, withProperty, withProperties}
+use Rattle.events.specs.ComponentRules.{propertyName, countIf, linesNamed, EndFits, DurationFits, UntilFits, EventRules, BlockRules, BlockLines}
+use Rattle.events.specs.EntryRows.{kindOf}
+use Rattle.events.specs.Events.{kindNumber, sameKind, isDate, statedEnd, statedDuration, endingBy, limitBy, repeatBy, eventMade, eventWith, eventFrom, eventBy, blockBetween, blockFrom, blockBy}
+use Rattle.events.specs.declared.Ending.{Ending}
+use Rattle.events.specs.declared.Repeat.{Repeat}
+use Rattle.events.specs.declared.Event.{Event}
+use Rattle.events.specs.declared.Bound.{Bound}
+use Rattle.events.specs.declared.Block.{Block}
+use Rattle.events.specs.declared.EndingRead.{EndingRead}
+use Rattle.events.specs.declared.RepeatRead.{RepeatRead}
+use Rattle.events.specs.declared.EventRead.{EventRead}
+use Rattle.events.specs.declared.BlockRead.{BlockRead}
+use Rattle.events.specs.declared.ComponentProperties.{ComponentProperties}
+use Rattle.events.specs.declared.TimeGiven.{TimeGiven}
+use Rattle.events.specs.declared.DurationGiven.{DurationGiven}
+use Rattle.events.specs.declared.RuleGiven.{RuleGiven}
+use Rattle.events.proofs.EntryRows.{kind-back}
+
+-- ---- how many lines: none stands twice exactly where there is at most one of each, those read before counted in
+
+or-left : (a b : Bool) → (a || b) ≡ false → a ≡ false
+or-left true b e = e
+or-left false b e = refl
+
+or-true-right : (a : Bool) → (a || true) ≡ true
+or-true-right true = refl
+or-true-right false = refl
+
+-- b: was it there before? n more follow this one
+once-more : (a b : Bool) (n : ℕ) → (a || b) ≡ false → suc n ≤ 1 → countIf b (suc n) ≤ 1
+once-more a true n e h = clash (or-true-right a) e
+once-more a false n e h = h
+
+module _ (a b : Bool) (n : ℕ) where
+  fresh : a ≡ false → countIf b (suc n) ≤ 1 → ((a || b) ≡ false) × (countIf true n ≤ 1)
+  fresh e h = go b h
+    where
+      go : (b : Bool) → countIf b (suc n) ≤ 1 → ((a || b) ≡ false) × (suc n ≤ 1)
+      go true h = absurd (omega arith)
+      go false h = (rw e, h)
+
+abbrev Counts : ComponentProperties → List PropertyValue → Type 0
+Counts g ss =
+    (g .repeated ≡ false)
+    × (countIf (timeGiven (g .span .start)) (linesNamed (ascii "DTSTART") ss) ≤ 1)
+    × (countIf (timeGiven (g .span .end)) (linesNamed (ascii "DTEND") ss) ≤ 1)
+    × (countIf (durationGiven (g .span .lasts)) (linesNamed (ascii "DURATION") ss) ≤ 1)
+    × (countIf (ruleGiven (g .repeats)) (linesNamed (ascii "RRULE") ss) ≤ 1)
+    × (countIf (statusGiven (g .busy .status)) (linesNamed (ascii "STATUS") ss) ≤ 1)
+    × (countIf (transparencyGiven (g .busy .transparency)) (linesNamed (ascii "TRANSP") ss) ≤ 1)
+
+step-counts : (g : ComponentProperties) (s : PropertyValue) (ss : List PropertyValue) → Counts (withProperty g s) ss → Counts g (s ∷ ss)
+unfolding withProperty withSpan withBusy timeGiven durationGiven ruleGiven statusGiven transparencyGiven linesNamed propertyName
+step-counts g PropertyValue.Nothing ss h = h
+step-counts g PropertyValue.Unsupported ss h = h
+step-counts g PropertyValue.Bad ss h = h
+step-counts g (PropertyValue.HasPeriods b) ss h = h
+step-counts g (PropertyValue.Start t) ss h =
+    (or-left (g .repeated) _ (h .0), once-more (g .repeated) _ _ (h .0) (h .1), h .2, h .3, h .4, h .5, h .6)
+step-counts g (PropertyValue.End t) ss h =
+    (or-left (g .repeated) _ (h .0), h .1, once-more (g .repeated) _ _ (h .0) (h .2), h .3, h .4, h .5, h .6)
+step-counts g (PropertyValue.Lasts d) ss h =
+    (or-left (g .repeated) _ (h .0), h .1, h .2, once-more (g .repeated) _ _ (h .0) (h .3), h .4, h .5, h .6)
+step-counts g (PropertyValue.Repeats r) ss h =
+    (or-left (g .repeated) _ (h .0), h .1, h .2, h .3, once-more (g .repeated) _ _ (h .0) (h .4), h .5, h .6)
+step-counts g (PropertyValue.HasStatus x) ss h =
+    (or-left (g .repeated) _ (h .0), h .1, h .2, h .3, h .4, once-more (g .repeated) _ _ (h .0) (h .5), h .6)
+step-counts g (PropertyValue.Transparent x) ss h =
+    (or-left (g .repeated) _ (h .0), h .1, h .2, h .3, h .4, h .5, once-more (g .repeated) _ _ (h .0) (h .6))
+
+counts-step : (g : ComponentProperties) (s : PropertyValue) (ss : List PropertyValue) → Counts g (s ∷ ss) → Counts (withProperty g s) ss
+unfolding withProperty withSpan withBusy timeGiven durationGiven ruleGiven statusGiven transparencyGiven linesNamed propertyName
+counts-step g PropertyValue.Nothing ss h = h
+counts-step g PropertyValue.Unsupported ss h = h
+counts-step g PropertyValue.Bad ss h = h
+counts-step g (PropertyValue.HasPeriods b) ss h = h
+counts-step g (PropertyValue.Start t) ss h =
+    let f = fresh (g .repeated) _ _ (h .0) (h .1) in
+    (f .0, f .1, h .2, h .3, h .4, h .5, h .6)
+counts-step g (PropertyValue.End t) ss h =
+    let f = fresh (g .repeated) _ _ (h .0) (h .2) in
+    (f .0, h .1, f .1, h .3, h .4, h .5, h .6)
+counts-step g (PropertyValue.Lasts d) ss h =
+    let f = fresh (g .repeated) _ _ (h .0) (h .3) in
+    (f .0, h .1, h .2, f .1, h .4, h .5, h .6)
+counts-step g (PropertyValue.Repeats r) ss h =
+    let f = fresh (g .repeated) _ _ (h .0) (h .4) in
+    (f .0, h .1, h .2, h .3, f .1, h .5, h .6)
+counts-step g (PropertyValue.HasStatus x) ss h =
+    let f = fresh (g .repeated) _ _ (h .0) (h .5) in
+    (f .0, h .1, h .2, h .3, h .4, f .1, h .6)
+counts-step g (PropertyValue.Transparent x) ss h =
+    let f = fresh (g .repeated) _ _ (h .0) (h .6) in
+    (f .0, h .1, h .2, h .3, h .4, h .5, f .1)
+
+count-one : (b : Bool) → countIf b 0 ≤ 1
+count-one true = omega arith
+count-one false = omega arith
+
+not-repeated : (ss : List PropertyValue) (g : ComponentProperties) → withProperties g ss .repeated ≡ false → Counts g ss
+unfolding withProperties linesNamed
+not-repeated [] g e = (
+  e,
+  count-one (timeGiven (g .span .start)),
+  count-one (timeGiven (g .span .end)),
+  count-one (durationGiven (g .span .lasts)),
+  count-one (ruleGiven (g .repeats)),
+  count-one (statusGiven (g .busy .status)),
+  count-one (transparencyGiven (g .busy .transparency)),
+)
+not-repeated (s ∷ ss) g e = step-counts g s ss (not-repeated ss (withProperty g s) e)
+
+counted : (ss : List PropertyValue) (g : ComponentProperties) → Counts g ss → withProperties g ss .repeated ≡ false
+unfolding withProperties
+counted [] g h = h .0
+counted (s ∷ ss) g h = counted ss (withProperty g s) (counts-step g s ss h)
+
+-- ---- one property: what the lines say of it, and what is kept of them
+
+-- a property: `con` makes what a line of it says, `field` is what is kept, and `given` that, where it is there
+record Kept (A O : Type 0) : Type 0 where
+  name : List ℕ
+  con : A → PropertyValue
+  given : A → O
+  field : ComponentProperties → O
+  same : (a b : A) → given a ≡ given b → a ≡ b
+  named : (a : A) → sameBytes (propertyName (con a)) name ≡ true
+  sets : (g : ComponentProperties) (a : A) → field (withProperty g (con a)) ≡ given a
+  step : (g : ComponentProperties) (s : PropertyValue)
+      → ((sameBytes (propertyName s) name ≡ false) × (field (withProperty g s) ≡ field g)) ⊎ ((a : A) × (s ≡ con a))
+
+module _ {A O : Type 0} (k : Kept A O) where
+  open Kept k using (name, con, given, field, same, named, sets, step)
+
+  abbrev many : List PropertyValue → ℕ
+  many ss = linesNamed name ss
+
+  -- a line of it, and one that is not
+  many-more : (a : A) (s : PropertyValue) (ss : List PropertyValue) → s ≡ con a → many (s ∷ ss) ≡ suc (many ss)
+  unfolding linesNamed
+  many-more a s ss e = rw (e, named a)
+
+  many-same : (s : PropertyValue) (ss : List PropertyValue) → sameBytes (propertyName s) name ≡ false → many (s ∷ ss) ≡ many ss
+  unfolding linesNamed
+  many-same s ss e = rw e
+
+  many-less : (s : PropertyValue) (ss : List PropertyValue) → many ss ≤ many (s ∷ ss)
+  unfolding linesNamed
+  many-less s ss = go (sameBytes (propertyName s) name)
+    where
+      go : (b : Bool) → linesNamed name ss ≤ countIf b (linesNamed name ss)
+      go true = omega arith
+      go false = omega arith
+
+  -- without a line of it, what is kept stays
+  stays : (ss : List PropertyValue) (g : ComponentProperties) → many ss ≤ 0 → field (withProperties g ss) ≡ field g
+  unfolding withProperties
+  stays [] g h = refl
+  stays (s ∷ ss) g h =
+      ⊎-elim (λ w. stays ss (withProperty g s) (omega (arith, many-less s ss)) ∙ w .1) (λ w. absurd (omega (arith, many-more (w .0) s ss (w .1)))) (step g s)
+
+  -- what is kept was said by a line
+  said : (ss : List PropertyValue) (g : ComponentProperties) (a : A) → field (withProperties g ss) ≡ given a → (field g ≡ given a) ⊎ List·Memᴰ (con a) ss
+  unfolding withProperties
+  said [] g a e = inl e
+  said (s ∷ ss) g a e =
+      ⊎-elim
+      (λ h.
+      ⊎-elim (λ w. inl (sym (w .1) ∙ h))
+      (λ w.
+      let q : field (withProperty g s) ≡ given (w .0) = ap (λ (x : PropertyValue). field (withProperty g x)) (w .1) ∙ sets g (w .0) in
+      let z : w .0 ≡ a = same (w .0) a (sym q ∙ h) in
+      inr (List·Memᴰ·head (ap con (sym z) ∙ sym (w .1))))
+      (step g s))
+      (λ m. inr (List·Memᴰ·tail m)) (said ss (withProperty g s) a e)
+
+  -- what a line says is kept, where there is one line at most
+  kept : (ss : List PropertyValue) (g : ComponentProperties) (a : A) → List·Memᴰ (con a) ss → many ss ≤ 1 → field (withProperties g ss) ≡ given a
+  unfolding withProperties
+  kept (s ∷ ss) g a (List·Memᴰ·head e) h =
+      stays ss (withProperty g s) (omega (arith, many-more a s ss (sym e))) ∙ ap (λ (x : PropertyValue). field (withProperty g x)) (sym e) ∙ sets g a
+  kept (s ∷ ss) g a (List·Memᴰ·tail m) h = kept ss (withProperty g s) a m (omega (arith, many-less s ss))
+
+  -- lines, and how many they are
+  some-line : (g : ComponentProperties) (ss : List PropertyValue) → 1 ≤ many ss → (a : A) × List·Memᴰ (con a) ss
+  unfolding linesNamed
+  some-line g [] h = absurd (omega arith)
+  some-line g (s ∷ ss) h =
+      ⊎-elim (λ w. let r = some-line g ss (omega (arith, many-same s ss (w .0))) in (r .0, List·Memᴰ·tail (r .1)))
+      (λ w. (w .0, List·Memᴰ·head (sym (w .1)))) (step g s)
+
+  line-counts : (ss : List PropertyValue) (a : A) → List·Memᴰ (con a) ss → 1 ≤ many ss
+  line-counts (s ∷ ss) a (List·Memᴰ·head e) = omega (arith, many-more a s ss (sym e))
+  line-counts (s ∷ ss) a (List·Memᴰ·tail m) = omega (arith, many-less s ss, line-counts ss a m)
+
+-- the four properties that the rules look into
+
+start-same : (a b : Time) → TimeGiven.Given a ≡ TimeGiven.Given b → a ≡ b
+start-same a b e = cc
+
+start-step : (g : ComponentProperties) (s : PropertyValue)
+    → ((sameBytes (propertyName s) (ascii "DTSTART") ≡ false) × (withProperty g s .span .start ≡ g .span .start)) ⊎ ((a : Time) × (s ≡ PropertyValue.Start a))
+unfolding withProperty withSpan withBusy propertyName
+start-step g PropertyValue.Nothing = inl (refl, refl)
+start-step g PropertyValue.Unsupported = inl (refl, refl)
+start-step g PropertyValue.Bad = inl (refl, refl)
+start-step g (PropertyValue.Start t) = inr (t, refl)
+start-step g (PropertyValue.End t) = inl (refl, refl)
+start-step g (PropertyValue.Lasts d) = inl (refl, refl)
+start-step g (PropertyValue.Repeats r) = inl (refl, refl)
+start-step g (PropertyValue.HasStatus x) = inl (refl, refl)
+start-step g (PropertyValue.Transparent x) = inl (refl, refl)
+start-step g (PropertyValue.HasPeriods b) = inl (refl, refl)
+
+start-kept : Kept Time TimeGiven
+unfolding withProperty withSpan propertyName
+start-kept =
+    record {
+      name = ascii "DTSTART";
+      con = λ a. PropertyValue.Start a;
+      given = λ a. TimeGiven.Given a;
+      field = λ g. g .span .start;
+      same = start-same;
+      named = λ a. refl;
+      sets = λ g a. refl;
+      step = start-step;
+    }
+
+end-same : (a b : Time) → TimeGiven.Given a ≡ TimeGiven.Given b → a ≡ b
+end-same a b e = cc
+
+end-step : (g : ComponentProperties) (s : PropertyValue)
+    → ((sameBytes (propertyName s) (ascii "DTEND") ≡ false) × (withProperty g s .span .end ≡ g .span .end)) ⊎ ((a : Time) × (s ≡ PropertyValue.End a))
+unfolding withProperty withSpan withBusy propertyName
+end-step g PropertyValue.Nothing = inl (refl, refl)
+end-step g PropertyValue.Unsupported = inl (refl, refl)
+end-step g PropertyValue.Bad = inl (refl, refl)
+end-step g (PropertyValue.Start t) = inl (refl, refl)
+end-step g (PropertyValue.End t) = inr (t, refl)
+end-step g (PropertyValue.Lasts d) = inl (refl, refl)
+end-step g (PropertyValue.Repeats r) = inl (refl, refl)
+end-step g (PropertyValue.HasStatus x) = inl (refl, refl)
+end-step g (PropertyValue.Transparent x) = inl (refl, refl)
+end-step g (PropertyValue.HasPeriods b) = inl (refl, refl)
+
+end-kept : Kept Time TimeGiven
+unfolding withProperty withSpan propertyName
+end-kept =
+    record {
+      name = ascii "DTEND";
+      con = λ a. PropertyValue.End a;
+      given = λ a. TimeGiven.Given a;
+      field = λ g. g .span .end;
+      same = end-same;
+      named = λ a. refl;
+      sets = λ g a. refl;
+      step = end-step;
+    }
+
+lasts-same : (a b : Duration) → DurationGiven.Given a ≡ DurationGiven.Given b → a ≡ b
+lasts-same a b e = cc
+
+lasts-step : (g : ComponentProperties) (s : PropertyValue)
+    → ((sameBytes (propertyName s) (ascii "DURATION") ≡ false) × (withProperty g s .span .lasts ≡ g .span .lasts)) ⊎ ((a : Duration) × (s ≡ PropertyValue.Lasts a))
+unfolding withProperty withSpan withBusy propertyName
+lasts-step g PropertyValue.Nothing = inl (refl, refl)
+lasts-step g PropertyValue.Unsupported = inl (refl, refl)
+lasts-step g PropertyValue.Bad = inl (refl, refl)
+lasts-step g (PropertyValue.Start t) = inl (refl, refl)
+lasts-step g (PropertyValue.End t) = inl (refl, refl)
+lasts-step g (PropertyValue.Lasts d) = inr (d, refl)
+lasts-step g (PropertyValue.Repeats r) = inl (refl, refl)
+lasts-step g (PropertyValue.HasStatus x) = inl (refl, refl)
+lasts-step g (PropertyValue.Transparent x) = inl (refl, refl)
+lasts-step g (PropertyValue.HasPeriods b) = inl (refl, refl)
+
+lasts-kept : Kept Duration DurationGiven
+unfolding withProperty withSpan propertyName
+lasts-kept =
+    record {
+      name = ascii "DURATION";
+      con = λ a. PropertyValue.Lasts a;
+      given = λ a. DurationGiven.Given a;
+      field = λ g. g .span .lasts;
+      same = lasts-same;
+      named = λ a. refl;
+      sets = λ g a. refl;
+      step = lasts-step;
+    }
+
+repeats-same : (a b : Rule) → RuleGiven.Given a ≡ RuleGiven.Given b → a ≡ b
+repeats-same a b e = cc
+
+repeats-step : (g : ComponentProperties) (s : PropertyValue)
+    → ((sameBytes (propertyName s) (ascii "RRULE") ≡ false) × (withProperty g s .repeats ≡ g .repeats)) ⊎ ((a : Rule) × (s ≡ PropertyValue.Repeats a))
+unfolding withProperty withSpan withBusy propertyName
+repeats-step g PropertyValue.Nothing = inl (refl, refl)
+repeats-step g PropertyValue.Unsupported = inl (refl, refl)
+repeats-step g PropertyValue.Bad = inl (refl, refl)
+repeats-step g (PropertyValue.Start t) = inl (refl, refl)
+repeats-step g (PropertyValue.End t) = inl (refl, refl)
+repeats-step g (PropertyValue.Lasts d) = inl (refl, refl)
+repeats-step g (PropertyValue.Repeats r) = inr (r, refl)
+repeats-step g (PropertyValue.HasStatus x) = inl (refl, refl)
+repeats-step g (PropertyValue.Transparent x) = inl (refl, refl)
+repeats-step g (PropertyValue.HasPeriods b) = inl (refl, refl)
+
+repeats-kept : Kept Rule RuleGiven
+unfolding withProperty withSpan propertyName
+repeats-kept =
+    record {
+      name = ascii "RRULE";
+      con = λ a. PropertyValue.Repeats a;
+      given = λ a. RuleGiven.Given a;
+      field = λ g. g .repeats;
+      same = repeats-same;
+      named = λ a. refl;
+      sets = λ g a. refl;
+      step = repeats-step;
+    }
+
+-- ---- kinds, and the tests of DTEND, DURATION and UNTIL
+
+kind-number : (a b : Kind) → kindNumber a ≡ kindNumber b → a ≡ b
+kind-number a b e = sym (kind-back a) ∙ ap kindOf e ∙ kind-back b
+
+same-kind-is : (a b : Time) → sameKind a b ≡ true → a .kind ≡ b .kind
+unfolding sameKind
+same-kind-is a b e = kind-number (a .kind) (b .kind) (eqb-true _ _ e)
+
+is-same-kind : (a b : Time) → a .kind ≡ b .kind → sameKind a b ≡ true
+unfolding sameKind
+is-same-kind a b e = eq-eqb _ _ (ap kindNumber e)
+
+date-is : (s : Time) → isDate s ≡ true → s .kind ≡ Kind.Date
+unfolding isDate kindNumber
+date-is s e = kind-number (s .kind) Kind.Date (eqb-true _ _ e)
+
+is-date : (s : Time) → s .kind ≡ Kind.Date → isDate s ≡ true
+unfolding isDate kindNumber
+is-date s e = eq-eqb _ _ (ap kindNumber e)
+
+-- what was read is not broken
+ending-broken : {A : Type 0} {x : Ending} → EndingRead.Broken ≡ EndingRead.Of x → A
+ending-broken e = let z : _≡_ {A = ℕ} 0 1 = cc in absurd (omega arith)
+
+repeat-broken : {A : Type 0} {x : Repeat} → RepeatRead.Broken ≡ RepeatRead.Of x → A
+repeat-broken e = let z : _≡_ {A = ℕ} 0 1 = cc in absurd (omega arith)
+
+module _ (s : Time) where
+  end-fits-of : (e : Time) (x : Ending) → statedEnd s e ≡ EndingRead.Of x → EndFits s e
+  unfolding statedEnd
+  end-fits-of e x h = go (sameKind e s && ltb (s .second) (e .second)) refl h
+    where
+      go : (b : Bool) → (sameKind e s && ltb (s .second) (e .second)) ≡ b
+          → cond b (EndingRead.Of (Ending.End (e .second))) EndingRead.Broken ≡ EndingRead.Of x → EndFits s e
+      go true p h =
+          record {
+            same-kind = same-kind-is e s (and-left _ (ltb (s .second) (e .second)) p);
+            later = ltb-true _ _ (and-right (sameKind e s) _ p);
+          }
+      go false p h = ending-broken h
+
+  end-of-fits : (e : Time) → EndFits s e → statedEnd s e ≡ EndingRead.Of (Ending.End (e .second))
+  unfolding statedEnd
+  end-of-fits e f = rw (is-same-kind e s (f .same-kind), lt-ltb _ _ (f .later))
+
+  duration-fits-of : (d : Duration) (x : Ending) → statedDuration s d ≡ EndingRead.Of x → DurationFits s d
+  unfolding statedDuration
+  duration-fits-of d x h = record { no-time-on-date = λ k. go k (d .timed) h }
+    where
+      go : s .kind ≡ Kind.Date → (b : Bool) → cond (isDate s && b) EndingRead.Broken (EndingRead.Of (Ending.Lasts d)) ≡ EndingRead.Of x → b ≡ false
+      go k true h = ending-broken (rw (is-date s k) at h)
+      go k false h = refl
+
+  duration-of-fits : (d : Duration) → DurationFits s d → statedDuration s d ≡ EndingRead.Of (Ending.Lasts d)
+  unfolding statedDuration
+  duration-of-fits d f = go (isDate s) refl
+    where
+      go : (b : Bool) → isDate s ≡ b → cond (b && d .timed) EndingRead.Broken (EndingRead.Of (Ending.Lasts d)) ≡ EndingRead.Of (Ending.Lasts d)
+      go true e = rw (f .no-time-on-date (date-is s e))
+      go false e = refl
+
+  until-fits-of : (t : Time) (x : Repeat) → limitBy s (Limit.Until t) ≡ RepeatRead.Of x → UntilFits s t
+  unfolding limitBy
+  until-fits-of t x h = go (sameKind t s && leb (s .second) (t .second)) refl h
+    where
+      go : (b : Bool) → (sameKind t s && leb (s .second) (t .second)) ≡ b
+          → cond b (RepeatRead.Of (Repeat.Until (t .second))) RepeatRead.Broken ≡ RepeatRead.Of x → UntilFits s t
+      go true p h =
+          record {
+            same-kind = same-kind-is t s (and-left _ (leb (s .second) (t .second)) p);
+            not-before = leb-true _ _ (and-right (sameKind t s) _ p);
+          }
+      go false p h = repeat-broken h
+
+  until-of-fits : (t : Time) → UntilFits s t → limitBy s (Limit.Until t) ≡ RepeatRead.Of (Repeat.Until (t .second))
+  unfolding limitBy
+  until-of-fits t f = rw (is-same-kind t s (f .same-kind), le-leb _ _ (f .not-before))
+
+-- ---- a VEVENT
+
+-- what the lines of a component say together
+abbrev together : List PropertyValue → ComponentProperties
+together ss = withProperties noProperties ss
+
+-- what must stand in g for an event to be read
+record Made (g : ComponentProperties) : Type 0 where
+  not-twice : g .repeated ≡ false
+  start : Time
+  start-given : g .span .start ≡ TimeGiven.Given start
+  ending : Ending
+  ending-read : endingBy start (g .span .end) (g .span .lasts) ≡ EndingRead.Of ending
+  repeat : Repeat
+  repeat-read : repeatBy start (g .repeats) ≡ RepeatRead.Of repeat
+
+module _ (g : ComponentProperties) (x : Event) where
+  event-broken : {A : Type 0} → EventRead.Broken ≡ EventRead.Of x → A
+  event-broken e = let z : _≡_ {A = ℕ} 0 1 = cc in absurd (omega arith)
+
+  made-with : (s : Time) → g .repeated ≡ false → g .span .start ≡ TimeGiven.Given s → (a : EndingRead) (b : RepeatRead)
+      → endingBy s (g .span .end) (g .span .lasts) ≡ a → repeatBy s (g .repeats) ≡ b → eventWith s g a b ≡ EventRead.Of x → Made g
+  unfolding eventWith
+  made-with s n f (EndingRead.Of y) (RepeatRead.Of z) p q h =
+      record { not-twice = n; start = s; start-given = f; ending = y; ending-read = p; repeat = z; repeat-read = q }
+  made-with s n f (EndingRead.Of y) RepeatRead.Broken p q h = event-broken h
+  made-with s n f EndingRead.Broken b p q h = event-broken h
+
+  made-from : g .repeated ≡ false → (o : TimeGiven) → g .span .start ≡ o → eventFrom o g ≡ EventRead.Of x → Made g
+  unfolding eventFrom
+  made-from n TimeGiven.Absent f h = event-broken h
+  made-from n (TimeGiven.Given s) f h = made-with s n f (endingBy s (g .span .end) (g .span .lasts)) (repeatBy s (g .repeats)) refl refl h
+
+  made : eventBy g ≡ EventRead.Of x → Made g
+  unfolding eventBy
+  made h = go (g .repeated) refl h
+    where
+      go : (b : Bool) → g .repeated ≡ b → cond b EventRead.Broken (eventFrom (g .span .start) g) ≡ EventRead.Of x → Made g
+      go true e h = event-broken h
+      go false e h = made-from e (g .span .start) refl h
+
+made-event : (g : ComponentProperties) (m : Made g) → eventBy g ≡ EventRead.Of (eventMade (m .start) g (m .ending) (m .repeat))
+unfolding eventBy eventFrom eventWith
+made-event g m =
+    ap (λ (b : Bool). cond b EventRead.Broken (eventFrom (g .span .start) g)) (m .not-twice)
+    ∙ ap (λ (o : TimeGiven). eventFrom o g) (m .start-given)
+    ∙ ap (λ (a : EndingRead). eventWith (m .start) g a (repeatBy (m .start) (g .repeats))) (m .ending-read)
+    ∙ ap (λ (b : RepeatRead). eventWith (m .start) g (EndingRead.Of (m .ending)) b) (m .repeat-read)
+
+-- the ending that is read, and what it needs
+module _ (s : Time) where
+  end-read : (e : Time) (o : DurationGiven) (y : Ending) → endingBy s (TimeGiven.Given e) o ≡ EndingRead.Of y → EndFits s e
+  unfolding endingBy
+  end-read e DurationGiven.Absent y h = end-fits-of s e y h
+  end-read e (DurationGiven.Given d) y h = ending-broken h
+
+  duration-read : (o : TimeGiven) (d : Duration) (y : Ending) → endingBy s o (DurationGiven.Given d) ≡ EndingRead.Of y → DurationFits s d
+  unfolding endingBy
+  duration-read TimeGiven.Absent d y h = duration-fits-of s d y h
+  duration-read (TimeGiven.Given e) d y h = ending-broken h
+
+  both-read : {A : Type 0} (e : Time) (d : Duration) (y : Ending) → endingBy s (TimeGiven.Given e) (DurationGiven.Given d) ≡ EndingRead.Of y → A
+  unfolding endingBy
+  both-read e d y h = ending-broken h
+
+  until-read : (r : Rule) (t : Time) (z : Repeat) → r .limit ≡ Limit.Until t → repeatBy s (RuleGiven.Given r) ≡ RepeatRead.Of z → UntilFits s t
+  unfolding repeatBy
+  until-read r t z q h = until-fits-of s t z (rw q at h)
+
+  ending-made : (a : TimeGiven) (b : DurationGiven) → ((e : Time) → a ≡ TimeGiven.Given e → EndFits s e)
+      → ((d : Duration) → b ≡ DurationGiven.Given d → DurationFits s d)
+      → ((e : Time) (d : Duration) → a ≡ TimeGiven.Given e → b ≡ DurationGiven.Given d → ⊥) → (y : Ending) × (endingBy s a b ≡ EndingRead.Of y)
+  unfolding endingBy
+  ending-made TimeGiven.Absent DurationGiven.Absent p q n = (Ending.None, refl)
+  ending-made (TimeGiven.Given e) DurationGiven.Absent p q n = (Ending.End (e .second), end-of-fits s e (p e refl))
+  ending-made TimeGiven.Absent (DurationGiven.Given d) p q n = (Ending.Lasts d, duration-of-fits s d (q d refl))
+  ending-made (TimeGiven.Given e) (DurationGiven.Given d) p q n = absurd (n e d refl refl)
+
+  limit-made : (l : Limit) → ((t : Time) → l ≡ Limit.Until t → UntilFits s t) → (z : Repeat) × (limitBy s l ≡ RepeatRead.Of z)
+  unfolding limitBy
+  limit-made Limit.Forever p = (Repeat.Forever, refl)
+  limit-made (Limit.Count n) p = (Repeat.Count n, refl)
+  limit-made (Limit.Until t) p = (Repeat.Until (t .second), until-of-fits s t (p t refl))
+
+  repeat-made : (o : RuleGiven) → ((r : Rule) (t : Time) → o ≡ RuleGiven.Given r → r .limit ≡ Limit.Until t → UntilFits s t)
+      → (z : Repeat) × (repeatBy s o ≡ RepeatRead.Of z)
+  unfolding repeatBy
+  repeat-made RuleGiven.Absent p = (Repeat.Once, refl)
+  repeat-made (RuleGiven.Given r) p = limit-made (r .limit) (λ t q. p r t refl q)
+
+-- the lines of a component, from none read
+module _ (ss : List PropertyValue) where
+  -- at most one line of each property, where none stands twice, and the other way round
+  few-lines : together ss .repeated ≡ false
+      → (linesNamed (ascii "DTSTART") ss ≤ 1)
+      × (linesNamed (ascii "DTEND") ss ≤ 1)
+      × (linesNamed (ascii "DURATION") ss ≤ 1)
+      × (linesNamed (ascii "RRULE") ss ≤ 1)
+      × (linesNamed (ascii "STATUS") ss ≤ 1)
+      × (linesNamed (ascii "TRANSP") ss ≤ 1)
+  unfolding noProperties timeGiven durationGiven ruleGiven statusGiven transparencyGiven
+  few-lines e = let w = not-repeated ss noProperties e in (w .1, w .2, w .3, w .4, w .5, w .6)
+
+  lines-few : linesNamed (ascii "DTSTART") ss ≤ 1 → linesNamed (ascii "DTEND") ss ≤ 1 → linesNamed (ascii "DURATION") ss ≤ 1 → linesNamed (ascii "RRULE") ss ≤ 1
+      → linesNamed (ascii "STATUS") ss ≤ 1 → linesNamed (ascii "TRANSP") ss ≤ 1 → together ss .repeated ≡ false
+  unfolding noProperties timeGiven durationGiven ruleGiven statusGiven transparencyGiven
+  lines-few a b c d e f = counted ss noProperties (refl, a, b, c, d, e, f)
+
+  -- the laws of what is kept, at each of the four properties
+  start-said : (t : Time) → together ss .span .start ≡ TimeGiven.Given t → List·Memᴰ (PropertyValue.Start t) ss
+  unfolding noProperties start-kept
+  start-said t q = ⊎-elim (λ h. let z : _≡_ {A = ℕ} 0 1 = cc in absurd (omega arith)) (λ m. m) (said start-kept ss noProperties t q)
+
+  start-holds : (t : Time) → List·Memᴰ (PropertyValue.Start t) ss → linesNamed (ascii "DTSTART") ss ≤ 1 → together ss .span .start ≡ TimeGiven.Given t
+  unfolding start-kept
+  start-holds t m h = kept start-kept ss noProperties t m h
+
+  start-line : 1 ≤ linesNamed (ascii "DTSTART") ss → (t : Time) × List·Memᴰ (PropertyValue.Start t) ss
+  unfolding start-kept
+  start-line h = some-line start-kept noProperties ss h
+
+  start-counts : (t : Time) → List·Memᴰ (PropertyValue.Start t) ss → 1 ≤ linesNamed (ascii "DTSTART") ss
+  unfolding start-kept
+  start-counts t m = line-counts start-kept ss t m
+
+  end-said : (t : Time) → together ss .span .end ≡ TimeGiven.Given t → List·Memᴰ (PropertyValue.End t) ss
+  unfolding noProperties end-kept
+  end-said t q = ⊎-elim (λ h. let z : _≡_ {A = ℕ} 0 1 = cc in absurd (omega arith)) (λ m. m) (said end-kept ss noProperties t q)
+
+  end-holds : (t : Time) → List·Memᴰ (PropertyValue.End t) ss → linesNamed (ascii "DTEND") ss ≤ 1 → together ss .span .end ≡ TimeGiven.Given t
+  unfolding end-kept
+  end-holds t m h = kept end-kept ss noProperties t m h
+
+  end-line : 1 ≤ linesNamed (ascii "DTEND") ss → (t : Time) × List·Memᴰ (PropertyValue.End t) ss
+  unfolding end-kept
+  end-line h = some-line end-kept noProperties ss h
+
+  end-counts : (t : Time) → List·Memᴰ (PropertyValue.End t) ss → 1 ≤ linesNamed (ascii "DTEND") ss
+  unfolding end-kept
+  end-counts t m = line-counts end-kept ss t m
+
+  lasts-said : (d : Duration) → together ss .span .lasts ≡ DurationGiven.Given d → List·Memᴰ (PropertyValue.Lasts d) ss
+  unfolding noProperties lasts-kept
+  lasts-said d q = ⊎-elim (λ h. let z : _≡_ {A = ℕ} 0 1 = cc in absurd (omega arith)) (λ m. m) (said lasts-kept ss noProperties d q)
+
+  lasts-holds : (d : Duration) → List·Memᴰ (PropertyValue.Lasts d) ss → linesNamed (ascii "DURATION") ss ≤ 1 → together ss .span .lasts ≡ DurationGiven.Given d
+  unfolding lasts-kept
+  lasts-holds d m h = kept lasts-kept ss noProperties d m h
+
+  lasts-line : 1 ≤ linesNamed (ascii "DURATION") ss → (d : Duration) × List·Memᴰ (PropertyValue.Lasts d) ss
+  unfolding lasts-kept
+  lasts-line h = some-line lasts-kept noProperties ss h
+
+  lasts-counts : (d : Duration) → List·Memᴰ (PropertyValue.Lasts d) ss → 1 ≤ linesNamed (ascii "DURATION") ss
+  unfolding lasts-kept
+  lasts-counts d m = line-counts lasts-kept ss d m
+
+  repeats-said : (r : Rule) → together ss .repeats ≡ RuleGiven.Given r → List·Memᴰ (PropertyValue.Repeats r) ss
+  unfolding noProperties repeats-kept
+  repeats-said r q = ⊎-elim (λ h. let z : _≡_ {A = ℕ} 0 1 = cc in absurd (omega arith)) (λ m. m) (said repeats-kept ss noProperties r q)
+
+  repeats-holds : (r : Rule) → List·Memᴰ (PropertyValue.Repeats r) ss → linesNamed (ascii "RRULE") ss ≤ 1 → together ss .repeats ≡ RuleGiven.Given r
+  unfolding repeats-kept
+  repeats-holds r m h = kept repeats-kept ss noProperties r m h
+
+  repeats-line : 1 ≤ linesNamed (ascii "RRULE") ss → (r : Rule) × List·Memᴰ (PropertyValue.Repeats r) ss
+  unfolding repeats-kept
+  repeats-line h = some-line repeats-kept noProperties ss h
+
+  repeats-counts : (r : Rule) → List·Memᴰ (PropertyValue.Repeats r) ss → 1 ≤ linesNamed (ascii "RRULE") ss
+  unfolding repeats-kept
+  repeats-counts r m = line-counts repeats-kept ss r m
+
+  module _ (m : Made (together ss)) where
+    few : (linesNamed (ascii "DTSTART") ss ≤ 1)
+        × (linesNamed (ascii "DTEND") ss ≤ 1)
+        × (linesNamed (ascii "DURATION") ss ≤ 1)
+        × (linesNamed (ascii "RRULE") ss ≤ 1)
+        × (linesNamed (ascii "STATUS") ss ≤ 1)
+        × (linesNamed (ascii "TRANSP") ss ≤ 1)
+    few = few-lines (m .not-twice)
+
+    -- a DTSTART line says the start
+    the-start : (s : Time) → List·Memᴰ (PropertyValue.Start s) ss → m .start ≡ s
+    the-start s k = start-same (m .start) s (sym (m .start-given) ∙ start-holds s k (few .0))
+
+    made-not-both : (a b : ℕ) → linesNamed (ascii "DTEND") ss ≡ a → linesNamed (ascii "DURATION") ss ≡ b → a ≤ 1 → b ≤ 1 → a + b ≤ 1
+    made-not-both zero b p q h k = omega arith
+    made-not-both (suc a) zero p q h k = omega arith
+    made-not-both (suc a) (suc b) p q h k =
+        let e = end-line (omega arith) in
+        let d = lasts-line (omega arith) in
+        let f : together ss .span .end ≡ TimeGiven.Given (e .0) = end-holds (e .0) (e .1) (few .1) in
+        let g : together ss .span .lasts ≡ DurationGiven.Given (d .0) = lasts-holds (d .0) (d .1) (few .2) in
+        both-read (m .start) (e .0) (d .0) (m .ending) (rw (f, g) at (m .ending-read))
+
+    made-end : (s e : Time) → List·Memᴰ (PropertyValue.Start s) ss → List·Memᴰ (PropertyValue.End e) ss → EndFits s e
+    made-end s e k l =
+        let f : together ss .span .end ≡ TimeGiven.Given e = end-holds e l (few .1) in
+        subst (λ (x : Time). EndFits x e) (the-start s k) (end-read (m .start) e (together ss .span .lasts) (m .ending) (rw f at (m .ending-read)))
+
+    made-duration : (s : Time) (d : Duration) → List·Memᴰ (PropertyValue.Start s) ss → List·Memᴰ (PropertyValue.Lasts d) ss → DurationFits s d
+    made-duration s d k l =
+        let f : together ss .span .lasts ≡ DurationGiven.Given d = lasts-holds d l (few .2) in
+        subst (λ (x : Time). DurationFits x d) (the-start s k) (duration-read (m .start) (together ss .span .end) d (m .ending) (rw f at (m .ending-read)))
+
+    made-until : (s : Time) (r : Rule) (t : Time) → List·Memᴰ (PropertyValue.Start s) ss → List·Memᴰ (PropertyValue.Repeats r) ss → r .limit ≡ Limit.Until t → UntilFits s t
+    made-until s r t k l q =
+        let f : together ss .repeats ≡ RuleGiven.Given r = repeats-holds r l (few .3) in
+        subst (λ (x : Time). UntilFits x t) (the-start s k) (until-read (m .start) r t (m .repeat) q (rw f at (m .repeat-read)))
+
+    made-rules : EventRules ss
+    made-rules =
+        let k : 1 ≤ linesNamed (ascii "DTSTART") ss = start-counts (m .start) (start-said (m .start) (m .start-given)) in
+        record {
+          one-start = omega (arith, few .0);
+          few-ends = few .1;
+          few-durations = few .2;
+          few-rules = few .3;
+          few-statuses = few .4;
+          few-transparencies = few .5;
+          not-both = made-not-both _ _ refl refl (few .1) (few .2);
+          end-fits = made-end;
+          duration-fits = made-duration;
+          until-fits = made-until;
+        }
+
+  module _ (w : EventRules ss) where
+    no-two : (e : Time) (d : Duration) → together ss .span .end ≡ TimeGiven.Given e → together ss .span .lasts ≡ DurationGiven.Given d → ⊥
+    no-two e d p q =
+        let a : 1 ≤ linesNamed (ascii "DTEND") ss = end-counts e (end-said e p) in
+        let b : 1 ≤ linesNamed (ascii "DURATION") ss = lasts-counts d (lasts-said d q) in
+        absurd (omega (arith, w .not-both))
+
+    rules-made : Made (together ss)
+    rules-made =
+        let s = start-line (omega (arith, w .one-start)) in
+        let y =
+        ending-made (s .0) (together ss .span .end) (together ss .span .lasts) (λ e q. w .end-fits (s .0) e (s .1) (end-said e q))
+        (λ d q. w .duration-fits (s .0) d (s .1) (lasts-said d q)) no-two in
+        let z = repeat-made (s .0) (together ss .repeats) (λ r t q l. w .until-fits (s .0) r t (s .1) (repeats-said r q) l) in
+        record {
+          not-twice = lines-few (omega (arith, w .one-start)) (w .few-ends) (w .few-durations) (w .few-rules) (w .few-statuses) (w .few-transparencies);
+          start = s .0;
+          start-given = start-holds (s .0) (s .1) (omega (arith, w .one-start));
+          ending = y .0;
+          ending-read = y .1;
+          repeat = z .0;
+          repeat-read = z .1;
+        }
+
+-- THE THEOREM of events: an event is read exactly where the lines keep the rules of a VEVENT
+pub event-iff : (ss : List PropertyValue) → ((x : Event) × (eventBy (withProperties noProperties ss) ≡ EventRead.Of x)) ↔ EventRules ss
+event-iff ss = (
+  λ h. made-rules ss (made (together ss) (h .0) (h .1)),
+  λ w. (_, made-event (together ss) (rules-made ss w)),
+)
+
+-- and otherwise it is broken
+pub event-broken-iff : (ss : List PropertyValue) → (eventBy (withProperties noProperties ss) ≡ EventRead.Broken) ↔ (EventRules ss → ⊥)
+event-broken-iff ss = (
+  λ e w. let x = event-iff ss .1 w in event-broken (together ss) (x .0) (sym e ∙ x .1),
+  λ h. go h (eventBy (together ss)) refl,
+)
+  where
+    go : (EventRules ss → ⊥) → (a : EventRead) → eventBy (together ss) ≡ a → a ≡ EventRead.Broken
+    go h (EventRead.Of x) e = absurd (h (event-iff ss .0 (x, e)))
+    go h EventRead.Broken e = refl
+
+-- ---- a VFREEBUSY
+
+block-broken : {A : Type 0} {x : Block} → BlockRead.Broken ≡ BlockRead.Of x → A
+block-broken e = let z : _≡_ {A = ℕ} 0 1 = cc in absurd (omega arith)
+
+between-later : (s e : ℕ) (x : Block) → blockBetween s e ≡ BlockRead.Of x → s < e
+unfolding blockBetween
+between-later s e x h = go (ltb s e) refl h
+  where
+    go : (b : Bool) → ltb s e ≡ b → cond b (BlockRead.Of (record { start = Bound.At s; end = Bound.At e })) BlockRead.Broken ≡ BlockRead.Of x → s < e
+    go true p h = ltb-true s e p
+    go false p h = block-broken h
+
+later-between : (s e : ℕ) → s < e → blockBetween s e ≡ BlockRead.Of (record { start = Bound.At s; end = Bound.At e })
+unfolding blockBetween
+later-between s e h = rw (lt-ltb s e h)
+
+block-from : (a b : TimeGiven) → ((s e : Time) → a ≡ TimeGiven.Given s → b ≡ TimeGiven.Given e → s .second < e .second)
+    → (x : Block) × (blockFrom a b ≡ BlockRead.Of x)
+unfolding blockFrom
+block-from TimeGiven.Absent TimeGiven.Absent h = (_, refl)
+block-from (TimeGiven.Given s) TimeGiven.Absent h = (_, refl)
+block-from TimeGiven.Absent (TimeGiven.Given e) h = (_, refl)
+block-from (TimeGiven.Given s) (TimeGiven.Given e) h = (_, later-between (s .second) (e .second) (h s e refl refl))
+
+from-later : (s e : Time) (x : Block) → blockFrom (TimeGiven.Given s) (TimeGiven.Given e) ≡ BlockRead.Of x → s .second < e .second
+unfolding blockFrom
+from-later s e x h = between-later (s .second) (e .second) x h
+
+-- what must stand in g for a block to be read
+block-by : (g : ComponentProperties) (x : Block) → blockBy g ≡ BlockRead.Of x
+    → (g .repeated ≡ false) × (blockFrom (g .span .start) (g .span .end) ≡ BlockRead.Of x)
+unfolding blockBy
+block-by g x h = go (g .repeated) refl h
+  where
+    go : (b : Bool) → g .repeated ≡ b → cond b BlockRead.Broken (blockFrom (g .span .start) (g .span .end)) ≡ BlockRead.Of x
+        → (g .repeated ≡ false) × (blockFrom (g .span .start) (g .span .end) ≡ BlockRead.Of x)
+    go true e h = block-broken h
+    go false e h = (e, h)
+
+by-block : (g : ComponentProperties) (x : Block) → g .repeated ≡ false → blockFrom (g .span .start) (g .span .end) ≡ BlockRead.Of x → blockBy g ≡ BlockRead.Of x
+unfolding blockBy
+by-block g x e h = ap (λ (b : Bool). cond b BlockRead.Broken (blockFrom (g .span .start) (g .span .end))) e ∙ h
+
+module _ (ss : List PropertyValue) where
+  block-rules : (x : Block) → blockBy (together ss) ≡ BlockRead.Of x → BlockRules ss
+  block-rules x h =
+      let w = block-by (together ss) x h in
+      let n = few-lines ss (w .0) in
+      record {
+        few-starts = n .0;
+        few-ends = n .1;
+        end-later = λ s e k l. from-later s e x (rw (start-holds ss s k (n .0), end-holds ss e l (n .1)) at (w .1));
+      }
+
+  rules-block : BlockLines ss → BlockRules ss → (x : Block) × (blockBy (together ss) ≡ BlockRead.Of x)
+  rules-block n w =
+      let b =
+      block-from (together ss .span .start) (together ss .span .end)
+      (λ s e p q. w .end-later s e (start-said ss s p) (end-said ss e q)) in
+      let t : together ss .repeated ≡ false =
+      lines-few ss (w .few-starts) (w .few-ends) (omega (arith, n .no-durations)) (omega (arith, n .no-rules)) (omega (arith, n .no-statuses))
+      (omega (arith, n .no-transparencies)) in
+      (b .0, by-block (together ss) (b .0) t (b .1))
+
+-- THE THEOREM of blocks: of lines as a VFREEBUSY has them, a block is read exactly where they keep its rules
+pub block-iff : (ss : List PropertyValue) → BlockLines ss → ((x : Block) × (blockBy (withProperties noProperties ss) ≡ BlockRead.Of x)) ↔ BlockRules ss
+block-iff ss n = (λ h. block-rules ss (h .0) (h .1), λ w. rules-block ss n w)
+
+-- and otherwise it is broken
+pub block-broken-iff : (ss : List PropertyValue) → BlockLines ss → (blockBy (withProperties noProperties ss) ≡ BlockRead.Broken) ↔ (BlockRules ss → ⊥)
+block-broken-iff ss n = (λ e w. let x = rules-block ss n w in block-broken (sym e ∙ x .1), λ h. go h (blockBy (together ss)) refl)
+  where
+    go : (BlockRules ss → ⊥) → (a : BlockRead) → blockBy (together ss) ≡ a → a ≡ BlockRead.Broken
+    go h (BlockRead.Of x) e = absurd (h (block-rules ss x e))
+    go h BlockRead.Broken e = refl
