@@ -1,4 +1,5 @@
 pub mod Meaning
+pub mod ComponentRules
 pub mod Checks
 pub mod Periods
 pub mod FirstFaults

@@ -1,0 +1,239 @@
+-- THE THEOREM of refusal 10: no component is broken exactly where each keeps its rules, and otherwise the first that does not is named.
+use Prim.Native.Nat.{ℕ}
+use mathlib.Core.Path.{_≡_, refl, ap, _∙_}
+use mathlib.Core.Bool.{Bool, true, false, cond, _||_}
+use mathlib.Core.Logic.{_↔_, _⊎_, inl, inr, ⊎-elim}
+use mathlib.Core.List.{List, [], _∷_, _++_}
+use native.Mathlib.Omega.{arith}
+use Rattle.ascii.specs.Names.{sameName, sameBytes}
+use Rattle.ascii.specs.Words.{ascii}
+use Rattle.ascii.proofs.Bools.{clash}
+use Rattle.line.specs.Grammar.{ContentLine}
+use Rattle.line.specs.Reading.{hasParameter, hasTwice, hasList}
+use Rattle.values.specs.Times.{timeOf}
+use Rattle.values.specs.Period.{allPeriods, periodItems}
+use Rattle.values.specs.declared.times.Context.{Context}
+use Rattle.values.specs.declared.times.TimeRead.{TimeRead}
+use Rattle.property.specs.Properties.{timesOr, freeBusyProperty, propertyOf, timeIn, startBy, endBy, unlessZoned, busyOf, typeValue, valueAs, beforePeriods, withPeriods, propertyValueOf}
+use Rattle.property.specs.declared.Scope.{Scope}
+use Rattle.property.specs.declared.Property.{Property}
+use Rattle.property.specs.declared.PropertyValue.{PropertyValue}
+use Rattle.nesting.specs.Components.{Numbered, Component, propertiesIn}
+use Rattle.events.specs.ComponentRules.{propertyName, linesNamed, BlockLines}
+use Rattle.events.specs.declared.Event.{Event}
+use Rattle.events.specs.declared.EventRead.{EventRead}
+use Rattle.events.specs.declared.Block.{Block}
+use Rattle.events.specs.declared.BlockRead.{BlockRead}
+use Rattle.events.proofs.ComponentRules.{event-iff, block-iff}
+use Rattle.calendar.specs.Meaning.{componentScope, propertyValuesIn, eventOf, blockOf, eventBroken, blockBroken, isBroken, brokenOr, ruleFault}
+use Rattle.calendar.specs.ComponentRules.{KeepsAs, Keeps, EachKeeps, FirstBroken}
+use Rattle.calendar.specs.declared.RuleCheck.{RuleCheck}
+
+-- ---- what a line of a VFREEBUSY can say
+
+-- nothing of DURATION, RRULE, STATUS and TRANSP
+record BlockLine (s : PropertyValue) : Type 0 where
+  no-duration : sameBytes (propertyName s) (ascii "DURATION") ≡ false
+  no-rule : sameBytes (propertyName s) (ascii "RRULE") ≡ false
+  no-status : sameBytes (propertyName s) (ascii "STATUS") ≡ false
+  no-transparency : sameBytes (propertyName s) (ascii "TRANSP") ≡ false
+
+nothing-line : BlockLine PropertyValue.Nothing
+unfolding propertyName
+nothing-line = record { no-duration = refl; no-rule = refl; no-status = refl; no-transparency = refl }
+
+unsupported-line : BlockLine PropertyValue.Unsupported
+unfolding propertyName
+unsupported-line = record { no-duration = refl; no-rule = refl; no-status = refl; no-transparency = refl }
+
+bad-line : BlockLine PropertyValue.Bad
+unfolding propertyName
+bad-line = record { no-duration = refl; no-rule = refl; no-status = refl; no-transparency = refl }
+
+start-line : (r : TimeRead) → BlockLine (startBy r)
+unfolding startBy propertyName
+start-line (TimeRead.Of t) = record { no-duration = refl; no-rule = refl; no-status = refl; no-transparency = refl }
+start-line TimeRead.Bad = bad-line
+
+end-line : (r : TimeRead) → BlockLine (endBy r)
+unfolding endBy propertyName
+end-line (TimeRead.Of t) = record { no-duration = refl; no-rule = refl; no-status = refl; no-transparency = refl }
+end-line TimeRead.Bad = bad-line
+
+zoned-line : (x : ContentLine) (s : PropertyValue) → BlockLine s → BlockLine (unlessZoned x s)
+unfolding unlessZoned
+zoned-line x s h = go (hasParameter (ascii "TZID") x)
+  where
+    go : (b : Bool) → BlockLine (cond b PropertyValue.Unsupported s)
+    go true = unsupported-line
+    go false = h
+
+periods-line : (v : List ℕ) (s : PropertyValue) → BlockLine s → BlockLine (withPeriods v s)
+unfolding withPeriods
+periods-line v PropertyValue.Nothing h = h
+periods-line v PropertyValue.Unsupported h = h
+periods-line v PropertyValue.Bad h = h
+periods-line v (PropertyValue.Start t) h = h
+periods-line v (PropertyValue.End t) h = h
+periods-line v (PropertyValue.Lasts d) h = h
+periods-line v (PropertyValue.Repeats r) h = h
+periods-line v (PropertyValue.HasStatus s) h = h
+periods-line v (PropertyValue.Transparent t) h = h
+periods-line v (PropertyValue.HasPeriods b) h = go (allPeriods (periodItems v))
+  where
+    go : (t : Bool) → BlockLine (cond t (PropertyValue.HasPeriods b) PropertyValue.Bad)
+    go true = h
+    go false = bad-line
+
+type-line : (x : ContentLine) → BlockLine (typeValue x)
+unfolding typeValue propertyName
+type-line x = go (hasTwice (ascii "FBTYPE") x || hasList (ascii "FBTYPE") x)
+  where
+    go : (b : Bool) → BlockLine (cond b PropertyValue.Bad (PropertyValue.HasPeriods (busyOf x)))
+    go true = bad-line
+    go false = record { no-duration = refl; no-rule = refl; no-status = refl; no-transparency = refl }
+
+block-line : (c : Context) (x : ContentLine) → BlockLine (propertyValueOf c Scope.FreeBusy x)
+unfolding propertyValueOf beforePeriods propertyOf timesOr freeBusyProperty valueAs
+block-line c x =
+    periods-line (x .value) (beforePeriods c Scope.FreeBusy x)
+    (go (sameName (x .name) (ascii "DTSTART")) (sameName (x .name) (ascii "DTEND")) (sameName (x .name) (ascii "FREEBUSY")))
+  where
+    go : (s e p : Bool)
+        → BlockLine (valueAs (cond s Property.Start (cond e Property.End (cond p Property.Periods Property.Unread))) c Scope.FreeBusy x)
+    go true e p = zoned-line x (startBy (timeIn Scope.FreeBusy (timeOf c x))) (start-line (timeIn Scope.FreeBusy (timeOf c x)))
+    go false true p = zoned-line x (endBy (timeIn Scope.FreeBusy (timeOf c x))) (end-line (timeIn Scope.FreeBusy (timeOf c x)))
+    go false false true = type-line x
+    go false false false = nothing-line
+
+-- one line more that is not of the property
+none-more : (w : List ℕ) (s : PropertyValue) (ss : List PropertyValue) → sameBytes (propertyName s) w ≡ false → linesNamed w ss ≡ 0 → linesNamed w (s ∷ ss) ≡ 0
+unfolding linesNamed
+none-more w s ss e h = rw e h
+
+block-lines : (c : Context) (xs : List Numbered) → BlockLines (propertyValuesIn c Scope.FreeBusy xs)
+unfolding propertyValuesIn linesNamed
+block-lines c [] = record { no-durations = refl; no-rules = refl; no-statuses = refl; no-transparencies = refl }
+block-lines c (x ∷ xs) =
+    let s = propertyValueOf c Scope.FreeBusy (x .line) in
+    let ss = propertyValuesIn c Scope.FreeBusy xs in
+    let h = block-line c (x .line) in
+    let r = block-lines c xs in
+    record {
+      no-durations = none-more (ascii "DURATION") s ss (h .no-duration) (r .no-durations);
+      no-rules = none-more (ascii "RRULE") s ss (h .no-rule) (r .no-rules);
+      no-statuses = none-more (ascii "STATUS") s ss (h .no-status) (r .no-statuses);
+      no-transparencies = none-more (ascii "TRANSP") s ss (h .no-transparency) (r .no-transparencies);
+    }
+
+-- ---- one component
+
+event-read : (r : EventRead) → eventBroken r ≡ false → (e : Event) × (r ≡ EventRead.Of e)
+event-read (EventRead.Of e) h = (e, refl)
+event-read EventRead.Broken h = clash refl h
+
+block-read : (r : BlockRead) → blockBroken r ≡ false → (b : Block) × (r ≡ BlockRead.Of b)
+block-read (BlockRead.Of b) h = (b, refl)
+block-read BlockRead.Broken h = clash refl h
+
+keeps-as : (c : Context) (s : Scope) (k : Component) → isBroken c s k ≡ false → KeepsAs c s k
+unfolding isBroken eventOf blockOf
+keeps-as c Scope.Event k h = event-iff (propertyValuesIn c Scope.Event (propertiesIn (k .items))) .0 (event-read (eventOf c k) h)
+keeps-as c Scope.FreeBusy k h =
+    let xs = propertiesIn (k .items) in
+    block-iff (propertyValuesIn c Scope.FreeBusy xs) (block-lines c xs) .0 (block-read (blockOf c k) h)
+keeps-as c Scope.Other k h = tt
+
+as-keeps : (c : Context) (s : Scope) (k : Component) → KeepsAs c s k → isBroken c s k ≡ false
+unfolding isBroken eventOf blockOf
+as-keeps c Scope.Event k h = ap eventBroken (event-iff (propertyValuesIn c Scope.Event (propertiesIn (k .items))) .1 h .1)
+as-keeps c Scope.FreeBusy k h =
+    let xs = propertiesIn (k .items) in
+    ap blockBroken (block-iff (propertyValuesIn c Scope.FreeBusy xs) (block-lines c xs) .1 h .1)
+as-keeps c Scope.Other k h = refl
+
+-- a component is not broken exactly where it keeps its rules
+pub keeps-iff : (c : Context) (k : Component) → (isBroken c (componentScope k) k ≡ false) ↔ Keeps c k
+keeps-iff c k = (keeps-as c (componentScope k) k, as-keeps c (componentScope k) k)
+
+-- ---- all components
+
+broken-good : (b : Bool) (n : ℕ) (r : RuleCheck) → brokenOr b n r ≡ RuleCheck.Good → (b ≡ false) × (r ≡ RuleCheck.Good)
+unfolding brokenOr
+broken-good true n r e = let z : _≡_ {A = ℕ} 0 1 = cc in absurd (omega arith)
+broken-good false n r e = (refl, e)
+
+good-each : (c : Context) (ks : List Component) → ruleFault c ks ≡ RuleCheck.Good → EachKeeps c ks
+unfolding ruleFault
+good-each c [] e = tt
+good-each c (k ∷ ks) e =
+    let w = broken-good (isBroken c (componentScope k) k) (k .begin .number) (ruleFault c ks) e in
+    (keeps-iff c k .0 (w .0), good-each c ks (w .1))
+
+-- components that keep their rules are passed over
+each-past : (c : Context) (ks rest : List Component) → EachKeeps c ks → ruleFault c (ks ++ rest) ≡ ruleFault c rest
+unfolding ruleFault brokenOr
+each-past c [] rest h = refl
+each-past c (k ∷ ks) rest h =
+    ap (λ (b : Bool). brokenOr b (k .begin .number) (ruleFault c (ks ++ rest))) (keeps-iff c k .1 (h .0)) ∙ each-past c ks rest (h .1)
+
+each-good : (c : Context) (ks : List Component) → EachKeeps c ks → ruleFault c ks ≡ RuleCheck.Good
+unfolding ruleFault brokenOr
+each-good c [] h = refl
+each-good c (k ∷ ks) h =
+    ap (λ (b : Bool). brokenOr b (k .begin .number) (ruleFault c ks)) (keeps-iff c k .1 (h .0)) ∙ each-good c ks (h .1)
+
+broken-here : (b : Bool) (i n : ℕ) (r : RuleCheck) → brokenOr b i r ≡ RuleCheck.Broken n → ((b ≡ true) × (i ≡ n)) ⊎ ((b ≡ false) × (r ≡ RuleCheck.Broken n))
+unfolding brokenOr
+broken-here true i n r e = let z : i ≡ n = cc in inl (refl, z)
+broken-here false i n r e = inr (refl, e)
+
+first-broken : (c : Context) (ks : List Component) (n : ℕ) → ruleFault c ks ≡ RuleCheck.Broken n → FirstBroken c ks n
+unfolding ruleFault
+first-broken c [] n e = let z : _≡_ {A = ℕ} 0 1 = cc in absurd (omega arith)
+first-broken c (k ∷ ks) n e =
+    ⊎-elim
+    (λ w. record {
+      earlier = [];
+      broken = k;
+      rest = ks;
+      whole = refl;
+      kept = tt;
+      breaks = λ h. clash (w .0) (keeps-iff c k .1 h);
+      number = w .1;
+    })
+    (λ w.
+    let f = first-broken c ks n (w .1) in
+    record {
+      earlier = k ∷ f .earlier;
+      broken = f .broken;
+      rest = f .rest;
+      whole = ap (λ (l : List Component). k ∷ l) (f .whole);
+      kept = (keeps-iff c k .0 (w .0), f .kept);
+      breaks = f .breaks;
+      number = f .number;
+    })
+    (broken-here (isBroken c (componentScope k) k) (k .begin .number) n (ruleFault c ks) e)
+
+is-broken : (c : Context) (k : Component) → (Keeps c k → ⊥) → isBroken c (componentScope k) k ≡ true
+is-broken c k h = go (isBroken c (componentScope k) k) refl
+  where
+    go : (b : Bool) → isBroken c (componentScope k) k ≡ b → b ≡ true
+    go true e = refl
+    go false e = absurd (h (keeps-iff c k .0 e))
+
+broken-first : (c : Context) (ks : List Component) (n : ℕ) → FirstBroken c ks n → ruleFault c ks ≡ RuleCheck.Broken n
+unfolding ruleFault brokenOr
+broken-first c ks n f =
+    ap (ruleFault c) (f .whole)
+    ∙ each-past c (f .earlier) (f .broken ∷ f .rest) (f .kept)
+    ∙ ap (λ (b : Bool). brokenOr b (f .broken .begin .number) (ruleFault c (f .rest))) (is-broken c (f .broken) (f .breaks))
+    ∙ ap RuleCheck.Broken (f .number)
+
+-- THE THEOREM: the check of rules passes exactly where each component keeps its rules
+pub rules-good-iff : (c : Context) (ks : List Component) → (ruleFault c ks ≡ RuleCheck.Good) ↔ EachKeeps c ks
+rules-good-iff c ks = (good-each c ks, each-good c ks)
+
+-- and it names a line exactly where that line begins the first component that breaks them
+pub rules-broken-iff : (c : Context) (ks : List Component) (n : ℕ) → (ruleFault c ks ≡ RuleCheck.Broken n) ↔ FirstBroken c ks n
+rules-broken-iff c ks n = (first-broken c ks n, broken-first c ks n)
