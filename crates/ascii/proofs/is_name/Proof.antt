@@ -30,7 +30,11 @@ is-name-byte-requires : tie.Need-is-name-byte-requires Inv-loop μ-loop
 is-name-byte-requires c κs = search needs
 
 returns-2 : tie.Need-returns-2 Inv-loop μ-loop
-returns-2 c = sym (sym (c .before .before .before .before .loop .inv .1) ∙ every-stop isNameByte _ _ (c .before .before .before .loop-test .taken) (sym (c .before .is-name-byte .ensures) ∙ not-true _ (c .if2 .taken)))
+returns-2 c =
+    let decides = c .before .before .before .before .loop .inv .1 in
+    let inside = c .before .before .before .loop-test .taken in
+    let other = sym (c .before .is-name-byte .ensures) ∙ not-true _ (c .if2 .taken) in
+    sym (sym decides ∙ every-stop isNameByte _ _ inside other)
 
 add-i : tie.Need-add-i Inv-loop μ-loop
 add-i c = omega arith
@@ -39,7 +43,11 @@ loop-less : tie.Need-loop-less Inv-loop μ-loop
 loop-less c = omega arith
 
 loop-again : tie.Need-loop-again Inv-loop μ-loop
-loop-again c = (omega arith, every-next isNameByte _ _ (c .before .before .before .loop-test .taken) (sym (c .before .is-name-byte .ensures) ∙ not-false _ (c .if2 .left)) ∙ c .before .before .before .before .loop .inv .1)
+loop-again c =
+    let decides = c .before .before .before .before .loop .inv .1 in
+    let inside = c .before .before .before .loop-test .taken in
+    let good = sym (c .before .is-name-byte .ensures) ∙ not-false _ (c .if2 .left) in
+    (omega arith, every-next isNameByte _ _ inside good ∙ decides)
 
 returns-3 : tie.Need-returns-3 Inv-loop μ-loop
 returns-3 c = sym (every-end isNameByte _ _ (c .loop-test .left)) ∙ c .before .loop .inv .1
