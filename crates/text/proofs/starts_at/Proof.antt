@@ -36,7 +36,13 @@ fold-requires-2 : tie.Need-fold-requires-2 Inv-loop μ-loop
 fold-requires-2 c κs = search needs
 
 returns : tie.Need-returns Inv-loop μ-loop
-returns c = sym (sym (c .before .before .before .before .before .before .loop .inv .1) ∙ startsAt-stop _ _ _ _ _ (c .before .before .before .before .before .loop-test .taken) (omega arith) (λ e. c .if1 .taken (c .before .before .before .fold .ensures ∙ e ∙ sym (c .before .fold2 .ensures))))
+returns c =
+    let decides = c .before .before .before .before .before .before .loop .inv .1 in
+    let inside = c .before .before .before .before .before .loop-test .taken in
+    let value-folded = c .before .before .before .fold .ensures in
+    let text-folded = c .before .fold2 .ensures in
+    let differ = c .if1 .taken in
+    sym (sym decides ∙ startsAt-stop _ _ _ _ _ inside (omega arith) (λ e. differ (value-folded ∙ e ∙ sym text-folded)))
 
 add-i : tie.Need-add-i Inv-loop μ-loop
 add-i c = omega arith
@@ -45,7 +51,13 @@ loop-less : tie.Need-loop-less Inv-loop μ-loop
 loop-less c = omega arith
 
 loop-again : tie.Need-loop-again Inv-loop μ-loop
-loop-again c = (omega arith, startsAt-next _ _ _ _ _ (c .before .before .before .before .before .loop-test .taken) (omega arith) (sym (c .before .before .before .fold .ensures) ∙ c .if1 .left ∙ c .before .fold2 .ensures) ∙ c .before .before .before .before .before .before .loop .inv .1)
+loop-again c =
+    let decides = c .before .before .before .before .before .before .loop .inv .1 in
+    let inside = c .before .before .before .before .before .loop-test .taken in
+    let value-folded = c .before .before .before .fold .ensures in
+    let text-folded = c .before .fold2 .ensures in
+    let same = c .if1 .left in
+    (omega arith, startsAt-next _ _ _ _ _ inside (omega arith) (sym value-folded ∙ same ∙ text-folded) ∙ decides)
 
 returns-2 : tie.Need-returns-2 Inv-loop μ-loop
 returns-2 c = sym (startsAt-end _ _ _ _ _ (c .loop-test .left)) ∙ c .before .loop .inv .1

@@ -31,7 +31,13 @@ same-length : tie.Need-same-length Inv-loop μ-loop
 same-length c = omega arith
 
 returns : tie.Need-returns Inv-loop μ-loop
-returns c = passed-end (c .before .before .before .before .before .before .before .before .before .pre) (c .before .before .before .before .before .before .loop .inv) (c .before .before .before .before .before .next-fold .ensures) (c .before .before .before .copy-run .ensures) (c .if1 .taken)
+returns c =
+    let room = c .before .before .before .before .before .before .before .before .before .pre in
+    let passed = c .before .before .before .before .before .before .loop .inv in
+    let fold = c .before .before .before .before .before .next-fold .ensures in
+    let copied = c .before .before .before .copy-run .ensures in
+    let ended = c .if1 .taken in
+    passed-end room passed fold copied ended
 
 add-i : tie.Need-add-i Inv-loop μ-loop
 add-i c = omega arith
@@ -40,7 +46,13 @@ loop-less : tie.Need-loop-less Inv-loop μ-loop
 loop-less c = omega arith
 
 loop-again : tie.Need-loop-again Inv-loop μ-loop
-loop-again c = passed-next (c .before .before .before .before .before .before .before .before .before .pre) (c .before .before .before .before .before .before .loop .inv) (c .before .before .before .before .before .next-fold .ensures) (c .before .before .before .copy-run .ensures) (c .if1 .left)
+loop-again c =
+    let room = c .before .before .before .before .before .before .before .before .before .pre in
+    let passed = c .before .before .before .before .before .before .loop .inv in
+    let fold = c .before .before .before .before .before .next-fold .ensures in
+    let copied = c .before .before .before .copy-run .ensures in
+    let inside = c .if1 .left in
+    passed-next room passed fold copied inside
 
 pub unfold-into-spec : {M : Type 1} → statement M
 unfold-into-spec =
