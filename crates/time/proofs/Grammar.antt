@@ -428,7 +428,8 @@ module _ (letter after weight : ℕ) (Next : List ℕ → ℕ → Type 0) (t u :
   read-followed : (d c n : ℕ) (out : Duration) (l k : List ℕ) → UnitTo d c true out l n k letter t
       → (m : ℕ) × Followed letter weight Next l m × (out ≡ lasting d (c + m) true)
   read-followed d c n out l k v =
-      go (one-unit t u after d (c + n * weight) true out k e unit (subst (λ (a : ℕ). Ends t d (c + n * a) true k out) q (subst (λ (a : ℕ). Ends t a (c + n * weightOf t .1) true k out) none-of (v .2))))
+      let ends = subst (λ (a : ℕ). Ends t a (c + n * weightOf t .1) true k out) none-of (v .2) in
+      go (one-unit t u after d (c + n * weight) true out k e unit (subst (λ (a : ℕ). Ends t d (c + n * a) true k out) q ends))
     where
       none-of : d + n * weightOf t .0 ≡ d
       none-of = rw p (omega arith)

@@ -1,4 +1,4 @@
--- The three ways out are the definition's tests; a day that is there is in one of twelve months, so that the sums fit.
+-- `time::date_time::checked_day` meets its contract: the three ways out are the definition's tests; a day that is there is in one of twelve months, so that the sums fit.
 use Rattle.time.proofs.DateTime.{day-parts, checkedDay-below, checkedDay-above, checkedDay-of}
 use Rattle.time.proofs.DaysLaws.{monthDays-month}
 use native.Mathlib.Omega.{arith}
@@ -22,13 +22,33 @@ days-before-month-requires : tie.Need-days-before-month-requires
 days-before-month-requires c κs = monthDays-month _ _ _ _ (c .before .before .before .if1 .left) (c .before .before .month-days .ensures) (c .before .if2 .left)
 
 add-t7 : tie.Need-add-t7
-add-t7 c = omega (arith, day-parts _ _ _ _ _ _ (c .before .before .before .before .before .pre) (c .before .before .before .before .if1 .left) (c .before .before .before .month-days .ensures) (c .before .before .if2 .left) (c .before .days-before-year .ensures) (c .days-before-month .ensures))
+add-t7 c =
+    let small = c .before .before .before .before .before .pre in
+    let from-one = c .before .before .before .before .if1 .left in
+    let month = c .before .before .before .month-days .ensures in
+    let in-month = c .before .before .if2 .left in
+    let years = c .before .days-before-year .ensures in
+    let months = c .days-before-month .ensures in
+    omega (arith, day-parts _ _ _ _ _ _ small from-one month in-month years months)
 
 add-t9 : tie.Need-add-t9
-add-t9 c = omega (arith, day-parts _ _ _ _ _ _ (c .before .before .before .before .before .pre) (c .before .before .before .before .if1 .left) (c .before .before .before .month-days .ensures) (c .before .before .if2 .left) (c .before .days-before-year .ensures) (c .days-before-month .ensures))
+add-t9 c =
+    let small = c .before .before .before .before .before .pre in
+    let from-one = c .before .before .before .before .if1 .left in
+    let month = c .before .before .before .month-days .ensures in
+    let in-month = c .before .before .if2 .left in
+    let years = c .before .days-before-year .ensures in
+    let months = c .days-before-month .ensures in
+    omega (arith, day-parts _ _ _ _ _ _ small from-one month in-month years months)
 
 returns-3 : tie.Need-returns-3
-returns-3 c = checkedDay-of _ _ _ _ _ _ (c .before .before .before .before .if1 .left) (c .before .before .before .month-days .ensures) (c .before .before .if2 .left) (c .before .days-before-year .ensures) (c .days-before-month .ensures)
+returns-3 c =
+    let from-one = c .before .before .before .before .if1 .left in
+    let month = c .before .before .before .month-days .ensures in
+    let in-month = c .before .before .if2 .left in
+    let years = c .before .days-before-year .ensures in
+    let months = c .days-before-month .ensures in
+    checkedDay-of _ _ _ _ _ _ from-one month in-month years months
 
 pub checked-day-spec : {M : Type 1} → statement M
 checked-day-spec =

@@ -1,4 +1,4 @@
--- The test that was taken bounds hour, minute and second; the second 60 has its own way out.
+-- `time::date_time::checked_time` meets its contract: the test that was taken bounds hour, minute and second; the second 60 has its own way out.
 use Rattle.time.proofs.DateTime.{time-parts, checkedTime-last, checkedTime-of, checkedTime-bad}
 use native.Mathlib.Omega.{arith}
 use Rattle.time.proofs.date_time.checked_time.Statement.{statement}

@@ -1,4 +1,4 @@
--- Each way out is a case of the three numbers.
+-- `time::date_time::date_at` meets its contract: each way out is a case of the three numbers.
 use Rattle.time.specs.DateTime.{dateAt}
 use Rattle.time.proofs.DateTime.{yearAt-small, three-first, three-second, three-third, three-all}
 use mathlib.Core.Path.{sym, _∙_}
@@ -34,7 +34,10 @@ enum-known-day : tie.Need-enum-known-day
 enum-known-day c = search needs
 
 checked-day-requires : tie.Need-checked-day-requires
-checked-day-requires c κs = yearAt-small _ _ (sym (c .before .before .before .before .before .before .before .before .before .before .before .year-at .ensures) ∙ c .before .before .before .before .before .before .before .before .before .year .given .1)
+checked-day-requires c κs =
+    let at-year = c .before .before .before .before .before .before .before .before .before in
+    let year = sym (at-year .before .before .year-at .ensures) ∙ at-year .year .given .1 in
+    yearAt-small _ _ year
 
 returns : tie.Need-returns
 unfolding dateAt
@@ -42,15 +45,31 @@ returns c = three-first _ _ _ _ (sym (c .before .before .year-at .ensures) ∙ c
 
 returns-2 : tie.Need-returns-2
 unfolding dateAt
-returns-2 c = three-second _ _ _ _ (sym (c .before .before .before .before .before .before .year-at .ensures) ∙ c .before .before .before .before .year .given .1) (sym (c .before .before .pair-at .ensures) ∙ c .enum-told2 .given .1)
+returns-2 c =
+    let at-year = c .before .before .before .before in
+    let year = sym (at-year .before .before .year-at .ensures) ∙ at-year .year .given .1 in
+    let no-month = sym (c .before .before .pair-at .ensures) ∙ c .enum-told2 .given .1 in
+    three-second _ _ _ _ year no-month
 
 returns-3 : tie.Need-returns-3
 unfolding dateAt
-returns-3 c = three-third _ _ _ _ (sym (c .before .before .before .before .before .before .before .before .before .before .year-at .ensures) ∙ c .before .before .before .before .before .before .before .before .year .given .1) (sym (c .before .before .before .before .before .before .pair-at .ensures) ∙ c .before .before .before .before .month .given .1) (sym (c .before .before .pair-at2 .ensures) ∙ c .enum-told3 .given .1)
+returns-3 c =
+    let at-month = c .before .before .before .before in
+    let at-year = at-month .before .before .before .before in
+    let year = sym (at-year .before .before .year-at .ensures) ∙ at-year .year .given .1 in
+    let month = sym (at-month .before .before .pair-at .ensures) ∙ at-month .month .given .1 in
+    let no-day = sym (c .before .before .pair-at2 .ensures) ∙ c .enum-told3 .given .1 in
+    three-third _ _ _ _ year month no-day
 
 returns-4 : tie.Need-returns-4
 unfolding dateAt
-returns-4 c = c .checked-day .ensures ∙ three-all _ _ _ _ (sym (c .before .before .before .before .before .before .before .before .before .before .before .before .year-at .ensures) ∙ c .before .before .before .before .before .before .before .before .before .before .year .given .1) (sym (c .before .before .before .before .before .before .before .before .pair-at .ensures) ∙ c .before .before .before .before .before .before .month .given .1) (sym (c .before .before .before .before .pair-at2 .ensures) ∙ c .before .before .day .given .1)
+returns-4 c =
+    let at-month = c .before .before .before .before .before .before in
+    let at-year = at-month .before .before .before .before in
+    let year = sym (at-year .before .before .year-at .ensures) ∙ at-year .year .given .1 in
+    let month = sym (at-month .before .before .pair-at .ensures) ∙ at-month .month .given .1 in
+    let day = sym (c .before .before .before .before .pair-at2 .ensures) ∙ c .before .before .day .given .1 in
+    c .checked-day .ensures ∙ three-all _ _ _ _ year month day
 
 pub date-at-spec : {M : Type 1} → statement M
 date-at-spec =

@@ -1,4 +1,4 @@
--- Two digits are 48 to 57 each, so that nothing wraps; either way out is the definition's.
+-- `time::date_time::digit_pair` meets its contract: two digits are 48 to 57 each, so that nothing wraps; either way out is the definition's.
 use Rattle.time.proofs.DateTime.{both-digits, digitPair-of, digitPair-bad}
 use native.Mathlib.Omega.{arith}
 use borrow.Author.Needs.{needs}

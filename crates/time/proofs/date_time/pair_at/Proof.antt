@@ -1,4 +1,4 @@
--- The two bytes at the place are the definition's.
+-- `time::date_time::pair_at` meets its contract: the two bytes at the place are the definition's.
 use Rattle.time.specs.DateTime.{pairAt}
 use borrow.Author.Needs.{needs}
 use Rattle.time.proofs.date_time.pair_at.Statement.{statement}

@@ -1,4 +1,4 @@
--- The length and the day's number decide, and a day's number is small.
+-- `time::date_time::read_date` meets its contract: the length and the day's number decide, and a day's number is small.
 use Rattle.time.proofs.DateTime.{readDate-length, readDate-bad, readDate-of, dateAt-small}
 use mathlib.Core.Path.{sym, _∙_}
 use native.Mathlib.Omega.{arith}

@@ -1,4 +1,4 @@
--- The length decides, and at sixteen bytes the Z.
+-- `time::date_time::read_date_time` meets its contract: the length decides, and at sixteen bytes the Z.
 use Rattle.time.proofs.DateTime.{readDateTime-floating, readDateTime-length, readDateTime-mark, readDateTime-utc}
 use mathlib.Core.Logic.{⊎-elim}
 use mathlib.Core.Path.{_∙_}

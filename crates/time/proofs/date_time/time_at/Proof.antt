@@ -1,4 +1,4 @@
--- Each way out is a case of the three numbers.
+-- `time::date_time::time_at` meets its contract: each way out is a case of the three numbers.
 use Rattle.time.specs.DateTime.{timeAt}
 use Rattle.time.proofs.DateTime.{three-first, three-second, three-third, three-all}
 use mathlib.Core.Path.{sym, _∙_}
@@ -42,15 +42,31 @@ returns c = three-first _ _ _ _ (sym (c .before .before .pair-at .ensures) ∙ c
 
 returns-2 : tie.Need-returns-2
 unfolding timeAt
-returns-2 c = three-second _ _ _ _ (sym (c .before .before .before .before .before .before .pair-at .ensures) ∙ c .before .before .before .before .hour .given .1) (sym (c .before .before .pair-at2 .ensures) ∙ c .enum-told2 .given .1)
+returns-2 c =
+    let at-hour = c .before .before .before .before in
+    let hour = sym (at-hour .before .before .pair-at .ensures) ∙ at-hour .hour .given .1 in
+    let no-minute = sym (c .before .before .pair-at2 .ensures) ∙ c .enum-told2 .given .1 in
+    three-second _ _ _ _ hour no-minute
 
 returns-3 : tie.Need-returns-3
 unfolding timeAt
-returns-3 c = three-third _ _ _ _ (sym (c .before .before .before .before .before .before .before .before .before .before .pair-at .ensures) ∙ c .before .before .before .before .before .before .before .before .hour .given .1) (sym (c .before .before .before .before .before .before .pair-at2 .ensures) ∙ c .before .before .before .before .minute .given .1) (sym (c .before .before .pair-at3 .ensures) ∙ c .enum-told3 .given .1)
+returns-3 c =
+    let at-minute = c .before .before .before .before in
+    let at-hour = at-minute .before .before .before .before in
+    let hour = sym (at-hour .before .before .pair-at .ensures) ∙ at-hour .hour .given .1 in
+    let minute = sym (at-minute .before .before .pair-at2 .ensures) ∙ at-minute .minute .given .1 in
+    let no-second = sym (c .before .before .pair-at3 .ensures) ∙ c .enum-told3 .given .1 in
+    three-third _ _ _ _ hour minute no-second
 
 returns-4 : tie.Need-returns-4
 unfolding timeAt
-returns-4 c = c .checked-time .ensures ∙ three-all _ _ _ _ (sym (c .before .before .before .before .before .before .before .before .before .before .before .before .pair-at .ensures) ∙ c .before .before .before .before .before .before .before .before .before .before .hour .given .1) (sym (c .before .before .before .before .before .before .before .before .pair-at2 .ensures) ∙ c .before .before .before .before .before .before .minute .given .1) (sym (c .before .before .before .before .pair-at3 .ensures) ∙ c .before .before .second .given .1)
+returns-4 c =
+    let at-minute = c .before .before .before .before .before .before in
+    let at-hour = at-minute .before .before .before .before in
+    let hour = sym (at-hour .before .before .pair-at .ensures) ∙ at-hour .hour .given .1 in
+    let minute = sym (at-minute .before .before .pair-at2 .ensures) ∙ at-minute .minute .given .1 in
+    let second = sym (c .before .before .before .before .pair-at3 .ensures) ∙ c .before .before .second .given .1 in
+    c .checked-time .ensures ∙ three-all _ _ _ _ hour minute second
 
 pub time-at-spec : {M : Type 1} → statement M
 time-at-spec =

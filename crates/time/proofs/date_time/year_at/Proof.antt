@@ -1,4 +1,4 @@
--- Each way out is a case of the two pairs, each at most 99.
+-- `time::date_time::year_at` meets its contract: each way out is a case of the two pairs, each at most 99.
 use Rattle.time.specs.DateTime.{yearAt}
 use Rattle.time.proofs.DateTime.{pairAt-small, joined-first, joined-second, joined-both}
 use mathlib.Core.Path.{sym, _∙_}
@@ -29,7 +29,10 @@ mul-t8 : tie.Need-mul-t8
 mul-t8 c = omega (arith, pairAt-small _ _ _ (sym (c .before .before .before .before .before .before .before .pair-at .ensures) ∙ c .before .before .before .before .before .hundreds .given .1))
 
 add-t9 : tie.Need-add-t9
-add-t9 c = omega (arith, pairAt-small _ _ _ (sym (c .before .before .before .before .before .before .before .pair-at .ensures) ∙ c .before .before .before .before .before .hundreds .given .1), pairAt-small _ _ _ (sym (c .before .before .before .pair-at2 .ensures) ∙ c .before .rest .given .1))
+add-t9 c =
+    let hundreds = sym (c .before .before .before .before .before .before .before .pair-at .ensures) ∙ c .before .before .before .before .before .hundreds .given .1 in
+    let rest = sym (c .before .before .before .pair-at2 .ensures) ∙ c .before .rest .given .1 in
+    omega (arith, pairAt-small _ _ _ hundreds, pairAt-small _ _ _ rest)
 
 returns : tie.Need-returns
 unfolding yearAt
@@ -37,11 +40,17 @@ returns c = joined-first _ _ (sym (c .before .before .pair-at .ensures) ∙ c .e
 
 returns-2 : tie.Need-returns-2
 unfolding yearAt
-returns-2 c = joined-second _ _ (sym (c .before .before .before .before .before .before .pair-at .ensures) ∙ c .before .before .before .before .hundreds .given .1) (sym (c .before .before .pair-at2 .ensures) ∙ c .enum-told2 .given .1)
+returns-2 c =
+    let hundreds = sym (c .before .before .before .before .before .before .pair-at .ensures) ∙ c .before .before .before .before .hundreds .given .1 in
+    let no-rest = sym (c .before .before .pair-at2 .ensures) ∙ c .enum-told2 .given .1 in
+    joined-second _ _ hundreds no-rest
 
 returns-3 : tie.Need-returns-3
 unfolding yearAt
-returns-3 c = joined-both _ _ (sym (c .before .before .before .before .before .before .before .pair-at .ensures) ∙ c .before .before .before .before .before .hundreds .given .1) (sym (c .before .before .before .pair-at2 .ensures) ∙ c .before .rest .given .1)
+returns-3 c =
+    let hundreds = sym (c .before .before .before .before .before .before .before .pair-at .ensures) ∙ c .before .before .before .before .before .hundreds .given .1 in
+    let rest = sym (c .before .before .before .pair-at2 .ensures) ∙ c .before .rest .given .1 in
+    joined-both _ _ hundreds rest
 
 pub year-at-spec : {M : Type 1} → statement M
 year-at-spec =

@@ -1,4 +1,4 @@
--- The table counts month by month, and a leap day comes after February.
+-- `time::days::days_before_month` meets its contract: the table counts month by month, and a leap day comes after February.
 use Rattle.time.proofs.DaysLaws.{beforeMonth-small, daysBeforeMonth-leap, daysBeforeMonth-table}
 use native.Mathlib.Omega.{arith}
 use borrow.Author.Needs.{needs}

@@ -1,4 +1,4 @@
--- The direct arithmetic is the count year by year (daysBeforeYear-direct), and no sum wraps up to the year 9999.
+-- `time::days::days_before_year` meets its contract: the direct arithmetic is the count year by year (daysBeforeYear-direct), and no sum wraps up to the year 9999.
 use Rattle.time.proofs.DaysLaws.{daysBeforeYear-direct}
 use mathlib.Core.Path.{sym}
 use borrow.Author.Needs.{needs}

@@ -1,4 +1,4 @@
--- The test is the definition's own expression.
+-- `time::days::is_leap` meets its contract: the test is the definition's own expression.
 use Rattle.time.specs.Days.{isLeap}
 use mathlib.Core.Path.{refl}
 use Rattle.time.proofs.days.is_leap.Statement.{statement}

@@ -1,4 +1,4 @@
--- Past December there is no day; a leap February has 29; any other month is in the table.
+-- `time::days::month_days` meets its contract: past December there is no day; a leap February has 29; any other month is in the table.
 use Rattle.time.specs.Days.{monthLengths}
 use Rattle.time.proofs.DaysLaws.{monthDays-none, monthDays-leap, monthDays-table}
 use borrow.Author.Needs.{needs}

@@ -1,4 +1,4 @@
--- The struct is the definition's own.
+-- `time::duration::blank` meets its contract: the struct is the definition's own.
 use Rattle.time.specs.Duration.{blank}
 use mathlib.Core.Path.{refl}
 use Rattle.time.proofs.duration.blank.Statement.{statement}

@@ -1,4 +1,4 @@
--- The sum is the definition's own expression.
+-- `time::duration::duration_seconds` meets its contract: the sum is the definition's own expression.
 use Rattle.time.specs.Duration.{durationSeconds}
 use mathlib.Core.Path.{refl}
 use borrow.Author.Needs.{needs}

@@ -1,4 +1,4 @@
--- The loop keeps that reading on from here is reading from the start, and that all numbers are small.
+-- `time::duration::duration_text` meets its contract: the loop keeps that reading on from here is reading from the start, and that all numbers are small.
 use Prim.Native.Nat.{_≤_, _-_}
 use lib.ListN.{length, drop}
 use Rattle.time.specs.declared.duration.Stage.the-variants.{Start}
@@ -35,7 +35,12 @@ loop-less : tie.Need-loop-less Inv-loop μ-loop
 loop-less c = omega arith
 
 loop-again : tie.Need-loop-again Inv-loop μ-loop
-loop-again c = (omega arith, rw (c .step .ensures) (step-small _ _ (c .before .before .before .loop .inv .1)), runs-next _ _ _ _ (c .before .before .loop-test .taken) (c .step .ensures) ∙ c .before .before .before .loop .inv .2)
+loop-again c =
+    let small = c .before .before .before .loop .inv .1 in
+    let reads = c .before .before .before .loop .inv .2 in
+    let inside = c .before .before .loop-test .taken in
+    let stepped = c .step .ensures in
+    (omega arith, rw stepped (step-small _ _ small), runs-next _ _ _ _ inside stepped ∙ reads)
 
 finish-requires : tie.Need-finish-requires Inv-loop μ-loop
 finish-requires c κs = search needs

@@ -1,4 +1,4 @@
--- The test is the definition's, at the weight that the callee answers.
+-- `time::duration::finish` meets its contract: the test is the definition's, at the weight that the callee answers.
 use Rattle.time.proofs.DurationLaws.{weight-small, finish-of, finish-bad}
 use native.Mathlib.Omega.{arith}
 use borrow.Author.Needs.{needs}

@@ -1,4 +1,4 @@
--- Each arm is the definition at its stage and letter, or at none of the letters.
+-- `time::duration::next_stage` meets its contract: each arm is the definition at its stage and letter, or at none of the letters.
 use Rattle.time.proofs.DurationLaws.{nextStage-at}
 use borrow.Author.Tests.{ne-eqb}
 use Rattle.time.specs.Duration.{nextStage}

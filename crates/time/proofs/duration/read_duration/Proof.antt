@@ -1,4 +1,4 @@
--- The text decides, and then the limit; what is read is small, so that the sum fits.
+-- `time::duration::read_duration` meets its contract: the text decides, and then the limit; what is read is small, so that the sum fits.
 use Rattle.time.proofs.DurationLaws.{durationText-small, readDuration-bad, readDuration-of, readDuration-over}
 use mathlib.Core.Path.{sym, _∙_}
 use native.Mathlib.Omega.{arith}
@@ -22,10 +22,18 @@ returns : tie.Need-returns
 returns c = readDuration-bad _ (sym (c .before .before .duration-text .ensures) ∙ c .enum-told .given .1)
 
 returns-2 : tie.Need-returns-2
-returns-2 c = readDuration-of _ _ _ (sym (c .before .before .before .before .before .duration-text .ensures) ∙ c .before .before .before .text .given .1) (c .before .duration-seconds .ensures) (c .if1 .taken)
+returns-2 c =
+    let read = sym (c .before .before .before .before .before .duration-text .ensures) ∙ c .before .before .before .text .given .1 in
+    let seconds = c .before .duration-seconds .ensures in
+    let within = c .if1 .taken in
+    readDuration-of _ _ _ read seconds within
 
 returns-3 : tie.Need-returns-3
-returns-3 c = readDuration-over _ _ _ (sym (c .before .before .before .before .before .duration-text .ensures) ∙ c .before .before .before .text .given .1) (c .before .duration-seconds .ensures) (c .if1 .left)
+returns-3 c =
+    let read = sym (c .before .before .before .before .before .duration-text .ensures) ∙ c .before .before .before .text .given .1 in
+    let seconds = c .before .duration-seconds .ensures in
+    let over = c .if1 .left in
+    readDuration-over _ _ _ read seconds over
 
 pub read-duration-spec : {M : Type 1} → statement M
 read-duration-spec =

@@ -1,4 +1,4 @@
--- A byte's interval says whether it is a digit and what its capital is.
+-- `time::duration::step` meets its contract: a byte's interval says whether it is a digit and what its capital is.
 use mathlib.Core.Logic.{⊎-elim}
 use Rattle.time.proofs.DurationLaws.{step-digit, step-low, step-middle, step-high, step-lower}
 use mathlib.Core.Path.{_∙_}
@@ -32,7 +32,12 @@ returns-3 : tie.Need-returns-3
 returns-3 c = c .with-unit2 .ensures ∙ step-lower _ _ (omega arith) (omega arith)
 
 returns-4 : tie.Need-returns-4
-returns-4 c = c .with-unit3 .ensures ∙ ⊎-elim (λ w. step-low _ _ (omega arith)) (⊎-elim (λ w. step-middle _ _ (omega arith) (omega arith)) (⊎-elim (λ w. step-middle _ _ (omega arith) (omega arith)) (λ w. step-high _ _ (omega arith)))) (c .before .if1 .came)
+returns-4 c =
+    let interval = c .before .if1 .came in
+    c .with-unit3 .ensures
+    ∙ ⊎-elim (λ w. step-low _ _ (omega arith))
+    (⊎-elim (λ w. step-middle _ _ (omega arith) (omega arith))
+    (⊎-elim (λ w. step-middle _ _ (omega arith) (omega arith)) (λ w. step-high _ _ (omega arith)))) interval
 
 pub step-spec : {M : Type 1} → statement M
 step-spec =

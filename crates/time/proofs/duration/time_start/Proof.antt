@@ -1,4 +1,4 @@
--- Each arm is the definition at its letter, or at none of the letters.
+-- `time::duration::time_start` meets its contract: each arm is the definition at its letter, or at none of the letters.
 use Rattle.time.proofs.DurationLaws.{timeStart-at}
 use borrow.Author.Tests.{ne-eqb}
 use Rattle.time.specs.Duration.{timeStart}

@@ -1,4 +1,4 @@
--- Each arm is the definition at its stage.
+-- `time::duration::weight_of` meets its contract: each arm is the definition at its stage.
 use Rattle.time.proofs.DurationLaws.{weightOf-at}
 use Rattle.time.specs.Duration.{weightOf}
 use Rattle.time.specs.declared.duration.Stage.the-variants.{Start, Sign, Period, Weeks, Days, Time, Hours, Minutes, Seconds, Wrong}

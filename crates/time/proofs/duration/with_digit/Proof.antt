@@ -1,4 +1,4 @@
--- The test is the definition's; a number of at most six digits fits.
+-- `time::duration::with_digit` meets its contract: the test is the definition's; a number of at most six digits fits.
 use Rattle.time.proofs.DurationLaws.{number-small, withDigit-of, withDigit-full}
 use mathlib.Core.Path.{_∙_}
 use native.Mathlib.Omega.{arith}

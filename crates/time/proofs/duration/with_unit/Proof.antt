@@ -1,4 +1,4 @@
--- The test is the definition's, at the stage and the weight that the callees answer; both products are small.
+-- `time::duration::with_unit` meets its contract: the test is the definition's, at the stage and the weight that the callees answer; both products are small.
 use Rattle.time.proofs.DurationLaws.{unit-fits, withUnit-of, withUnit-wrong}
 use mathlib.Core.Path.{_∙_}
 use native.Mathlib.Omega.{arith}

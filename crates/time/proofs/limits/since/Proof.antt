@@ -1,4 +1,4 @@
--- The two tests are the definition's.
+-- `time::limits::since` meets its contract: the two tests are the definition's.
 use Rattle.time.proofs.LimitsLaws.{since-before, since-after, since-within}
 use Rattle.time.specs.Limits.{lastSecond}
 use Rattle.time.proofs.limits.since.Statement.{statement}

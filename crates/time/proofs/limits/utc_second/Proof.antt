@@ -1,4 +1,4 @@
--- In each kind's arm the definition is its clause for that kind.
+-- `time::limits::utc_second` meets its contract: in each kind's arm the definition is its clause for that kind.
 use Rattle.time.specs.declared.date_time.Kind.{Kind}
 use Rattle.time.specs.Limits.{utcSecond, epoch}
 use Rattle.time.proofs.LimitsLaws.{utcSecond-kind}

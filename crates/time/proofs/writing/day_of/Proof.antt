@@ -1,4 +1,4 @@
--- The year has begun on the day and is not over, and so has its month; no difference falls below 0.
+-- `time::writing::day_of` meets its contract: the year has begun on the day and is not over, and so has its month; no difference falls below 0.
 use Rattle.time.specs.Writing.{yearOf}
 use Rattle.time.proofs.WritingLaws.{yearOf-there, dayOf-parts, dayOf-made}
 use mathlib.Core.Path.{refl}
@@ -39,7 +39,13 @@ days-before-month-requires c κs = dayOf-parts _ _ _ _ (c .before .before .befor
 
 sub-day : tie.Need-sub-day
 unfolding yearOf
-sub-day c = omega (arith, c .days-before-month .ensures, dayOf-parts _ _ _ _ (c .before .before .before .before .pre) (c .before .before .before .days-before-year .ensures) (c .before .before .is-leap .ensures) (c .before .month-in .ensures) .2)
+sub-day c =
+    let limit = c .before .before .before .before .pre in
+    let years = c .before .before .before .days-before-year .ensures in
+    let leap = c .before .before .is-leap .ensures in
+    let month = c .before .month-in .ensures in
+    let months = c .days-before-month .ensures in
+    omega (arith, months, dayOf-parts _ _ _ _ limit years leap month .2)
 
 add-day : tie.Need-add-day
 add-day c = search needs

@@ -1,4 +1,4 @@
--- The division is the count of months begun, computed at every day of a year.
+-- `time::writing::month_in` meets its contract: the division is the count of months begun, computed at every day of a year.
 use mathlib.Core.Bool.{true, false}
 use Rattle.time.proofs.DaysLaws.{yearIn-small}
 use Rattle.time.proofs.WritingLaws.{monthIn-early, monthIn-by}

@@ -1,4 +1,4 @@
--- The loop keeps that storing what is left makes the whole.
+-- `time::writing::put_bytes` meets its contract: the loop keeps that storing what is left makes the whole.
 use Prim.Native.Nat.{_≤_, _+_, _-_}
 use lib.Seq.{sets}
 use lib.ListN.{length, drop, length-set}

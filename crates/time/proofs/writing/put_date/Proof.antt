@@ -1,4 +1,4 @@
--- The array is the definition's own list.
+-- `time::writing::put_date` meets its contract: the array is the definition's own list.
 use Rattle.time.specs.Writing.{dateText, digit}
 use borrow.Author.Needs.{needs}
 use Rattle.time.proofs.writing.put_date.Statement.{statement}

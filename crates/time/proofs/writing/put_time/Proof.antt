@@ -1,4 +1,4 @@
--- The array is the definition's own list.
+-- `time::writing::put_time` meets its contract: the array is the definition's own list.
 use Rattle.time.specs.Writing.{timeText, digit}
 use borrow.Author.Needs.{needs}
 use Rattle.time.proofs.writing.put_time.Statement.{statement}

@@ -1,4 +1,4 @@
--- Two runs of bytes, one behind the other, are the text.
+-- `time::writing::write_utc` meets its contract: two runs of bytes, one behind the other, are the text.
 use Rattle.time.proofs.WritingLaws.{written-parts}
 use Rattle.time.specs.Limits.{lastSecond}
 use native.Mathlib.Omega.{arith}
@@ -22,7 +22,14 @@ same-length : tie.Need-same-length
 same-length c = search needs
 
 returns : tie.Need-returns
-returns c = written-parts (c .before .before .before .before .before .before .before .before .before .before .args .out .now) _ _ (c .before .before .before .before .before .before .before .before .before .before .args .at) (c .before .before .before .before .before .before .before .before .before .before .args .t) _ (c .before .before .before .before .before .before .before .day-of .ensures) (c .before .before .before .before .before .before .put-date .ensures) (c .before .before .put-time .ensures)
+returns c =
+    let out = c .before .before .before .before .before .before .before .before .before .before .args .out .now in
+    let place = c .before .before .before .before .before .before .before .before .before .before .args .at in
+    let second = c .before .before .before .before .before .before .before .before .before .before .args .t in
+    let day = c .before .before .before .before .before .before .before .day-of .ensures in
+    let dated = c .before .before .before .before .before .before .put-date .ensures in
+    let timed = c .before .before .put-time .ensures in
+    written-parts out _ _ place second _ day dated timed
 
 pub write-utc-spec : {M : Type 1} → statement M
 write-utc-spec =
