@@ -43,7 +43,12 @@ loop-less : tie.Need-loop-less Inv-loop μ-loop
 loop-less c = omega arith
 
 loop-again : tie.Need-loop-again Inv-loop μ-loop
-loop-again c = sought-other (c .before .before .before .before .loop .inv) (omega arith) (omega arith) (c .before .fold2 .ensures) (c .before .before .before .before .before .fold .ensures) (c .if2 .taken)
+loop-again c =
+    let first-folded = c .before .before .before .before .before .fold .ensures in
+    let sought = c .before .before .before .before .loop .inv in
+    let byte-folded = c .before .fold2 .ensures in
+    let differ = c .if2 .taken in
+    sought-other sought (omega arith) (omega arith) byte-folded first-folded differ
 
 sub-contains-by-borders : tie.Need-sub-contains-by-borders Inv-loop μ-loop
 sub-contains-by-borders c = omega arith

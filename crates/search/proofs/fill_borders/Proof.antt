@@ -31,7 +31,10 @@ fold-requires : tie.Need-fold-requires Inv-loop μ-loop
 fold-requires c κs = search needs
 
 step-requires : tie.Need-step-requires Inv-loop μ-loop
-step-requires c κs = (omega (arith, c .before .before .before .before .loop .inv .1 .best .order), (simp length-set (omega (arith, c .before .before .before .before .loop .inv .0)), making-step (c .before .before .before .before .loop .inv .1) (omega arith)))
+step-requires c κs =
+    let long = c .before .before .before .before .loop .inv .0 in
+    let making = c .before .before .before .before .loop .inv .1 in
+    (omega (arith, making .best .order), (simp length-set (omega (arith, long)), making-step making (omega arith)))
 
 add-i : tie.Need-add-i Inv-loop μ-loop
 add-i c = omega arith
@@ -41,7 +44,13 @@ loop-less c = omega arith
 
 loop-again : tie.Need-loop-again Inv-loop μ-loop
 unfolding byteOf
-loop-again c = (simp length-set (c .before .before .before .before .before .loop .inv .0), making-next (c .before .before .before .before .before .loop .inv .1) (omega arith) (c .before .before .before .before .loop-test .taken) (c .before .fold .ensures) (c .step .ensures))
+loop-again c =
+    let long = c .before .before .before .before .before .loop .inv .0 in
+    let making = c .before .before .before .before .before .loop .inv .1 in
+    let inside = c .before .before .before .before .loop-test .taken in
+    let folded = c .before .fold .ensures in
+    let stepped = c .step .ensures in
+    (simp length-set long, making-next making (omega arith) inside folded stepped)
 
 same-length : tie.Need-same-length Inv-loop μ-loop
 same-length c = c .before .loop .inv .0

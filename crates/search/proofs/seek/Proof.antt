@@ -25,10 +25,20 @@ fold-requires : tie.Need-fold-requires Inv-loop μ-loop
 fold-requires c κs = search needs
 
 step-requires : tie.Need-step-requires Inv-loop μ-loop
-step-requires c κs = (c .before .before .before .loop .inv .short, (c .before .before .before .before .before .before .before .pre .1 .0, borders-some _ (omega (arith, c .before .before .before .loop .inv .short)) (c .before .before .before .before .before .before .before .pre .1 .1)))
+step-requires c κs =
+    let room = c .before .before .before .before .before .before .before .pre .1 .0 in
+    let borders = c .before .before .before .before .before .before .before .pre .1 .1 in
+    let seeking = c .before .before .before .loop .inv in
+    (seeking .short, (room, borders-some _ (omega (arith, seeking .short)) borders))
 
 returns : tie.Need-returns Inv-loop μ-loop
-returns c = sym (seeking-found (c .before .before .before .before .before .loop .inv) (c .before .before .before .before .loop-test .taken) (c .before .before .fold .ensures) (c .before .step .ensures) (c .if1 .taken))
+returns c =
+    let seeking = c .before .before .before .before .before .loop .inv in
+    let inside = c .before .before .before .before .loop-test .taken in
+    let folded = c .before .before .fold .ensures in
+    let stepped = c .before .step .ensures in
+    let whole = c .if1 .taken in
+    sym (seeking-found seeking inside folded stepped whole)
 
 add-i : tie.Need-add-i Inv-loop μ-loop
 add-i c = omega arith
@@ -37,7 +47,12 @@ loop-less : tie.Need-loop-less Inv-loop μ-loop
 loop-less c = omega arith
 
 loop-again : tie.Need-loop-again Inv-loop μ-loop
-loop-again c = seeking-next (c .before .before .before .before .before .loop .inv) (c .before .before .before .before .loop-test .taken) (c .before .before .fold .ensures) (c .before .step .ensures) (omega (arith, c .before .before .before .before .before .loop .inv .short, c .before .step .ensures .most))
+loop-again c =
+    let seeking = c .before .before .before .before .before .loop .inv in
+    let inside = c .before .before .before .before .loop-test .taken in
+    let folded = c .before .before .fold .ensures in
+    let stepped = c .before .step .ensures in
+    seeking-next seeking inside folded stepped (omega (arith, seeking .short, stepped .most))
 
 returns-2 : tie.Need-returns-2 Inv-loop μ-loop
 returns-2 c = sym (seeking-end (c .before .loop .inv) (c .loop-test .left))

@@ -32,7 +32,13 @@ returns c = trying-found (c .before .before .before .loop .inv) (sym (c .before 
 
 returns-2 : tie.Need-returns-2 Inv-loop μ-loop
 unfolding byteOf
-returns-2 c = trying-none (c .before .before .before .before .loop .inv) (c .before .before .before .before .before .before .before .pre .0) (λ e. c .before .if1 .left (c .before .before .fold .ensures ∙ e)) (c .if2 .taken)
+returns-2 c =
+    let inside = c .before .before .before .before .before .before .before .pre .0 in
+    let trying = c .before .before .before .before .loop .inv in
+    let folded = c .before .before .fold .ensures in
+    let differ = c .before .if1 .left in
+    let none-left = c .if2 .taken in
+    trying-none trying inside (λ e. differ (folded ∙ e)) none-left
 
 shared-slice-read-wide : tie.Need-shared-slice-read-wide Inv-loop μ-loop
 shared-slice-read-wide c = omega (arith, c .before .before .before .before .before .loop .inv .most)
@@ -41,11 +47,24 @@ wide-requires : tie.Need-wide-requires Inv-loop μ-loop
 wide-requires c κs = search needs
 
 loop-less : tie.Need-loop-less Inv-loop μ-loop
-loop-less c = rw (c .wide .ensures) (border-less (c .before .before .before .before .before .before .before .before .before .pre .1 .1) (omega (arith, c .before .before .before .before .before .before .loop .inv .most)) (c .before .before .if2 .left))
+loop-less c =
+    let borders = c .before .before .before .before .before .before .before .before .before .pre .1 .1 in
+    let trying = c .before .before .before .before .before .before .loop .inv in
+    let some-left = c .before .before .if2 .left in
+    let widened = c .wide .ensures in
+    rw widened (border-less borders (omega (arith, trying .most)) some-left)
 
 loop-again : tie.Need-loop-again Inv-loop μ-loop
 unfolding byteOf
-loop-again c = rw (c .wide .ensures) (trying-next (c .before .before .before .before .before .before .loop .inv) (c .before .before .before .before .before .before .before .before .before .pre .0) (λ e. c .before .before .before .if1 .left (c .before .before .before .before .fold .ensures ∙ e)) (c .before .before .if2 .left) (c .before .before .before .before .before .before .before .before .before .pre .1 .1) (omega arith))
+loop-again c =
+    let borders = c .before .before .before .before .before .before .before .before .before .pre .1 .1 in
+    let inside = c .before .before .before .before .before .before .before .before .before .pre .0 in
+    let trying = c .before .before .before .before .before .before .loop .inv in
+    let folded = c .before .before .before .before .fold .ensures in
+    let differ = c .before .before .before .if1 .left in
+    let some-left = c .before .before .if2 .left in
+    let widened = c .wide .ensures in
+    rw widened (trying-next trying inside (λ e. differ (folded ∙ e)) some-left borders (omega arith))
 
 pub step-spec : {M : Type 1} → statement M
 step-spec =
