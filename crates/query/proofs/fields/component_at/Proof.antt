@@ -32,7 +32,13 @@ byte-at-requires-4 : tie.Need-byte-at-requires-4
 byte-at-requires-4 c κs = search needs
 
 returns : tie.Need-returns
-returns c = component-is _ (c .before .before .before .before .before .before .args .q) _ (c .before .before .before .byte-at .ensures .is) (c .before .before .byte-at2 .ensures .is) (c .before .byte-at3 .ensures .is) (c .byte-at4 .ensures .is)
+returns c =
+    let sections = c .before .before .before .before .before .before .args .q in
+    let parent = c .before .before .before .byte-at .ensures .is in
+    let name = c .before .before .byte-at2 .ensures .is in
+    let range = c .before .byte-at3 .ensures .is in
+    let flag = c .byte-at4 .ensures .is in
+    component-is _ sections _ parent name range flag
 
 pub component-at-spec : {M : Type 1} → statement M
 component-at-spec =

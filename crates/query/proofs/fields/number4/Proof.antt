@@ -45,7 +45,12 @@ add-result-3 : tie.Need-add-result-3
 add-result-3 c = search needs
 
 returns : tie.Need-returns
-returns c = record { is = number4-is _ _ (c .before .before .before .byte-at .ensures .is) (c .before .before .byte-at2 .ensures .is) (c .before .byte-at3 .ensures .is) (c .byte-at4 .ensures .is); small = omega arith }
+returns c =
+    let first = c .before .before .before .byte-at .ensures .is in
+    let second = c .before .before .byte-at2 .ensures .is in
+    let third = c .before .byte-at3 .ensures .is in
+    let fourth = c .byte-at4 .ensures .is in
+    record { is = number4-is _ _ first second third fourth; small = omega arith }
 
 pub number4-spec : {M : Type 1} → statement M
 number4-spec =

@@ -38,7 +38,14 @@ byte-at-requires-5 : tie.Need-byte-at-requires-5
 byte-at-requires-5 c κs = search needs
 
 returns : tie.Need-returns
-returns c = parameter-is _ (c .before .before .before .before .before .before .before .args .q) _ (c .before .before .before .before .byte-at .ensures .is) (c .before .before .before .byte-at2 .ensures .is) (c .before .before .byte-at3 .ensures .is) (c .before .byte-at4 .ensures .is) (c .byte-at5 .ensures .is)
+returns c =
+    let sections = c .before .before .before .before .before .before .before .args .q in
+    let property = c .before .before .before .before .byte-at .ensures .is in
+    let name = c .before .before .before .byte-at2 .ensures .is in
+    let text = c .before .before .byte-at3 .ensures .is in
+    let collation = c .before .byte-at4 .ensures .is in
+    let flag = c .byte-at5 .ensures .is in
+    parameter-is _ sections _ property name text collation flag
 
 pub parameter-at-spec : {M : Type 1} → statement M
 parameter-at-spec =

@@ -44,7 +44,15 @@ byte-at-requires-6 : tie.Need-byte-at-requires-6
 byte-at-requires-6 c κs = search needs
 
 returns : tie.Need-returns
-returns c = property-is _ (c .before .before .before .before .before .before .before .before .args .q) _ (c .before .before .before .before .before .byte-at .ensures .is) (c .before .before .before .before .byte-at2 .ensures .is) (c .before .before .before .byte-at3 .ensures .is) (c .before .before .byte-at4 .ensures .is) (c .before .byte-at5 .ensures .is) (c .byte-at6 .ensures .is)
+returns c =
+    let sections = c .before .before .before .before .before .before .before .before .args .q in
+    let component = c .before .before .before .before .before .byte-at .ensures .is in
+    let name = c .before .before .before .before .byte-at2 .ensures .is in
+    let range = c .before .before .before .byte-at3 .ensures .is in
+    let text = c .before .before .byte-at4 .ensures .is in
+    let collation = c .before .byte-at5 .ensures .is in
+    let flag = c .byte-at6 .ensures .is in
+    property-is _ sections _ component name range text collation flag
 
 pub property-at-spec : {M : Type 1} → statement M
 property-at-spec =

@@ -16,7 +16,13 @@ byte-at-requires : tie.Need-byte-at-requires
 byte-at-requires c κs = search needs
 
 add-e : tie.Need-add-e
-add-e c = omega (arith, place-inside _ (c .before .before .before .args .q) _ (c .before .before .before .pre .0) (c .before .before .before .pre .1) (c .before .text-place .ensures) (c .byte-at .ensures .is))
+add-e c =
+    let sections = c .before .before .before .args .q in
+    let fits = c .before .before .before .pre .0 in
+    let among = c .before .before .before .pre .1 in
+    let place = c .before .text-place .ensures in
+    let size = c .byte-at .ensures .is in
+    omega (arith, place-inside _ sections _ fits among place size)
 
 sub-result : tie.Need-sub-result
 sub-result c = search needs
@@ -25,7 +31,13 @@ part-result-start : tie.Need-part-result-start
 part-result-start c = search needs
 
 part-result-end : tie.Need-part-result-end
-part-result-end c = omega (arith, place-inside _ (c .before .before .before .args .q) _ (c .before .before .before .pre .0) (c .before .before .before .pre .1) (c .before .text-place .ensures) (c .byte-at .ensures .is))
+part-result-end c =
+    let sections = c .before .before .before .args .q in
+    let fits = c .before .before .before .pre .0 in
+    let among = c .before .before .before .pre .1 in
+    let place = c .before .text-place .ensures in
+    let size = c .byte-at .ensures .is in
+    omega (arith, place-inside _ sections _ fits among place size)
 
 returns : tie.Need-returns
 returns c = text-is _ (c .before .before .before .before .args .q) _ (c .before .before .text-place .ensures) (c .before .byte-at .ensures .is)

@@ -24,7 +24,13 @@ byte-at-requires : tie.Need-byte-at-requires Inv-loop μ-loop
 byte-at-requires c κs = search needs
 
 add-at-2 : tie.Need-add-at-2 Inv-loop μ-loop
-add-at-2 c = omega (arith, place-inside _ (c .before .before .before .before .before .args .q) (c .before .before .loop .i) (c .before .before .before .before .before .pre .0) (omega arith) (c .before .before .loop .inv .1) (c .byte-at .ensures .is))
+add-at-2 c =
+    let sections = c .before .before .before .before .before .args .q in
+    let fits = c .before .before .before .before .before .pre .0 in
+    let place = c .before .before .loop .inv .1 in
+    let passed = c .before .before .loop .i in
+    let size = c .byte-at .ensures .is in
+    omega (arith, place-inside _ sections passed fits (omega arith) place size)
 
 add-i : tie.Need-add-i Inv-loop μ-loop
 add-i c = omega arith

@@ -29,13 +29,21 @@ loop-less : tie.Need-loop-less Inv-loop μ-loop
 loop-less c = omega arith
 
 loop-again : tie.Need-loop-again Inv-loop μ-loop
-loop-again c = texts-next _ _ _ _ (c .before .before .before .before .loop-test .taken) (sym (c .before .before .before .behind-text .ensures) ∙ c .before .p .given .1) ∙ c .before .before .before .before .before .loop .inv
+loop-again c =
+    let decides = c .before .before .before .before .before .loop .inv in
+    let some-left = c .before .before .before .before .loop-test .taken in
+    let behind = sym (c .before .before .before .behind-text .ensures) ∙ c .before .p .given .1 in
+    texts-next _ _ _ _ some-left behind ∙ decides
 
 enum-told : tie.Need-enum-told Inv-loop μ-loop
 enum-told c = search needs
 
 returns : tie.Need-returns Inv-loop μ-loop
-returns c = sym (sym (c .before .before .before .before .loop .inv) ∙ texts-stop _ _ _ (c .before .before .before .loop-test .taken) (sym (c .before .before .behind-text .ensures) ∙ c .enum-told .given .1))
+returns c =
+    let decides = c .before .before .before .before .loop .inv in
+    let some-left = c .before .before .before .loop-test .taken in
+    let none-behind = sym (c .before .before .behind-text .ensures) ∙ c .enum-told .given .1 in
+    sym (sym decides ∙ texts-stop _ _ _ some-left none-behind)
 
 returns-2 : tie.Need-returns-2 Inv-loop μ-loop
 returns-2 c = sym (texts-none _ _ _ (c .loop-test .left)) ∙ c .before .loop .inv
