@@ -32,10 +32,20 @@ clear-name-requires : tie.Need-clear-name-requires
 clear-name-requires c κs = part-clear (c .before .before .before .next-control .ensures .before)
 
 returns-3 : tie.Need-returns-3
-returns-3 c = next-badly _ _ (control-line (c .before .before .before .before .before .next-control .ensures) (sym (c .before .before .before .before .break-at .ensures) ∙ not-false _ (c .before .before .before .if2 .left))) (c .before .clear-name .ensures) (c .if3 .taken)
+returns-3 c =
+    let control = c .before .before .before .before .before .next-control .ensures in
+    let breaks = sym (c .before .before .before .before .break-at .ensures) ∙ not-false _ (c .before .before .before .if2 .left) in
+    let name = c .before .clear-name .ensures in
+    let no-name = c .if3 .taken in
+    next-badly _ _ (control-line control breaks) name no-name
 
 returns-4 : tie.Need-returns-4
-returns-4 c = next-line _ _ (control-line (c .before .before .before .before .before .next-control .ensures) (sym (c .before .before .before .before .break-at .ensures) ∙ not-false _ (c .before .before .before .if2 .left))) (c .before .clear-name .ensures) (c .if3 .left)
+returns-4 c =
+    let control = c .before .before .before .before .before .next-control .ensures in
+    let breaks = sym (c .before .before .before .before .break-at .ensures) ∙ not-false _ (c .before .before .before .if2 .left) in
+    let name = c .before .clear-name .ensures in
+    let some-name = c .if3 .left in
+    next-line _ _ (control-line control breaks) name some-name
 
 pub next-good-spec : {M : Type 1} → statement M
 next-good-spec =

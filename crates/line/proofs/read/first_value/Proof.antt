@@ -45,13 +45,27 @@ parameter-value-requires : tie.Need-parameter-value-requires Inv-loop μ-loop
 parameter-value-requires c κs = omega arith
 
 returns : tie.Need-returns Inv-loop μ-loop
-returns c = c .parameter-value .ensures ∙ sought-found _ _ (c .before .before .before .before .before .loop-test .taken) (c .before .before .before .before .find2 .ensures) (c .before .before .before .before .before .before .before .before .head .ensures) (sym (c .before .before .is-named .ensures) ∙ c .before .if1 .taken) (c .before .before .before .before .before .before .loop .inv)
+returns c =
+    let head = c .before .before .before .before .before .before .before .before .head .ensures in
+    let sought = c .before .before .before .before .before .before .loop .inv in
+    let inside = c .before .before .before .before .before .loop-test .taken in
+    let next = c .before .before .before .before .find2 .ensures in
+    let named = sym (c .before .before .is-named .ensures) ∙ c .before .if1 .taken in
+    c .parameter-value .ensures ∙ sought-found _ _ inside next head named sought
 
 loop-less : tie.Need-loop-less Inv-loop μ-loop
-loop-less c = omega (arith, next-rises _ _ _ (c .before .before .before .find2 .ensures), next-inside _ _ _ (c .before .before .before .before .loop-test .taken) (c .before .before .before .find2 .ensures))
+loop-less c =
+    let inside = c .before .before .before .before .loop-test .taken in
+    let next = c .before .before .before .find2 .ensures in
+    omega (arith, next-rises _ _ _ next, next-inside _ _ _ inside next)
 
 loop-again : tie.Need-loop-again Inv-loop μ-loop
-loop-again c = sought-next _ (c .before .before .before .before .loop-test .taken) (c .before .before .before .find2 .ensures) (sym (c .before .is-named .ensures) ∙ c .if1 .left) (c .before .before .before .before .before .loop .inv)
+loop-again c =
+    let sought = c .before .before .before .before .before .loop .inv in
+    let inside = c .before .before .before .before .loop-test .taken in
+    let next = c .before .before .before .find2 .ensures in
+    let unnamed = sym (c .before .is-named .ensures) ∙ c .if1 .left in
+    sought-next _ inside next unnamed sought
 
 slice-aggregate-result : tie.Need-slice-aggregate-result Inv-loop μ-loop
 slice-aggregate-result c = omega arith

@@ -23,7 +23,11 @@ same-name-requires : tie.Need-same-name-requires
 same-name-requires c κs = search needs
 
 returns-2 : tie.Need-returns-2
-returns-2 c = c .same-name .ensures ∙ ap (λ (x : List ℕ). sameName x (now (c .before .before .before .before .before .args .name))) (name-take (now (c .before .before .before .before .before .args .line)) _ (c .before .before .before .before .before .pre))
+returns-2 c =
+    let name = now (c .before .before .before .before .before .args .name) in
+    let line = now (c .before .before .before .before .before .args .line) in
+    let size = c .before .before .before .before .before .pre in
+    c .same-name .ensures ∙ ap (λ (x : List ℕ). sameName x name) (name-take line _ size)
 
 pub is-called-spec : {M : Type 1} → statement M
 is-called-spec =

@@ -20,7 +20,12 @@ quotes-off-requires : tie.Need-quotes-off-requires
 quotes-off-requires c κs = search needs
 
 returns : tie.Need-returns
-returns c = c .quotes-off .ensures ∙ ap quotesOff (c .before .nth-part .ensures ∙ ap (λ (t : List ℕ). getD (splitParts true 44 false t) (c .before .before .before .before .args .n) []) (c .before .before .after .ensures)) ∙ valuesOf-at _ _
+returns c =
+    let number = c .before .before .before .before .args .n in
+    let behind = c .before .before .after .ensures in
+    let part = c .before .nth-part .ensures in
+    let unquoted = c .quotes-off .ensures in
+    unquoted ∙ ap quotesOff (part ∙ ap (λ (t : List ℕ). getD (splitParts true 44 false t) number []) behind) ∙ valuesOf-at _ _
 
 pub parameter-value-spec : {M : Type 1} → statement M
 parameter-value-spec =

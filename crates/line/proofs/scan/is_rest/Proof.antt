@@ -33,7 +33,14 @@ is-ending-requires : tie.Need-is-ending-requires Inv-loop μ-loop
 is-ending-requires c κs = search needs
 
 returns : tie.Need-returns Inv-loop μ-loop
-returns c = clear-ending _ (c .before .before .before .before .before .before .before .pre) _ _ _ _ (c .before .before .before .before .loop-test .taken) (c .before .before .step .ensures) (c .before .is-ending .ensures) (c .if1 .taken) ∙ c .before .before .before .before .before .loop .inv
+returns c =
+    let clear = c .before .before .before .before .before .before .before .pre in
+    let leads = c .before .before .before .before .before .loop .inv in
+    let inside = c .before .before .before .before .loop-test .taken in
+    let stepped = c .before .before .step .ensures in
+    let ending = c .before .is-ending .ensures in
+    let ended = c .if1 .taken in
+    clear-ending _ clear _ _ _ _ inside stepped ending ended ∙ leads
 
 pass-part-requires : tie.Need-pass-part-requires Inv-loop μ-loop
 pass-part-requires c κs = search needs
@@ -42,7 +49,12 @@ loop-less : tie.Need-loop-less Inv-loop μ-loop
 loop-less c = omega (arith, c .pass-part .ensures .0)
 
 loop-again : tie.Need-loop-again Inv-loop μ-loop
-loop-again c = leads-after _ _ _ _ _ _ (c .before .before .before .before .before .loop-test .taken) (c .before .before .before .step .ensures) (c .pass-part .ensures) .1 ∙ c .before .before .before .before .before .before .loop .inv
+loop-again c =
+    let leads = c .before .before .before .before .before .before .loop .inv in
+    let inside = c .before .before .before .before .before .loop-test .taken in
+    let stepped = c .before .before .before .step .ensures in
+    let passed = c .pass-part .ensures in
+    leads-after _ _ _ _ _ _ inside stepped passed .1 ∙ leads
 
 is-ending-requires-2 : tie.Need-is-ending-requires-2 Inv-loop μ-loop
 is-ending-requires-2 c κs = search needs

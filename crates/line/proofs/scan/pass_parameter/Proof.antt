@@ -6,7 +6,8 @@ use borrow.Author.Needs.{needs}
 use Rattle.line.proofs.scan.pass_parameter.Statement.{statement}
 use Rattle.line.proofs.scan.pass_parameter.Tie as tie
 
-named : (c : tie.After-pass-name) → Leads (c .before .before .before .before .before .before .args .line .now) ParameterStart (c .before .before .before .before .before .before .args .from) ParameterName (c .pass-name .result)
+named : (c : tie.After-pass-name)
+    → Leads (c .before .before .before .before .before .before .args .line .now) ParameterStart (c .before .before .before .before .before .before .args .from) ParameterName (c .pass-name .result)
 named c = leads-name _ _ _ _ (omega arith) (c .before .before .is-name-byte .ensures) (c .before .if2 .left) (c .pass-name .ensures)
 
 returns : tie.Need-returns
@@ -38,10 +39,13 @@ pass-value-requires c κs = search needs
 
 returns-3 : tie.Need-returns-3
 returns-3 c =
+    let inside = c .before .before .before .if3 .taken in
+    let equals = c .before .if4 .taken in
+    let passed = c .pass-value .ensures in
     let line = c .before .before .before .before .before .before .before .before .before .before .args .line .now in
     leads-on line ParameterStart ParameterName _ _ _ _
     (named (c .before .before .before .before))
-    (leads-on line ParameterName ValueStart _ _ _ _ (leads-byte line ParameterName ValueStart _ 61 (c .before .before .before .if3 .taken) (c .before .if4 .taken) equals-ends) (c .pass-value .ensures))
+    (leads-on line ParameterName ValueStart _ _ _ _ (leads-byte line ParameterName ValueStart _ 61 inside equals equals-ends) passed)
 
 returns-4 : tie.Need-returns-4
 returns-4 c = named (c .before .before .before)

@@ -35,7 +35,12 @@ loop-less : tie.Need-loop-less Inv-loop μ-loop
 loop-less c = omega arith
 
 loop-again : tie.Need-loop-again Inv-loop μ-loop
-loop-again c = leads-next Quoted isQuotable quoted-stays _ _ _ _ (c .before .before .before .loop-test .taken) (c .before .is-quotable .ensures) (c .if1 .left) (c .before .before .before .before .loop .inv)
+loop-again c =
+    let leads = c .before .before .before .before .loop .inv in
+    let inside = c .before .before .before .loop-test .taken in
+    let tested = c .before .is-quotable .ensures in
+    let good = c .if1 .left in
+    leads-next Quoted isQuotable quoted-stays _ _ _ _ inside tested good leads
 
 returns-2 : tie.Need-returns-2 Inv-loop μ-loop
 returns-2 c = c .before .loop .inv

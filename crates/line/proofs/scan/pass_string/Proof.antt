@@ -15,7 +15,12 @@ add-t9 : tie.Need-add-t9
 add-t9 c = search needs
 
 returns : tie.Need-returns
-returns c = leads-on (c .before .before .before .before .before .args .line .now) Quoted Quoted AfterQuoted _ _ _ (c .before .before .before .pass-quoted .ensures) (leads-byte (c .before .before .before .before .before .args .line .now) Quoted AfterQuoted _ 34 (c .before .before .if1 .taken) (c .if2 .taken) quote-closes)
+returns c =
+    let line = c .before .before .before .before .before .args .line .now in
+    let passed = c .before .before .before .pass-quoted .ensures in
+    let inside = c .before .before .if1 .taken in
+    let quote = c .if2 .taken in
+    leads-on line Quoted Quoted AfterQuoted _ _ _ passed (leads-byte line Quoted AfterQuoted _ 34 inside quote quote-closes)
 
 returns-2 : tie.Need-returns-2
 returns-2 c = search needs

@@ -34,7 +34,13 @@ pass-unquoted-requires : tie.Need-pass-unquoted-requires
 pass-unquoted-requires c κs = search needs
 
 returns-2 : tie.Need-returns-2
-returns-2 c = leads-after (c .before .before .before .before .before .before .before .args .line .now) ValueStart Unquoted Unquoted (c .before .before .before .before .before .before .before .args .from) _ (c .before .before .before .before .before .if1 .taken) (sym (unquoted-starts _ (sym (c .before .before .is-unquoted .ensures) ∙ c .before .if3 .taken))) (c .pass-unquoted .ensures)
+returns-2 c =
+    let line = c .before .before .before .before .before .before .before .args .line .now in
+    let start = c .before .before .before .before .before .before .before .args .from in
+    let inside = c .before .before .before .before .before .if1 .taken in
+    let usual = sym (c .before .before .is-unquoted .ensures) ∙ c .before .if3 .taken in
+    let passed = c .pass-unquoted .ensures in
+    leads-after line ValueStart Unquoted Unquoted start _ inside (sym (unquoted-starts _ usual)) passed
 
 returns-3 : tie.Need-returns-3
 returns-3 c = search needs

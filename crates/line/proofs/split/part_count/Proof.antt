@@ -30,10 +30,24 @@ find-requires-2 : tie.Need-find-requires-2 Inv-loop μ-loop
 find-requires-2 c κs = search needs
 
 loop-less : tie.Need-loop-less Inv-loop μ-loop
-loop-less c = omega (arith, c .find2 .ensures, nextPlace-ge (c .before .before .before .before .before .args .quoting) (c .before .before .before .before .before .args .separator) (c .before .before .before .before .before .args .s .now) (c .before .before .loop .at + 1))
+loop-less c =
+    let separator = c .before .before .before .before .before .args .separator in
+    let quoting = c .before .before .before .before .before .args .quoting in
+    let bytes = c .before .before .before .before .before .args .s .now in
+    let place = c .before .before .loop .at in
+    let next = c .find2 .ensures in
+    omega (arith, next, nextPlace-ge quoting separator bytes (place + 1))
 
 loop-again : tie.Need-loop-again Inv-loop μ-loop
-loop-again c = subst (λ (k : ℕ). Counted (c .before .before .before .before .before .args .quoting) (c .before .before .before .before .before .args .separator) (c .before .before .before .before .before .args .s .now) (c .before .before .loop .n + 1) k) (sym (c .find2 .ensures)) (counted-next _ _ _ _ _ (c .before .loop-test .taken) (c .before .before .loop .inv))
+loop-again c =
+    let separator = c .before .before .before .before .before .args .separator in
+    let quoting = c .before .before .before .before .before .args .quoting in
+    let bytes = c .before .before .before .before .before .args .s .now in
+    let counted = c .before .before .loop .inv in
+    let count = c .before .before .loop .n in
+    let inside = c .before .loop-test .taken in
+    let next = c .find2 .ensures in
+    subst (λ (k : ℕ). Counted quoting separator bytes (count + 1) k) (sym next) (counted-next _ _ _ _ _ inside counted)
 
 returns : tie.Need-returns Inv-loop μ-loop
 returns c = counted-end _ _ _ _ _ (c .loop-test .left) (c .before .loop .inv)
