@@ -15,10 +15,21 @@ has-property-requires : tie.Need-has-property-requires
 has-property-requires c κs = search needs
 
 parent-good-requires : tie.Need-parent-good-requires
-parent-good-requires c κs = (c .before .before .before .before .before .before .pre, name-below _ (c .before .before .before .before .before .before .args .q) _ (sym (c .before .before .before .name-good .ensures) ∙ c .before .before .if1 .taken))
+parent-good-requires c κs =
+    let sections = c .before .before .before .before .before .before .args .q in
+    let fits = c .before .before .before .before .before .before .pre in
+    let named = sym (c .before .before .before .name-good .ensures) ∙ c .before .before .if1 .taken in
+    (fits, name-below _ sections _ named)
 
 returns : tie.Need-returns
-returns c = component-named _ (c .before .before .before .before .before .before .before .args .q) _ (c .before .before .before .before .before .before .before .args .r) (sym (c .before .before .before .before .name-good .ensures) ∙ c .before .before .before .if1 .taken) (c .before .before .has-child-component .ensures) (c .before .has-property .ensures) (c .parent-good .ensures)
+returns c =
+    let sections = c .before .before .before .before .before .before .before .args .q in
+    let asked = c .before .before .before .before .before .before .before .args .r in
+    let named = sym (c .before .before .before .before .name-good .ensures) ∙ c .before .before .before .if1 .taken in
+    let children = c .before .before .has-child-component .ensures in
+    let properties = c .before .has-property .ensures in
+    let parent = c .parent-good .ensures in
+    component-named _ sections _ asked named children properties parent
 
 returns-2 : tie.Need-returns-2
 returns-2 c = sym (component-unnamed _ (c .before .before .before .before .args .q) _ (c .before .before .before .before .args .r) (sym (c .before .name-good .ensures) ∙ c .if1 .left))

@@ -20,7 +20,13 @@ same-name-requires-2 : tie.Need-same-name-requires-2
 same-name-requires-2 c κs = search needs
 
 returns : tie.Need-returns
-returns c = component-off _ (c .before .before .before .before .before .before .before .args .q) (c .before .before .before .before .before .before .before .args .r) (c .before .before .before .before .before .text-of .ensures) (c .before .before .same-name .ensures) (c .same-name2 .ensures)
+returns c =
+    let sections = c .before .before .before .before .before .before .before .args .q in
+    let asked = c .before .before .before .before .before .before .before .args .r in
+    let name = c .before .before .before .before .before .text-of .ensures in
+    let event = c .before .before .same-name .ensures in
+    let block = c .same-name2 .ensures in
+    component-off _ sections asked name event block
 
 pub component-misplaced-spec : {M : Type 1} → statement M
 component-misplaced-spec =

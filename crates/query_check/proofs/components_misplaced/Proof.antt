@@ -23,11 +23,23 @@ component-at-requires : tie.Need-component-at-requires Inv-loop μ-loop
 component-at-requires c κs = (c .before .before .before .before .pre .0, c .loop-test .taken)
 
 component-misplaced-requires : tie.Need-component-misplaced-requires Inv-loop μ-loop
-component-misplaced-requires c κs = (c .before .before .before .before .before .pre .0, component-text _ (c .before .before .before .before .before .args .q) _ (c .before .before .before .before .before .pre .1) (c .before .loop-test .taken) (c .component-at .ensures))
+component-misplaced-requires c κs =
+    let sections = c .before .before .before .before .before .args .q in
+    let fits = c .before .before .before .before .before .pre .0 in
+    let records = c .before .before .before .before .before .pre .1 in
+    let inside = c .before .loop-test .taken in
+    let read = c .component-at .ensures in
+    (fits, component-text _ sections _ records inside read)
 
 returns : tie.Need-returns Inv-loop μ-loop
 unfolding componentsMisplaced
-returns c = sym (some-found (componentOff _ (c .before .before .before .before .before .before .before .args .q)) _ _ (c .before .before .before .loop-test .taken) (sym (c .before .component-misplaced .ensures ∙ ap (componentMisplaced _ (c .before .before .before .before .before .before .before .args .q)) (c .before .before .component-at .ensures)) ∙ c .if1 .taken))
+returns c =
+    let sections = c .before .before .before .before .before .before .before .args .q in
+    let inside = c .before .before .before .loop-test .taken in
+    let read = c .before .before .component-at .ensures in
+    let tested = c .before .component-misplaced .ensures in
+    let misplaced = c .if1 .taken in
+    sym (some-found (componentOff _ sections) _ _ inside (sym (tested ∙ ap (componentMisplaced _ sections) read) ∙ misplaced))
 
 add-k : tie.Need-add-k Inv-loop μ-loop
 add-k c = omega arith
@@ -36,7 +48,13 @@ loop-less : tie.Need-loop-less Inv-loop μ-loop
 loop-less c = omega arith
 
 loop-again : tie.Need-loop-again Inv-loop μ-loop
-loop-again c = (omega arith, none-next (componentOff _ (c .before .before .before .before .before .before .before .args .q)) _ (c .before .before .before .before .loop .inv .1) (sym (c .before .component-misplaced .ensures ∙ ap (componentMisplaced _ (c .before .before .before .before .before .before .before .args .q)) (c .before .before .component-at .ensures)) ∙ c .if1 .left))
+loop-again c =
+    let sections = c .before .before .before .before .before .before .before .args .q in
+    let none-before = c .before .before .before .before .loop .inv .1 in
+    let read = c .before .before .component-at .ensures in
+    let tested = c .before .component-misplaced .ensures in
+    let in-place = c .if1 .left in
+    (omega arith, none-next (componentOff _ sections) _ none-before (sym (tested ∙ ap (componentMisplaced _ sections) read) ∙ in-place))
 
 returns-2 : tie.Need-returns-2 Inv-loop μ-loop
 unfolding componentsMisplaced

@@ -26,7 +26,14 @@ component-at-requires c κs = (c .before .before .before .before .pre, c .loop-t
 
 returns : tie.Need-returns Inv-loop μ-loop
 unfolding hasChildComponent
-returns c = sym (some-found (childOf _ (c .before .before .before .before .before .before .before .args .q) (c .before .before .before .before .before .before .before .args .i)) _ _ (c .before .before .before .loop-test .taken) (sym (ap (λ (r : ComponentRecord). ltb 0 (c .before .before .before .before .loop .k) && eqb (r .parent) (c .before .before .before .before .before .before .before .args .i)) (c .before .before .component-at .ensures)) ∙ c .if1 .taken))
+returns c =
+    let sections = c .before .before .before .before .before .before .before .args .q in
+    let parent = c .before .before .before .before .before .before .before .args .i in
+    let number = c .before .before .before .before .loop .k in
+    let inside = c .before .before .before .loop-test .taken in
+    let read = c .before .before .component-at .ensures in
+    let child = c .if1 .taken in
+    sym (some-found (childOf _ sections parent) _ _ inside (sym (ap (λ (r : ComponentRecord). ltb 0 number && eqb (r .parent) parent) read) ∙ child))
 
 add-k : tie.Need-add-k Inv-loop μ-loop
 add-k c = omega arith
@@ -35,11 +42,24 @@ loop-less : tie.Need-loop-less Inv-loop μ-loop
 loop-less c = omega arith
 
 loop-again : tie.Need-loop-again Inv-loop μ-loop
-loop-again c = (omega arith, none-next (childOf _ (c .before .before .before .before .before .before .before .args .q) (c .before .before .before .before .before .before .before .args .i)) _ (c .before .before .before .before .loop .inv .1) (sym (ap (λ (r : ComponentRecord). ltb 0 (c .before .before .before .before .loop .k) && eqb (r .parent) (c .before .before .before .before .before .before .before .args .i)) (c .before .before .component-at .ensures)) ∙ c .if1 .left))
+loop-again c =
+    let sections = c .before .before .before .before .before .before .before .args .q in
+    let parent = c .before .before .before .before .before .before .before .args .i in
+    let none-before = c .before .before .before .before .loop .inv .1 in
+    let number = c .before .before .before .before .loop .k in
+    let read = c .before .before .component-at .ensures in
+    let no-child = c .if1 .left in
+    (omega arith, none-next (childOf _ sections parent) _ none-before (sym (ap (λ (r : ComponentRecord). ltb 0 number && eqb (r .parent) parent) read) ∙ no-child))
 
 returns-2 : tie.Need-returns-2 Inv-loop μ-loop
 unfolding hasChildComponent
-returns-2 c = sym (none-end (childOf _ (c .before .before .before .before .args .q) (c .before .before .before .before .args .i)) _ _ (c .before .loop .inv .0) (c .loop-test .left) (c .before .loop .inv .1))
+returns-2 c =
+    let sections = c .before .before .before .before .args .q in
+    let parent = c .before .before .before .before .args .i in
+    let within = c .before .loop .inv .0 in
+    let none-before = c .before .loop .inv .1 in
+    let ended = c .loop-test .left in
+    sym (none-end (childOf _ sections parent) _ _ within ended none-before)
 
 pub has-child-component-spec : {M : Type 1} → statement M
 has-child-component-spec =

@@ -27,7 +27,13 @@ parameter-at-requires c κs = (c .before .before .before .before .pre, c .loop-t
 
 returns : tie.Need-returns Inv-loop μ-loop
 unfolding hasParameterRecord
-returns c = sym (some-found (parameterOf _ (c .before .before .before .before .before .before .before .args .q) (c .before .before .before .before .before .before .before .args .i)) _ _ (c .before .before .before .loop-test .taken) (sym (ap (λ (r : ParameterRecord). eqb (r .property) (c .before .before .before .before .before .before .before .args .i)) (c .before .before .parameter-at .ensures)) ∙ eq-eqb _ _ (c .if1 .taken)))
+returns c =
+    let sections = c .before .before .before .before .before .before .before .args .q in
+    let property = c .before .before .before .before .before .before .before .args .i in
+    let inside = c .before .before .before .loop-test .taken in
+    let read = c .before .before .parameter-at .ensures in
+    let same = eq-eqb _ _ (c .if1 .taken) in
+    sym (some-found (parameterOf _ sections property) _ _ inside (sym (ap (λ (r : ParameterRecord). eqb (r .property) property) read) ∙ same))
 
 add-k : tie.Need-add-k Inv-loop μ-loop
 add-k c = omega arith
@@ -36,11 +42,23 @@ loop-less : tie.Need-loop-less Inv-loop μ-loop
 loop-less c = omega arith
 
 loop-again : tie.Need-loop-again Inv-loop μ-loop
-loop-again c = (omega arith, none-next (parameterOf _ (c .before .before .before .before .before .before .before .args .q) (c .before .before .before .before .before .before .before .args .i)) _ (c .before .before .before .before .loop .inv .1) (sym (ap (λ (r : ParameterRecord). eqb (r .property) (c .before .before .before .before .before .before .before .args .i)) (c .before .before .parameter-at .ensures)) ∙ ne-eqb _ _ (c .if1 .left)))
+loop-again c =
+    let sections = c .before .before .before .before .before .before .before .args .q in
+    let property = c .before .before .before .before .before .before .before .args .i in
+    let none-before = c .before .before .before .before .loop .inv .1 in
+    let read = c .before .before .parameter-at .ensures in
+    let other = ne-eqb _ _ (c .if1 .left) in
+    (omega arith, none-next (parameterOf _ sections property) _ none-before (sym (ap (λ (r : ParameterRecord). eqb (r .property) property) read) ∙ other))
 
 returns-2 : tie.Need-returns-2 Inv-loop μ-loop
 unfolding hasParameterRecord
-returns-2 c = sym (none-end (parameterOf _ (c .before .before .before .before .args .q) (c .before .before .before .before .args .i)) _ _ (c .before .loop .inv .0) (c .loop-test .left) (c .before .loop .inv .1))
+returns-2 c =
+    let sections = c .before .before .before .before .args .q in
+    let property = c .before .before .before .before .args .i in
+    let within = c .before .loop .inv .0 in
+    let none-before = c .before .loop .inv .1 in
+    let ended = c .loop-test .left in
+    sym (none-end (parameterOf _ sections property) _ _ within ended none-before)
 
 pub has-parameter-record-spec : {M : Type 1} → statement M
 has-parameter-record-spec =

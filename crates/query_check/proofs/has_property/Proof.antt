@@ -27,7 +27,13 @@ property-at-requires c κs = (c .before .before .before .before .pre, c .loop-te
 
 returns : tie.Need-returns Inv-loop μ-loop
 unfolding hasProperty
-returns c = sym (some-found (propertyOf _ (c .before .before .before .before .before .before .before .args .q) (c .before .before .before .before .before .before .before .args .i)) _ _ (c .before .before .before .loop-test .taken) (sym (ap (λ (r : PropertyRecord). eqb (r .component) (c .before .before .before .before .before .before .before .args .i)) (c .before .before .property-at .ensures)) ∙ eq-eqb _ _ (c .if1 .taken)))
+returns c =
+    let sections = c .before .before .before .before .before .before .before .args .q in
+    let component = c .before .before .before .before .before .before .before .args .i in
+    let inside = c .before .before .before .loop-test .taken in
+    let read = c .before .before .property-at .ensures in
+    let same = eq-eqb _ _ (c .if1 .taken) in
+    sym (some-found (propertyOf _ sections component) _ _ inside (sym (ap (λ (r : PropertyRecord). eqb (r .component) component) read) ∙ same))
 
 add-k : tie.Need-add-k Inv-loop μ-loop
 add-k c = omega arith
@@ -36,11 +42,23 @@ loop-less : tie.Need-loop-less Inv-loop μ-loop
 loop-less c = omega arith
 
 loop-again : tie.Need-loop-again Inv-loop μ-loop
-loop-again c = (omega arith, none-next (propertyOf _ (c .before .before .before .before .before .before .before .args .q) (c .before .before .before .before .before .before .before .args .i)) _ (c .before .before .before .before .loop .inv .1) (sym (ap (λ (r : PropertyRecord). eqb (r .component) (c .before .before .before .before .before .before .before .args .i)) (c .before .before .property-at .ensures)) ∙ ne-eqb _ _ (c .if1 .left)))
+loop-again c =
+    let sections = c .before .before .before .before .before .before .before .args .q in
+    let component = c .before .before .before .before .before .before .before .args .i in
+    let none-before = c .before .before .before .before .loop .inv .1 in
+    let read = c .before .before .property-at .ensures in
+    let other = ne-eqb _ _ (c .if1 .left) in
+    (omega arith, none-next (propertyOf _ sections component) _ none-before (sym (ap (λ (r : PropertyRecord). eqb (r .component) component) read) ∙ other))
 
 returns-2 : tie.Need-returns-2 Inv-loop μ-loop
 unfolding hasProperty
-returns-2 c = sym (none-end (propertyOf _ (c .before .before .before .before .args .q) (c .before .before .before .before .args .i)) _ _ (c .before .loop .inv .0) (c .loop-test .left) (c .before .loop .inv .1))
+returns-2 c =
+    let sections = c .before .before .before .before .args .q in
+    let component = c .before .before .before .before .args .i in
+    let within = c .before .loop .inv .0 in
+    let none-before = c .before .loop .inv .1 in
+    let ended = c .loop-test .left in
+    sym (none-end (propertyOf _ sections component) _ _ within ended none-before)
 
 pub has-property-spec : {M : Type 1} → statement M
 has-property-spec =

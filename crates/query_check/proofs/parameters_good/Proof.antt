@@ -28,7 +28,13 @@ parameter-good-requires c κs = c .before .before .before .before .before .pre
 
 returns : tie.Need-returns Inv-loop μ-loop
 unfolding parametersGood
-returns c = sym (every-stop (parameterHolds _ (c .before .before .before .before .before .before .before .args .q)) _ _ (c .before .before .before .loop-test .taken) (sym (c .before .parameter-good .ensures ∙ ap (parameterGood _ (c .before .before .before .before .before .before .before .args .q)) (c .before .before .parameter-at .ensures)) ∙ not-true _ (c .if1 .taken)))
+returns c =
+    let sections = c .before .before .before .before .before .before .before .args .q in
+    let inside = c .before .before .before .loop-test .taken in
+    let read = c .before .before .parameter-at .ensures in
+    let tested = c .before .parameter-good .ensures in
+    let bad = not-true _ (c .if1 .taken) in
+    sym (every-stop (parameterHolds _ sections) _ _ inside (sym (tested ∙ ap (parameterGood _ sections) read) ∙ bad))
 
 add-k : tie.Need-add-k Inv-loop μ-loop
 add-k c = omega arith
@@ -37,7 +43,13 @@ loop-less : tie.Need-loop-less Inv-loop μ-loop
 loop-less c = omega arith
 
 loop-again : tie.Need-loop-again Inv-loop μ-loop
-loop-again c = (omega arith, every-next (parameterHolds _ (c .before .before .before .before .before .before .before .args .q)) _ (c .before .before .before .before .loop .inv .1) (sym (c .before .parameter-good .ensures ∙ ap (parameterGood _ (c .before .before .before .before .before .before .before .args .q)) (c .before .before .parameter-at .ensures)) ∙ not-false _ (c .if1 .left)))
+loop-again c =
+    let sections = c .before .before .before .before .before .before .before .args .q in
+    let good-before = c .before .before .before .before .loop .inv .1 in
+    let read = c .before .before .parameter-at .ensures in
+    let tested = c .before .parameter-good .ensures in
+    let good = not-false _ (c .if1 .left) in
+    (omega arith, every-next (parameterHolds _ sections) _ good-before (sym (tested ∙ ap (parameterGood _ sections) read) ∙ good))
 
 returns-2 : tie.Need-returns-2 Inv-loop μ-loop
 unfolding parametersGood

@@ -14,7 +14,13 @@ same-name-requires : tie.Need-same-name-requires
 same-name-requires c κs = search needs
 
 returns : tie.Need-returns
-returns c = parent-first _ (c .before .before .before .before .before .args .q) _ (c .before .before .before .before .before .args .r) (c .before .before .before .if1 .taken) (c .before .before .text-of .ensures) (c .same-name .ensures)
+returns c =
+    let sections = c .before .before .before .before .before .args .q in
+    let asked = c .before .before .before .before .before .args .r in
+    let first = c .before .before .before .if1 .taken in
+    let name = c .before .before .text-of .ensures in
+    let calendar = c .same-name .ensures in
+    parent-first _ sections _ asked first name calendar
 
 returns-2 : tie.Need-returns-2
 returns-2 c = parent-other _ (c .before .before .args .q) _ (c .before .before .args .r) (c .if1 .left)

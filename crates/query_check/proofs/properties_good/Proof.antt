@@ -28,7 +28,14 @@ property-good-requires c κs = c .before .before .before .before .before .pre
 
 returns : tie.Need-returns Inv-loop μ-loop
 unfolding propertiesGood
-returns c = sym (every-stop (propertyHolds _ (c .before .before .before .before .before .before .before .args .q)) _ _ (c .before .before .before .loop-test .taken) (sym (c .before .property-good .ensures ∙ ap (propertyGood _ (c .before .before .before .before .before .before .before .args .q) (c .before .before .before .before .loop .k)) (c .before .before .property-at .ensures)) ∙ not-true _ (c .if1 .taken)))
+returns c =
+    let sections = c .before .before .before .before .before .before .before .args .q in
+    let number = c .before .before .before .before .loop .k in
+    let inside = c .before .before .before .loop-test .taken in
+    let read = c .before .before .property-at .ensures in
+    let tested = c .before .property-good .ensures in
+    let bad = not-true _ (c .if1 .taken) in
+    sym (every-stop (propertyHolds _ sections) _ _ inside (sym (tested ∙ ap (propertyGood _ sections number) read) ∙ bad))
 
 add-k : tie.Need-add-k Inv-loop μ-loop
 add-k c = omega arith
@@ -37,7 +44,14 @@ loop-less : tie.Need-loop-less Inv-loop μ-loop
 loop-less c = omega arith
 
 loop-again : tie.Need-loop-again Inv-loop μ-loop
-loop-again c = (omega arith, every-next (propertyHolds _ (c .before .before .before .before .before .before .before .args .q)) _ (c .before .before .before .before .loop .inv .1) (sym (c .before .property-good .ensures ∙ ap (propertyGood _ (c .before .before .before .before .before .before .before .args .q) (c .before .before .before .before .loop .k)) (c .before .before .property-at .ensures)) ∙ not-false _ (c .if1 .left)))
+loop-again c =
+    let sections = c .before .before .before .before .before .before .before .args .q in
+    let good-before = c .before .before .before .before .loop .inv .1 in
+    let number = c .before .before .before .before .loop .k in
+    let read = c .before .before .property-at .ensures in
+    let tested = c .before .property-good .ensures in
+    let good = not-false _ (c .if1 .left) in
+    (omega arith, every-next (propertyHolds _ sections) _ good-before (sym (tested ∙ ap (propertyGood _ sections number) read) ∙ good))
 
 returns-2 : tie.Need-returns-2 Inv-loop μ-loop
 unfolding propertiesGood

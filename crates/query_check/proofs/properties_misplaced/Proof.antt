@@ -27,7 +27,12 @@ property-at-requires c κs = (c .before .before .before .before .pre, c .loop-te
 
 returns : tie.Need-returns Inv-loop μ-loop
 unfolding propertiesMisplaced
-returns c = sym (some-found (propertyOff _ (c .before .before .before .before .before .before .before .args .q)) _ _ (c .before .before .before .loop-test .taken) (sym (ap (λ (r : PropertyRecord). ltb 0 (r .range)) (c .before .before .property-at .ensures)) ∙ lt-ltb _ _ (c .if1 .taken)))
+returns c =
+    let sections = c .before .before .before .before .before .before .before .args .q in
+    let inside = c .before .before .before .loop-test .taken in
+    let read = c .before .before .property-at .ensures in
+    let ranged = lt-ltb _ _ (c .if1 .taken) in
+    sym (some-found (propertyOff _ sections) _ _ inside (sym (ap (λ (r : PropertyRecord). ltb 0 (r .range)) read) ∙ ranged))
 
 add-k : tie.Need-add-k Inv-loop μ-loop
 add-k c = omega arith
@@ -36,7 +41,12 @@ loop-less : tie.Need-loop-less Inv-loop μ-loop
 loop-less c = omega arith
 
 loop-again : tie.Need-loop-again Inv-loop μ-loop
-loop-again c = (omega arith, none-next (propertyOff _ (c .before .before .before .before .before .before .before .args .q)) _ (c .before .before .before .before .loop .inv .1) (sym (ap (λ (r : PropertyRecord). ltb 0 (r .range)) (c .before .before .property-at .ensures)) ∙ le-ltb _ _ (c .if1 .left)))
+loop-again c =
+    let sections = c .before .before .before .before .before .before .before .args .q in
+    let none-before = c .before .before .before .before .loop .inv .1 in
+    let read = c .before .before .property-at .ensures in
+    let unranged = le-ltb _ _ (c .if1 .left) in
+    (omega arith, none-next (propertyOff _ sections) _ none-before (sym (ap (λ (r : PropertyRecord). ltb 0 (r .range)) read) ∙ unranged))
 
 returns-2 : tie.Need-returns-2 Inv-loop μ-loop
 unfolding propertiesMisplaced

@@ -24,7 +24,12 @@ range-record-good-requires c κs = (c .before .before .before .before .pre, c .l
 
 returns : tie.Need-returns Inv-loop μ-loop
 unfolding rangesGood
-returns c = sym (every-stop (rangeRecordGood _ (c .before .before .before .before .before .before .args .q)) _ _ (c .before .before .loop-test .taken) (sym (c .before .range-record-good .ensures) ∙ not-true _ (c .if1 .taken)))
+returns c =
+    let sections = c .before .before .before .before .before .before .args .q in
+    let inside = c .before .before .loop-test .taken in
+    let tested = c .before .range-record-good .ensures in
+    let bad = not-true _ (c .if1 .taken) in
+    sym (every-stop (rangeRecordGood _ sections) _ _ inside (sym tested ∙ bad))
 
 add-k : tie.Need-add-k Inv-loop μ-loop
 add-k c = omega arith
@@ -33,7 +38,12 @@ loop-less : tie.Need-loop-less Inv-loop μ-loop
 loop-less c = omega arith
 
 loop-again : tie.Need-loop-again Inv-loop μ-loop
-loop-again c = (omega arith, every-next (rangeRecordGood _ (c .before .before .before .before .before .before .args .q)) _ (c .before .before .before .loop .inv .1) (sym (c .before .range-record-good .ensures) ∙ not-false _ (c .if1 .left)))
+loop-again c =
+    let sections = c .before .before .before .before .before .before .args .q in
+    let good-before = c .before .before .before .loop .inv .1 in
+    let tested = c .before .range-record-good .ensures in
+    let good = not-false _ (c .if1 .left) in
+    (omega arith, every-next (rangeRecordGood _ sections) _ good-before (sym tested ∙ good))
 
 returns-2 : tie.Need-returns-2 Inv-loop μ-loop
 unfolding rangesGood

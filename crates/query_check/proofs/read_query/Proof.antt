@@ -20,16 +20,27 @@ enum-known-q : tie.Need-enum-known-q
 enum-known-q c = search needs
 
 range-misplaced-requires : tie.Need-range-misplaced-requires
-range-misplaced-requires c κs = (sections-fit _ _ (sym (c .before .before .before .sections-of .ensures) ∙ c .before .q .given .1), query-records _ _ (sym (c .before .before .before .sections-of .ensures) ∙ c .before .q .given .1) (sym (c .before .before .before .before .before .query-good .ensures) ∙ not-false _ (c .before .before .before .before .if1 .left)))
+range-misplaced-requires c κs =
+    let good = sym (c .before .before .before .before .before .query-good .ensures) ∙ not-false _ (c .before .before .before .before .if1 .left) in
+    let sections = sym (c .before .before .before .sections-of .ensures) ∙ c .before .q .given .1 in
+    (sections-fit _ _ sections, query-records _ _ sections good)
 
 enum-told : tie.Need-enum-told
 enum-told c = search needs
 
 returns-2 : tie.Need-returns-2
-returns-2 c = sym (read-misplaced _ _ (sym (c .before .before .before .before .before .sections-of .ensures) ∙ c .before .before .before .q .given .1) (sym (c .before .before .before .before .before .before .before .query-good .ensures) ∙ not-false _ (c .before .before .before .before .before .before .if1 .left)) (sym (c .before .range-misplaced .ensures) ∙ c .if2 .taken))
+returns-2 c =
+    let good = sym (c .before .before .before .before .before .before .before .query-good .ensures) ∙ not-false _ (c .before .before .before .before .before .before .if1 .left) in
+    let sections = sym (c .before .before .before .before .before .sections-of .ensures) ∙ c .before .before .before .q .given .1 in
+    let misplaced = sym (c .before .range-misplaced .ensures) ∙ c .if2 .taken in
+    sym (read-misplaced _ _ sections good misplaced)
 
 returns-3 : tie.Need-returns-3
-returns-3 c = sym (read-of _ _ (sym (c .before .before .before .before .before .sections-of .ensures) ∙ c .before .before .before .q .given .1) (sym (c .before .before .before .before .before .before .before .query-good .ensures) ∙ not-false _ (c .before .before .before .before .before .before .if1 .left)) (sym (c .before .range-misplaced .ensures) ∙ c .if2 .left))
+returns-3 c =
+    let good = sym (c .before .before .before .before .before .before .before .query-good .ensures) ∙ not-false _ (c .before .before .before .before .before .before .if1 .left) in
+    let sections = sym (c .before .before .before .before .before .sections-of .ensures) ∙ c .before .before .before .q .given .1 in
+    let in-place = sym (c .before .range-misplaced .ensures) ∙ c .if2 .left in
+    sym (read-of _ _ sections good in-place)
 
 returns-4 : tie.Need-returns-4
 returns-4 c = sym (read-bad _ (query-none _ (sym (c .before .before .sections-of .ensures) ∙ c .enum-told .given .1)))
