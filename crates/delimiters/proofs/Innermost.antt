@@ -53,7 +53,9 @@ begins-no v q p b e = sym (ap (λ (j : Delimiter). beginsBy j v) (sym p ∙ b) �
 pub begins-other : (l : List ℕ) (t : Bool) → t ≡ sameName (nameOf l) (ascii "BEGIN") → t ≡ false → false ≡ beginsCalendar (lineOf l)
 unfolding beginsCalendar
 begins-other l t q e =
-    sym (ap (λ (m : Delimiter). beginsBy m (lineOf l .value)) (delimiter-later l t q _ refl e _ refl) ∙ go (sameName (nameOf l) (ascii "END")) (noParameters (lineOf l .parameters) && isName (lineOf l .value)))
+    let ends = sameName (nameOf l) (ascii "END") in
+    let plain = noParameters (lineOf l .parameters) && isName (lineOf l .value) in
+    sym (ap (λ (m : Delimiter). beginsBy m (lineOf l .value)) (delimiter-later l t q _ refl e _ refl) ∙ go ends plain)
   where
     go : (u d : Bool) → beginsBy (cond u (cond d Ends Wrong) Property) (lineOf l .value) ≡ false
     go true true = refl

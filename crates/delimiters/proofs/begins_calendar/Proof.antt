@@ -11,7 +11,8 @@ use borrow.Author.Needs.{needs}
 use Rattle.delimiters.proofs.begins_calendar.Statement.{statement}
 use Rattle.delimiters.proofs.begins_calendar.Tie as tie
 
-begun : (c : tie.Then1) {r : Delimiter} → r ≡ delimitedBy (lineOf (c .before .before .before .before .args .line .now)) Begins → r ≡ delimiterOf (lineOf (c .before .before .before .before .args .line .now))
+begun : (c : tie.Then1) {r : Delimiter}
+    → r ≡ delimitedBy (lineOf (c .before .before .before .before .args .line .now)) Begins → r ≡ delimiterOf (lineOf (c .before .before .before .before .args .line .now))
 begun c = delimiter-begin _ _ (c .before .is-called .ensures) _ (c .if1 .taken)
 
 slice-aggregate-is-called : tie.Need-slice-aggregate-is-called
@@ -46,7 +47,12 @@ enum-told-4 c = search needs
 
 returns : tie.Need-returns
 unfolding beginsCalendar lineOf
-returns c = begins-yes _ (begun (c .before .before .before .before .before .before) (c .before .before .before .before .before .delimited-by .ensures)) (c .before .before .value .ensures) (c .before .before .before .enum-told .given .1) (c .same-name .ensures)
+returns c =
+    let delimited = c .before .before .before .before .before .delimited-by .ensures in
+    let begins = c .before .before .before .enum-told .given .1 in
+    let value = c .before .before .value .ensures in
+    let calendar = c .same-name .ensures in
+    begins-yes _ (begun (c .before .before .before .before .before .before) delimited) value begins calendar
 
 returns-2 : tie.Need-returns-2
 unfolding beginsCalendar lineOf

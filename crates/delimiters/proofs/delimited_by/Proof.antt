@@ -46,10 +46,22 @@ is-name-requires-2 : tie.Need-is-name-requires-2
 is-name-requires-2 c κs = search needs
 
 returns-3 : tie.Need-returns-3
-returns-3 c = delimited-yes (c .before .before .before .before .before .before .before .args .line .now) (c .before .before .before .before .before .before .before .args .delimiter) _ _ (c .before .before .before .parameter-count .ensures) (c .before .is-name2 .ensures ∙ ap isName (c .before .before .value .ensures)) (c .if3 .taken)
+returns-3 c =
+    let line = c .before .before .before .before .before .before .before .args .line .now in
+    let delimiter = c .before .before .before .before .before .before .before .args .delimiter in
+    let counted = c .before .before .before .parameter-count .ensures in
+    let named = c .before .is-name2 .ensures ∙ ap isName (c .before .before .value .ensures) in
+    let plain = c .if3 .taken in
+    delimited-yes line delimiter _ _ counted named plain
 
 returns-4 : tie.Need-returns-4
-returns-4 c = delimited-no (c .before .before .before .before .before .before .before .args .line .now) (c .before .before .before .before .before .before .before .args .delimiter) _ _ (c .before .before .before .parameter-count .ensures) (c .before .is-name2 .ensures ∙ ap isName (c .before .before .value .ensures)) (c .if3 .left)
+returns-4 c =
+    let line = c .before .before .before .before .before .before .before .args .line .now in
+    let delimiter = c .before .before .before .before .before .before .before .args .delimiter in
+    let counted = c .before .before .before .parameter-count .ensures in
+    let named = c .before .is-name2 .ensures ∙ ap isName (c .before .before .value .ensures) in
+    let not-plain = c .if3 .left in
+    delimited-no line delimiter _ _ counted named not-plain
 
 pub delimited-by-spec : {M : Type 1} → statement M
 delimited-by-spec =

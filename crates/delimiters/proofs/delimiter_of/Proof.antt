@@ -36,10 +36,23 @@ delimited-by-requires-2 : tie.Need-delimited-by-requires-2
 delimited-by-requires-2 c κs = search needs
 
 returns-3 : tie.Need-returns-3
-returns-3 c = delimiter-end (c .before .before .before .before .before .before .before .before .before .args .line .now) _ (c .before .before .before .before .before .is-called .ensures) _ (c .before .before .is-called2 .ensures) (c .before .before .before .before .if3 .left) _ (c .before .if4 .taken) (c .delimited-by2 .ensures)
+returns-3 c =
+    let line = c .before .before .before .before .before .before .before .before .before .args .line .now in
+    let begin-asked = c .before .before .before .before .before .is-called .ensures in
+    let no-begin = c .before .before .before .before .if3 .left in
+    let end-asked = c .before .before .is-called2 .ensures in
+    let end = c .before .if4 .taken in
+    let delimited = c .delimited-by2 .ensures in
+    delimiter-end line _ begin-asked _ end-asked no-begin _ end delimited
 
 returns-4 : tie.Need-returns-4
-returns-4 c = delimiter-property (c .before .before .before .before .before .before .before .before .args .line .now) _ (c .before .before .before .before .is-called .ensures) _ (c .before .is-called2 .ensures) (c .before .before .before .if3 .left) (c .if4 .left)
+returns-4 c =
+    let line = c .before .before .before .before .before .before .before .before .args .line .now in
+    let begin-asked = c .before .before .before .before .is-called .ensures in
+    let no-begin = c .before .before .before .if3 .left in
+    let end-asked = c .before .is-called2 .ensures in
+    let no-end = c .if4 .left in
+    delimiter-property line _ begin-asked _ end-asked no-begin no-end
 
 pub delimiter-of-spec : {M : Type 1} → statement M
 delimiter-of-spec =
