@@ -1,4 +1,4 @@
--- Every item before a place is a period, so those from it on decide.
+-- `values::period::all_periods` meets its contract: every item before a place is a period, so those from it on decide.
 use lib.ListN.{length}
 use Prim.Native.Nat.{_-_}
 use borrow.Author.Tests.{not-true, not-false}
@@ -38,16 +38,29 @@ returns : tie.Need-returns Inv-loop μ-loop
 returns c = passed-bad _ (c .before .before .before .find .ensures) (sym (c .before .is-period .ensures) ∙ not-true _ (c .if1 .taken)) (c .before .before .before .before .loop .inv)
 
 returns-2 : tie.Need-returns-2 Inv-loop μ-loop
-returns-2 c = passed-end _ (c .before .before .before .before .find .ensures) (sym (c .before .before .is-period .ensures) ∙ not-false _ (c .before .if1 .left)) (c .if2 .taken) (c .before .before .before .before .before .loop .inv)
+returns-2 c =
+    let passed = c .before .before .before .before .before .loop .inv in
+    let next = c .before .before .before .before .find .ensures in
+    let period = sym (c .before .before .is-period .ensures) ∙ not-false _ (c .before .if1 .left) in
+    let ended = c .if2 .taken in
+    passed-end _ next period ended passed
 
 add-from : tie.Need-add-from Inv-loop μ-loop
 add-from c = omega arith
 
 loop-less : tie.Need-loop-less Inv-loop μ-loop
-loop-less c = omega (arith, item-rises _ _ _ _ (c .before .before .before .before .find .ensures), item-inside _ _ _ _ (c .before .before .before .before .before .loop .inv .inside-list) (c .before .before .before .before .find .ensures))
+loop-less c =
+    let passed = c .before .before .before .before .before .loop .inv in
+    let next = c .before .before .before .before .find .ensures in
+    omega (arith, item-rises _ _ _ _ next, item-inside _ _ _ _ (passed .inside-list) next)
 
 loop-again : tie.Need-loop-again Inv-loop μ-loop
-loop-again c = passed-next _ (c .before .before .before .before .find .ensures) (sym (c .before .before .is-period .ensures) ∙ not-false _ (c .before .if1 .left)) (c .if2 .left) (c .before .before .before .before .before .loop .inv)
+loop-again c =
+    let passed = c .before .before .before .before .before .loop .inv in
+    let next = c .before .before .before .before .find .ensures in
+    let period = sym (c .before .before .is-period .ensures) ∙ not-false _ (c .before .if1 .left) in
+    let inside = c .if2 .left in
+    passed-next _ next period inside passed
 
 pub all-periods-spec : {M : Type 1} → statement M
 all-periods-spec =

@@ -1,4 +1,4 @@
--- Each arm is the definition's clause.
+-- `values::period::is_period` meets its contract: each arm is the definition's clause.
 use mathlib.Core.Path.{sym, _∙_}
 use borrow.Author.Needs.{needs}
 use Rattle.values.proofs.period.is_period.Statement.{statement}

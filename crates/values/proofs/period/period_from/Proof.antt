@@ -1,4 +1,4 @@
--- Each arm is the definition's clause, and a start that is read is within the limits.
+-- `values::period::period_from` meets its contract: each arm is the definition's clause, and a start that is read is within the limits.
 use Rattle.values.proofs.PeriodLaws.{utcAt-small}
 use Rattle.values.specs.Period.{periodFrom}
 use mathlib.Core.Path.{sym, _∙_}

@@ -1,4 +1,4 @@
--- Each way out is one case of the definition.
+-- `values::period::period_to` meets its contract: each way out is one case of the definition.
 use borrow.Author.Tests.{lt-ltb, le-ltb}
 use Rattle.values.specs.Period.{periodTo}
 use borrow.Author.Needs.{needs}

@@ -1,4 +1,4 @@
--- The place of the slash tells whether there is one, and where start and end stand.
+-- `values::period::read_period` meets its contract: the place of the slash tells whether there is one, and where start and end stand.
 use Rattle.values.proofs.PeriodLaws.{periodOf-at, periodOf-none}
 use Rattle.line.proofs.Splitting.{before-fits}
 use mathlib.Core.Path.{_∙_}

@@ -1,4 +1,4 @@
--- The value read is what the callee answers.
+-- `values::period::utc_at` meets its contract: the value read is what the callee answers.
 use Rattle.values.specs.Period.{utcAt}
 use borrow.Author.Needs.{needs}
 use Rattle.values.proofs.period.utc_at.Statement.{statement}

@@ -1,4 +1,4 @@
--- Each arm is the definition's clause.
+-- `values::period::utc_by` meets its contract: each arm is the definition's clause.
 use Rattle.values.specs.Period.{utcBy}
 use borrow.Author.Needs.{needs}
 use Rattle.values.proofs.period.utc_by.Statement.{statement}

@@ -1,4 +1,4 @@
--- Each arm is the definition's clause.
+-- `values::rule::count_by` meets its contract: each arm is the definition's clause.
 use Rattle.values.specs.Rule.{countBy}
 use borrow.Author.Needs.{needs}
 use Rattle.values.proofs.rule.count_by.Statement.{statement}

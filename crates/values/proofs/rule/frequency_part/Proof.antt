@@ -1,4 +1,4 @@
--- The words are tried in the order of the definition.
+-- `values::rule::frequency_part` meets its contract: the words are tried in the order of the definition.
 use Rattle.values.specs.Rule.{frequencyPart}
 use mathlib.Core.Path.{sym, _∙_}
 use borrow.Author.Needs.{needs}

@@ -1,4 +1,4 @@
--- Each arm is the definition's clause.
+-- `values::rule::interval_by` meets its contract: each arm is the definition's clause.
 use Rattle.values.specs.Rule.{intervalBy}
 use borrow.Author.Needs.{needs}
 use Rattle.values.proofs.rule.interval_by.Statement.{statement}

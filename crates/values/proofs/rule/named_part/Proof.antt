@@ -1,4 +1,4 @@
--- The names are tried in the order of the definition.
+-- `values::rule::named_part` meets its contract: the names are tried in the order of the definition.
 use Rattle.values.specs.Rule.{namedPart, intervalBy, countBy}
 use mathlib.Core.Path.{sym, ap, _∙_}
 use borrow.Author.Needs.{needs}
@@ -32,7 +32,11 @@ interval-by-requires c κs = search needs
 
 returns-2 : tie.Need-returns-2
 unfolding namedPart
-returns-2 c = rw (sym (c .before .before .before .before .before .before .same-name .ensures) ∙ c .before .before .before .before .before .if1 .left, sym (c .before .before .before .same-name2 .ensures) ∙ c .before .before .if2 .taken) (c .interval-by .ensures ∙ ap intervalBy (c .before .number-to .ensures))
+returns-2 c =
+    let at-frequency = c .before .before .before .before .before in
+    let no-frequency = sym (at-frequency .before .same-name .ensures) ∙ at-frequency .if1 .left in
+    let interval = sym (c .before .before .before .same-name2 .ensures) ∙ c .before .before .if2 .taken in
+    rw (no-frequency, interval) (c .interval-by .ensures ∙ ap intervalBy (c .before .number-to .ensures))
 
 slice-aggregate-same-name-3 : tie.Need-slice-aggregate-same-name-3
 slice-aggregate-same-name-3 c = search needs
@@ -48,7 +52,13 @@ count-by-requires c κs = search needs
 
 returns-3 : tie.Need-returns-3
 unfolding namedPart
-returns-3 c = rw (sym (c .before .before .before .before .before .before .before .before .before .same-name .ensures) ∙ c .before .before .before .before .before .before .before .before .if1 .left, sym (c .before .before .before .before .before .before .same-name2 .ensures) ∙ c .before .before .before .before .before .if2 .left, sym (c .before .before .before .same-name3 .ensures) ∙ c .before .before .if3 .taken) (c .count-by .ensures ∙ ap countBy (c .before .number-to2 .ensures))
+returns-3 c =
+    let at-interval = c .before .before .before .before .before in
+    let at-frequency = at-interval .before .before .before in
+    let no-frequency = sym (at-frequency .before .same-name .ensures) ∙ at-frequency .if1 .left in
+    let no-interval = sym (at-interval .before .same-name2 .ensures) ∙ at-interval .if2 .left in
+    let count = sym (c .before .before .before .same-name3 .ensures) ∙ c .before .before .if3 .taken in
+    rw (no-frequency, no-interval, count) (c .count-by .ensures ∙ ap countBy (c .before .number-to2 .ensures))
 
 slice-aggregate-same-name-4 : tie.Need-slice-aggregate-same-name-4
 slice-aggregate-same-name-4 c = search needs
@@ -61,11 +71,27 @@ until-part-requires c κs = search needs
 
 returns-4 : tie.Need-returns-4
 unfolding namedPart
-returns-4 c = rw (sym (c .before .before .before .before .before .before .before .before .before .before .before .same-name .ensures) ∙ c .before .before .before .before .before .before .before .before .before .before .if1 .left, sym (c .before .before .before .before .before .before .before .before .same-name2 .ensures) ∙ c .before .before .before .before .before .before .before .if2 .left, sym (c .before .before .before .before .before .same-name3 .ensures) ∙ c .before .before .before .before .if3 .left, sym (c .before .before .same-name4 .ensures) ∙ c .before .if4 .taken) (c .until-part .ensures)
+returns-4 c =
+    let at-count = c .before .before .before .before in
+    let at-interval = at-count .before .before .before in
+    let at-frequency = at-interval .before .before .before in
+    let no-frequency = sym (at-frequency .before .same-name .ensures) ∙ at-frequency .if1 .left in
+    let no-interval = sym (at-interval .before .same-name2 .ensures) ∙ at-interval .if2 .left in
+    let no-count = sym (at-count .before .same-name3 .ensures) ∙ at-count .if3 .left in
+    let until = sym (c .before .before .same-name4 .ensures) ∙ c .before .if4 .taken in
+    rw (no-frequency, no-interval, no-count, until) (c .until-part .ensures)
 
 returns-5 : tie.Need-returns-5
 unfolding namedPart
-returns-5 c = rw (sym (c .before .before .before .before .before .before .before .before .before .before .same-name .ensures) ∙ c .before .before .before .before .before .before .before .before .before .if1 .left, sym (c .before .before .before .before .before .before .before .same-name2 .ensures) ∙ c .before .before .before .before .before .before .if2 .left, sym (c .before .before .before .before .same-name3 .ensures) ∙ c .before .before .before .if3 .left, sym (c .before .same-name4 .ensures) ∙ c .if4 .left)
+returns-5 c =
+    let at-count = c .before .before .before in
+    let at-interval = at-count .before .before .before in
+    let at-frequency = at-interval .before .before .before in
+    let no-frequency = sym (at-frequency .before .same-name .ensures) ∙ at-frequency .if1 .left in
+    let no-interval = sym (at-interval .before .same-name2 .ensures) ∙ at-interval .if2 .left in
+    let no-count = sym (at-count .before .same-name3 .ensures) ∙ at-count .if3 .left in
+    let no-until = sym (c .before .same-name4 .ensures) ∙ c .if4 .left in
+    rw (no-frequency, no-interval, no-count, no-until)
 
 pub named-part-spec : {M : Type 1} → statement M
 named-part-spec =

@@ -1,4 +1,4 @@
--- It is the definition.
+-- `values::rule::no_parts` meets its contract: it is the definition.
 use Rattle.values.specs.Rule.{noParts}
 use mathlib.Core.Path.{refl}
 use Rattle.values.proofs.rule.no_parts.Statement.{statement}

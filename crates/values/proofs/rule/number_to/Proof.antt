@@ -1,4 +1,4 @@
--- The digits that were read make the number so far; the length, the digits and the bounds decide as in the definition.
+-- `values::rule::number_to` meets its contract: the digits that were read make the number so far; the length, the digits and the bounds decide as in the definition.
 use lib.ListN.{length}
 use Prim.Native.Nat.{_-_}
 use borrow.Author.Tests.{not-true, not-false}

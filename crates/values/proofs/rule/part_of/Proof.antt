@@ -1,4 +1,4 @@
--- The place of the sign tells whether there is one, and where name and value stand.
+-- `values::rule::part_of` meets its contract: the place of the sign tells whether there is one, and where name and value stand.
 use Rattle.values.proofs.RuleLaws.{partOf-unsigned, partOf-named, partOf-unnamed}
 use Rattle.line.proofs.Splitting.{before-fits}
 use mathlib.Core.Path.{_∙_}
@@ -34,7 +34,12 @@ named-part-requires : tie.Need-named-part-requires
 named-part-requires c κs = search needs
 
 returns-2 : tie.Need-returns-2
-returns-2 c = c .named-part .ensures ∙ partOf-named _ _ _ (c .before .before .before .before .before .before .find .ensures) _ (c .before .before .before .before .before .if1 .left) (c .before .before .before .is-name .ensures) (c .before .before .if2 .taken)
+returns-2 c =
+    let sign = c .before .before .before .before .before .before .find .ensures in
+    let inside = c .before .before .before .before .before .if1 .left in
+    let tested = c .before .before .before .is-name .ensures in
+    let named = c .before .before .if2 .taken in
+    c .named-part .ensures ∙ partOf-named _ _ _ sign _ inside tested named
 
 returns-3 : tie.Need-returns-3
 returns-3 c = partOf-unnamed _ _ _ (c .before .before .before .before .find .ensures) _ (c .before .before .before .if1 .left) (c .before .is-name .ensures) (c .if2 .left)

@@ -1,4 +1,4 @@
--- The tests stand in the order of the definition.
+-- `values::rule::rule_by` meets its contract: the tests stand in the order of the definition.
 use Rattle.values.proofs.RuleLaws.{ruleBy-unsupported, ruleBy-bad, ruleBy-of}
 use borrow.Author.Needs.{needs}
 use Rattle.values.proofs.rule.rule_by.Statement.{statement}

@@ -1,4 +1,4 @@
--- With the parts before a place, those from it on give all the parts.
+-- `values::rule::rule_of` meets its contract: with the parts before a place, those from it on give all the parts.
 use lib.ListN.{length}
 use Prim.Native.Nat.{_-_}
 use Rattle.values.proofs.RuleLaws.{PartsRead, parts-start, parts-next, parts-end}
@@ -43,16 +43,31 @@ rule-by-requires : tie.Need-rule-by-requires Inv-loop μ-loop
 rule-by-requires c κs = search needs
 
 returns : tie.Need-returns Inv-loop μ-loop
-returns c = c .rule-by .ensures ∙ parts-end _ _ _ (c .before .before .before .before .before .find .ensures) (c .before .if1 .taken) (c .before .before .before .part-of .ensures) (c .before .before .with-part .ensures) (c .before .before .before .before .before .before .loop .inv)
+returns c =
+    let parts = c .before .before .before .before .before .before .loop .inv in
+    let next = c .before .before .before .before .before .find .ensures in
+    let read = c .before .before .before .part-of .ensures in
+    let joined = c .before .before .with-part .ensures in
+    let ended = c .before .if1 .taken in
+    c .rule-by .ensures ∙ parts-end _ _ _ next ended read joined parts
 
 add-from : tie.Need-add-from Inv-loop μ-loop
 add-from c = omega arith
 
 loop-less : tie.Need-loop-less Inv-loop μ-loop
-loop-less c = omega (arith, item-rises _ _ _ _ (c .before .before .before .before .find .ensures), item-inside _ _ _ _ (c .before .before .before .before .before .loop .inv .inside-value) (c .before .before .before .before .find .ensures))
+loop-less c =
+    let parts = c .before .before .before .before .before .loop .inv in
+    let next = c .before .before .before .before .find .ensures in
+    omega (arith, item-rises _ _ _ _ next, item-inside _ _ _ _ (parts .inside-value) next)
 
 loop-again : tie.Need-loop-again Inv-loop μ-loop
-loop-again c = parts-next _ _ _ (c .before .before .before .before .find .ensures) (c .if1 .left) (c .before .before .part-of .ensures) (c .before .with-part .ensures) (c .before .before .before .before .before .loop .inv)
+loop-again c =
+    let parts = c .before .before .before .before .before .loop .inv in
+    let next = c .before .before .before .before .find .ensures in
+    let read = c .before .before .part-of .ensures in
+    let joined = c .before .with-part .ensures in
+    let inside = c .if1 .left in
+    parts-next _ _ _ next inside read joined parts
 
 pub rule-of-spec : {M : Type 1} → statement M
 rule-of-spec =

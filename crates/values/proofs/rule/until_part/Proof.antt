@@ -1,4 +1,4 @@
--- The number of bytes tells the form.
+-- `values::rule::until_part` meets its contract: the number of bytes tells the form.
 use borrow.Author.Tests.{eq-eqb, ne-eqb}
 use Rattle.values.specs.Rule.{untilPart}
 use borrow.Author.Needs.{needs}

@@ -1,4 +1,4 @@
--- It is the definition's clause.
+-- `values::rule::with_limit` meets its contract: it is the definition's clause.
 use Rattle.values.specs.Rule.{withPart}
 use mathlib.Core.Path.{refl}
 use Rattle.values.proofs.rule.with_limit.Statement.{statement}

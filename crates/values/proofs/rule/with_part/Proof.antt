@@ -1,4 +1,4 @@
--- Each arm is the definition's clause.
+-- `values::rule::with_part` meets its contract: each arm is the definition's clause.
 use Rattle.values.specs.Rule.{withPart}
 use mathlib.Core.Path.{sym, ap, _∙_}
 use borrow.Author.Needs.{needs}

@@ -1,4 +1,4 @@
--- Each arm is the definition's clause.
+-- `values::times::at_second` meets its contract: each arm is the definition's clause.
 use Rattle.values.specs.Times.{atSecond}
 use borrow.Author.Needs.{needs}
 use Rattle.values.proofs.times.at_second.Statement.{statement}

@@ -1,4 +1,4 @@
--- One count of VALUE tells whether it stands badly, and whether it stands at all.
+-- `values::times::form_of` meets its contract: one count of VALUE tells whether it stands badly, and whether it stands at all.
 use Rattle.values.specs.Times.{formOf, formNamed}
 use borrow.Author.Tests.{lt-ltb, le-ltb}
 use Rattle.line.proofs.ReadingParameters.{used-badly, used-at-all}
@@ -28,7 +28,12 @@ form-named-requires c κs = search needs
 
 returns-2 : tie.Need-returns-2
 unfolding formOf
-returns-2 c = rw (used-badly _ _ _ (c .before .before .before .before .before .usage-of .ensures) ∙ c .before .before .before .before .if1 .left, used-at-all _ _ _ (c .before .before .before .before .before .usage-of .ensures) ∙ lt-ltb 0 _ (c .before .before .before .if2 .taken)) (c .form-named .ensures ∙ ap formNamed (c .before .first-value .ensures))
+returns-2 c =
+    let used = c .before .before .before .before .before .usage-of .ensures in
+    let once = c .before .before .before .before .if1 .left in
+    let given = c .before .before .before .if2 .taken in
+    let value = c .before .first-value .ensures in
+    rw (used-badly _ _ _ used ∙ once, used-at-all _ _ _ used ∙ lt-ltb 0 _ given) (c .form-named .ensures ∙ ap formNamed value)
 
 returns-3 : tie.Need-returns-3
 unfolding formOf

@@ -1,4 +1,4 @@
--- Each arm is the definition's clause, at what the callees answer.
+-- `values::times::read_time` meets its contract: each arm is the definition's clause, at what the callees answer.
 use Rattle.values.specs.Times.{readTime}
 use borrow.Author.Needs.{needs}
 use Rattle.values.proofs.times.read_time.Statement.{statement}

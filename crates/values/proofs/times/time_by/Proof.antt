@@ -1,4 +1,4 @@
--- Each arm is the definition's clause, at what the callees answer.
+-- `values::times::time_by` meets its contract: each arm is the definition's clause, at what the callees answer.
 use Rattle.values.specs.Times.{timeBy}
 use borrow.Author.Needs.{needs}
 use Rattle.values.proofs.times.time_by.Statement.{statement}

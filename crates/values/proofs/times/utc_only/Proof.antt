@@ -1,4 +1,4 @@
--- Each arm is the definition's clause.
+-- `values::times::utc_only` meets its contract: each arm is the definition's clause.
 use Rattle.values.specs.Times.{utcOnly}
 use borrow.Author.Needs.{needs}
 use Rattle.values.proofs.times.utc_only.Statement.{statement}
