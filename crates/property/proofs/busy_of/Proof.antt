@@ -1,4 +1,4 @@
--- The word is what the callee answers.
+-- `property::busy_of` meets its contract: the word is what the callee answers.
 use Rattle.property.specs.Properties.{busyOf, busyNamed}
 use mathlib.Core.Path.{ap, _∙_}
 use borrow.Author.Needs.{needs}

@@ -1,4 +1,4 @@
--- Each arm is the definition's clause.
+-- `property::duration_by` meets its contract: each arm is the definition's clause.
 use Rattle.property.specs.Properties.{durationBy}
 use borrow.Author.Needs.{needs}
 use Rattle.property.proofs.duration_by.Statement.{statement}

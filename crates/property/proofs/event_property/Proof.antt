@@ -1,4 +1,4 @@
--- The length of the name decides which words are tried.
+-- `property::event_property` meets its contract: the length of the name decides which words are tried.
 use mathlib.Core.Path.{refl, ap, _∙_}
 use mathlib.Core.Bool.{Bool, cond}
 use denote.Ref.{now}
@@ -70,7 +70,10 @@ returns-5 c =
     (c .property-if3 .ensures ∙ ap (λ (t : Bool). cond t Property.Unsupported Property.Unread) (c .before .same-name3 .ensures))
 
 returns-6 : tie.Need-returns-6
-returns-6 c = event-unread (now (c .before .before .args .name)) _ refl (c .match .rest .0 .0 .0 .0 .1) (c .match .rest .0 .0 .0 .1) (c .match .rest .0 .0 .1) (c .match .rest .0 .1) (c .match .rest .1)
+returns-6 c =
+    let name = now (c .before .before .args .name) in
+    let lengths = c .match .rest in
+    event-unread name _ refl (lengths .0 .0 .0 .0 .1) (lengths .0 .0 .0 .1) (lengths .0 .0 .1) (lengths .0 .1) (lengths .1)
 
 pub event-property-spec : {M : Type 1} → statement M
 event-property-spec =

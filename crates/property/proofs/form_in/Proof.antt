@@ -1,4 +1,4 @@
--- A line without parameters asks for a DATE-TIME.
+-- `property::form_in` meets its contract: a line without parameters asks for a DATE-TIME.
 use Rattle.property.proofs.Properties.{plain-form}
 use borrow.Author.Needs.{needs}
 use Rattle.property.proofs.form_in.Statement.{statement}

@@ -1,4 +1,4 @@
--- The length of the name decides which words are tried.
+-- `property::free_busy_property` meets its contract: the length of the name decides which words are tried.
 use mathlib.Core.Path.{refl, ap, _∙_}
 use mathlib.Core.Bool.{Bool, cond}
 use denote.Ref.{now}

@@ -1,4 +1,4 @@
--- A line of another name gives none; of FREEBUSY its type and then its periods decide.
+-- `property::gives_periods` meets its contract: a line of another name gives none; of FREEBUSY its type and then its periods decide.
 use denote.Ref.{now}
 use mathlib.Core.Path.{sym, ap, _∙_}
 use mathlib.Core.List.{List}

@@ -1,4 +1,4 @@
--- Each arm is the definition's clause.
+-- `property::is_start` meets its contract: each arm is the definition's clause.
 use Rattle.property.specs.Properties.{isStart}
 use borrow.Author.Needs.{needs}
 use Rattle.property.proofs.is_start.Statement.{statement}

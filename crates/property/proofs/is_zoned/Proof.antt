@@ -1,4 +1,4 @@
--- A line without parameters has no TZID.
+-- `property::is_zoned` meets its contract: a line without parameters has no TZID.
 use Rattle.property.proofs.Properties.{plain-unzoned}
 use borrow.Author.Needs.{needs}
 use Rattle.property.proofs.is_zoned.Statement.{statement}

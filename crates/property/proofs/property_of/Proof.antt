@@ -1,4 +1,4 @@
--- Each arm is the component's own answer.
+-- `property::property_of` meets its contract: each arm is the component's own answer.
 use Rattle.property.specs.Properties.{propertyOf}
 use borrow.Author.Needs.{needs}
 use Rattle.property.proofs.property_of.Statement.{statement}

@@ -1,4 +1,4 @@
--- A line is read by its name, which is so many bytes of it, and behind a colon that follows the name stands its value.
+-- `property::property_value` meets its contract: a line is read by its name, which is so many bytes of it, and behind a colon that follows the name stands its value.
 use lib.Seq.{length-take-le}
 use denote.Ref.{now}
 use mathlib.Core.Path.{sym, ap, _∙_}
@@ -38,7 +38,12 @@ returns c =
 
 returns-2 : tie.Need-returns-2
 unfolding beforePeriods lineOf
-returns-2 c = simp (c .value-as .ensures, c .before .before .before .before .property-of .ensures, name-take (now (c .before .before .before .before .before .before .before .args .line)) _ (c .before .before .before .before .before .before .before .pre .1))
+returns-2 c =
+    let line = now (c .before .before .before .before .before .before .before .args .line) in
+    let size = c .before .before .before .before .before .before .before .pre .1 in
+    let property = c .before .before .before .before .property-of .ensures in
+    let value = c .value-as .ensures in
+    simp (value, property, name-take line _ size)
 
 pub property-value-spec : {M : Type 1} → statement M
 property-value-spec =

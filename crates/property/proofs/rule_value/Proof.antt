@@ -1,4 +1,4 @@
--- Each arm is the definition's clause.
+-- `property::rule_value` meets its contract: each arm is the definition's clause.
 use Rattle.property.specs.Properties.{ruleValue}
 use borrow.Author.Needs.{needs}
 use Rattle.property.proofs.rule_value.Statement.{statement}

@@ -1,4 +1,4 @@
--- The words are tried in the order of the definition.
+-- `property::status_named` meets its contract: the words are tried in the order of the definition.
 use Rattle.property.specs.Properties.{statusNamed}
 use mathlib.Core.Path.{sym, _∙_}
 use borrow.Author.Needs.{needs}

@@ -1,4 +1,4 @@
--- Each arm is the definition's clause.
+-- `property::time_in` meets its contract: each arm is the definition's clause.
 use Rattle.property.specs.Properties.{timeIn}
 use borrow.Author.Needs.{needs}
 use Rattle.property.proofs.time_in.Statement.{statement}

@@ -1,4 +1,4 @@
--- With TZID the line is unsupported; else its time is what the callees answer.
+-- `property::time_value` meets its contract: with TZID the line is unsupported; else its time is what the callees answer.
 use denote.Ref.{now}
 use Rattle.line.specs.Reading.{lineOf}
 use Rattle.values.specs.Times.{timeOf}

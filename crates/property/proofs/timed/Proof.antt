@@ -1,4 +1,4 @@
--- Each branch is one of the definition's clauses.
+-- `property::timed` meets its contract: each branch is one of the definition's clauses.
 use Rattle.property.specs.Properties.{startBy, endBy}
 use Rattle.property.proofs.Properties.{both-bad}
 use borrow.Author.Needs.{needs}

@@ -1,4 +1,4 @@
--- FBTYPE decides: twice or as a list is bad, else it is the type that its word names.
+-- `property::type_among` meets its contract. FBTYPE decides: twice or as a list is bad, else it is the type that its word names.
 use mathlib.Core.Path.{sym, ap, _∙_}
 use Rattle.property.specs.declared.PropertyValue.{PropertyValue}
 use Rattle.property.specs.Properties.{typeValue}

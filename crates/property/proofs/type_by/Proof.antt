@@ -1,4 +1,4 @@
--- A line with one parameter has the type BUSY where that is not FBTYPE; else its value decides.
+-- `property::type_by` meets its contract: a line with one parameter has the type BUSY where that is not FBTYPE; else its value decides.
 use denote.Ref.{now}
 use mathlib.Core.Path.{sym, _∙_}
 use borrow.Author.Tests.{not-true, not-false}
@@ -20,7 +20,12 @@ value-count-requires : tie.Need-value-count-requires
 value-count-requires c κs = search needs
 
 returns-2 : tie.Need-returns-2
-returns-2 c = λ x e. one-list (now (c .before .before .before .before .before .before .args .p)) x e (sym (c .before .before .before .is-named .ensures) ∙ not-false _ (c .before .before .if1 .left)) (c .before .value-count .ensures) (c .if2 .taken)
+returns-2 c =
+    let parameter = now (c .before .before .before .before .before .before .args .p) in
+    let named = sym (c .before .before .before .is-named .ensures) ∙ not-false _ (c .before .before .if1 .left) in
+    let counted = c .before .value-count .ensures in
+    let many = c .if2 .taken in
+    λ x e. one-list parameter x e named counted many
 
 parameter-value-requires : tie.Need-parameter-value-requires
 parameter-value-requires c κs = search needs

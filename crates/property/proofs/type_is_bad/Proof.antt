@@ -1,4 +1,4 @@
--- One count of FBTYPE tells whether it stands badly.
+-- `property::type_is_bad` meets its contract: one count of FBTYPE tells whether it stands badly.
 use mathlib.Core.Path.{sym}
 use Rattle.line.proofs.ReadingParameters.{used-badly}
 use borrow.Author.Needs.{needs}

@@ -1,4 +1,4 @@
--- Without parameters the type is BUSY; a line with one has the type by that, and any other by all of them.
+-- `property::type_value` meets its contract: without parameters the type is BUSY; a line with one has the type by that, and any other by all of them.
 use denote.Ref.{now}
 use native.Mathlib.Omega.{arith}
 use Rattle.line.specs.Reading.{lineOf}

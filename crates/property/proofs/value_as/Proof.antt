@@ -1,4 +1,4 @@
--- Each arm is the definition's clause, at what the callees answer; the last is DTSTART and DTEND.
+-- `property::value_as` meets its contract: each arm is the definition's clause, at what the callees answer; the last is DTSTART and DTEND.
 use mathlib.Core.Path.{ap, _∙_}
 use Rattle.line.specs.Reading.{lineOf}
 use Rattle.property.specs.declared.Property.{Property}
@@ -92,7 +92,9 @@ returns-7 c = simp (c .type-value .ensures, c .before .enum-told7 .given .1)
 returns-8 : tie.Need-returns-8
 returns-8 c =
     let args = c .before .before .before .before .before .args in
-    c .time-value .ensures ∙ ap (λ (p : Property). valueAs p (args .c) (args .scope) (lineOf (now (args .line)))) (ap (λ (b : Bool). cond b Property.Start Property.End) (c .before .is-start .ensures) ∙ start-or-end _ (c .before .before .match .keys8))
+    let either = c .before .before .match .keys8 in
+    let property = ap (λ (b : Bool). cond b Property.Start Property.End) (c .before .is-start .ensures) ∙ start-or-end _ either in
+    c .time-value .ensures ∙ ap (λ (p : Property). valueAs p (args .c) (args .scope) (lineOf (now (args .line)))) property
 
 pub value-as-spec : {M : Type 1} → statement M
 value-as-spec =

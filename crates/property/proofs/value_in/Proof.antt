@@ -1,4 +1,4 @@
--- Behind the colon that follows the name stands the value.
+-- `property::value_in` meets its contract: behind the colon that follows the name stands the value.
 use denote.Ref.{now}
 use native.Mathlib.Omega.{arith}
 use Rattle.property.proofs.Properties.{plain-value}
