@@ -1,4 +1,4 @@
--- The columns are long, and the count is none.
+-- `table::empty` meets its contract: the columns are long, and the count is none.
 use mathlib.Core.Path.{refl}
 use Rattle.table.specs.Tables.{rows, listed}
 use borrow.Author.Needs.{needs}

@@ -1,4 +1,4 @@
--- The elements moved are at their new place, and those still to move stand where they stood.
+-- `table::move_left` meets its contract: the elements moved are at their new place, and those still to move stand where they stood.
 use Rattle.table.proofs.Columns.{MovingLeft, left-start, left-more, left-end}
 use Prim.Native.Nat.{_-_, _≤_}
 use native.Mathlib.Omega.{arith}

@@ -1,4 +1,4 @@
--- The elements moved are one place on, and all before them stand where they stood.
+-- `table::move_right` meets its contract: the elements moved are one place on, and all before them stand where they stood.
 use Rattle.table.proofs.Columns.{MovingRight, right-start, right-more, right-end}
 use Prim.Native.Nat.{_+_, _-_, _≤_}
 use native.Mathlib.Omega.{arith}

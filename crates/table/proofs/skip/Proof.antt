@@ -1,4 +1,4 @@
--- While the loop goes on, the rows passed all end before; what is counted and what is left to count make the whole.
+-- `table::skip` meets its contract: while the loop goes on, the rows passed all end before; what is counted and what is left to count make the whole.
 use Rattle.table.proofs.Columns.{Passing, passing-start, passing-more, passing-found, passing-end}
 use Prim.Native.Nat.{_-_}
 use native.Mathlib.Omega.{arith}

@@ -1,4 +1,4 @@
--- The rest was moved behind the place, to the left or to the right, and the store fills it.
+-- `table::splice` meets its contract: the rest was moved behind the place, to the left or to the right, and the store fills it.
 use Rattle.table.proofs.Columns.{next-place, spliced}
 use mathlib.Core.Logic.{⊎-elim}
 use native.Mathlib.Omega.{arith}
@@ -28,7 +28,11 @@ element-write-column : tie.Need-element-write-column
 element-write-column c = search needs
 
 returns : tie.Need-returns
-returns c = spliced {d = c .if1 .column} _ (⊎-elim (λ w. rw (w .3) (w .2 .ensures)) (λ w. rw (w .3) (next-place (omega arith) (w .0 .left) (w .2 .ensures))) (c .if1 .came)) (omega arith) (omega arith) (omega arith)
+returns c =
+    let moved = c .if1 .came in
+    spliced {d = c .if1 .column} _
+    (⊎-elim (λ w. rw (w .3) (w .2 .ensures)) (λ w. rw (w .3) (next-place (omega arith) (w .0 .left) (w .2 .ensures))) moved)
+    (omega arith) (omega arith) (omega arith)
 
 pub splice-spec : {M : Type 1} → statement M
 splice-spec =

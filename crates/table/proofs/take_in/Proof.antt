@@ -1,4 +1,4 @@
--- While the loop goes on, taking in what is left with the widened span is taking in the whole with the first.
+-- `table::take_in` meets its contract: while the loop goes on, taking in what is left with the widened span is taking in the whole with the first.
 use Rattle.table.proofs.Columns.{Taking, taking-start, taking-more, taking-stop, taking-end}
 use Prim.Native.Nat.{_-_}
 use native.Mathlib.Omega.{arith}
@@ -48,7 +48,11 @@ loop-less : tie.Need-loop-less Inv-loop μ-loop
 loop-less c = omega arith
 
 loop-again : tie.Need-loop-again Inv-loop μ-loop
-loop-again c = taking-more (c .before .before .before .before .before .before .before .loop .inv) (omega arith) (omega arith) (omega arith) (omega arith) (c .before .before .lesser-of .ensures) (c .greater-of .ensures)
+loop-again c =
+    let taking = c .before .before .before .before .before .before .before .loop .inv in
+    let lesser = c .before .before .lesser-of .ensures in
+    let greater = c .greater-of .ensures in
+    taking-more taking (omega arith) (omega arith) (omega arith) (omega arith) lesser greater
 
 returns-2 : tie.Need-returns-2 Inv-loop μ-loop
 returns-2 c = taking-end (c .before .loop .inv) (omega arith)

@@ -1,4 +1,4 @@
--- The three steps make the definition: rows that end before, the widened span, the rows behind it.
+-- `table::Table::add` meets its contract. The three steps make the definition: rows that end before, the widened span, the rows behind it.
 use Rattle.table.proofs.Columns.{ends-secondIn, added}
 use Rattle.table.specs.Tables.{Sound}
 use borrow.Author.Needs.{needs}
@@ -30,7 +30,12 @@ add-self-2 : tie.Need-add-self-2
 add-self-2 c = search needs
 
 returns : tie.Need-returns
-returns c = added _ (sound (c .before .before .before .before .before .before .before .before .before .before .before .before .before .before)) (search needs) (c .before .before .before .before .before .before .before .before .before .before .skip .ensures) (c .before .before .before .before .take-in .ensures) (c .before .before .splice .ensures) (c .splice2 .ensures)
+returns c =
+    let skipped = c .before .before .before .before .before .before .before .before .before .before .skip .ensures in
+    let widened = c .before .before .before .before .take-in .ensures in
+    let starts = c .before .before .splice .ensures in
+    let ends = c .splice2 .ensures in
+    added _ (sound (c .before .before .before .before .before .before .before .before .before .before .before .before .before .before)) (search needs) skipped widened starts ends
 
 pub add-spec : {M : Type 1} → statement M
 add-spec =
