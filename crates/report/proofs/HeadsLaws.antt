@@ -173,8 +173,9 @@ heads-apart s at b c p q = sym (kindOf-head (drop at s) b p) ∙ kindOf-head (dr
 pub period-at-line : (f h z : List ℕ) (p : Period) (ps : List Period) → hasBytesAt (f ++ (joined (periodLines h (p ∷ ps)) ++ z)) h (length f) ≡ true
 unfolding hasBytesAt periodLines
 period-at-line f h z p ps =
-    rw (drop-at f (joined (periodLines h (p ∷ ps)) ++ z) (length f) refl, append-assoc (h ++ periodText p) (13 ∷ 10 ∷ joined (periodLines h ps)) z, append-assoc h (periodText p) ((13 ∷ 10 ∷ joined (periodLines h ps)) ++ z))
-    (begins-append h (periodText p ++ ((13 ∷ 10 ∷ joined (periodLines h ps)) ++ z)))
+    let more : List ℕ = 13 ∷ 10 ∷ joined (periodLines h ps) in
+    rw (drop-at f (joined (periodLines h (p ∷ ps)) ++ z) (length f) refl, append-assoc (h ++ periodText p) more z, append-assoc h (periodText p) (more ++ z))
+    (begins-append h (periodText p ++ (more ++ z)))
 
 -- ---- the lines between the opening and the closing
 

@@ -1,4 +1,4 @@
--- The loop keeps that the lines that are left decide; the measure is the bytes that are left.
+-- `report::heads::all_busy_lines` meets its contract: the loop keeps that the lines that are left decide; the measure is the bytes that are left.
 use Prim.Native.Nat.{_-_}
 use mathlib.Core.Path.{sym, _∙_}
 use lib.ListN.{length}
@@ -44,13 +44,21 @@ is-busy-line-requires : tie.Need-is-busy-line-requires Inv-loop μ-loop
 is-busy-line-requires c κs = search needs
 
 returns-2 : tie.Need-returns-2 Inv-loop μ-loop
-returns-2 c = heads-stop (c .before .before .before .before .before .before .before .loop .inv) (line-from _ _ (c .before .before .before .before .before .before .next-line .ensures) (c .before .before .before .before .e .given .1)) (sym (c .before .is-busy-line .ensures) ∙ not-true _ (c .if1 .taken))
+returns-2 c =
+    let heads = c .before .before .before .before .before .before .before .loop .inv in
+    let read = line-from _ _ (c .before .before .before .before .before .before .next-line .ensures) (c .before .before .before .before .e .given .1) in
+    let other = sym (c .before .is-busy-line .ensures) ∙ not-true _ (c .if1 .taken) in
+    heads-stop heads read other
 
 loop-less : tie.Need-loop-less Inv-loop μ-loop
 loop-less c = let h = line-from _ _ (c .before .before .before .before .before .before .next-line .ensures) (c .before .before .before .before .e .given .1) in omega (arith, h .goes-on, h .inside)
 
 loop-again : tie.Need-loop-again Inv-loop μ-loop
-loop-again c = heads-next (c .before .before .before .before .before .before .before .loop .inv) (line-from _ _ (c .before .before .before .before .before .before .next-line .ensures) (c .before .before .before .before .e .given .1)) (sym (c .before .is-busy-line .ensures) ∙ not-false _ (c .if1 .left))
+loop-again c =
+    let heads = c .before .before .before .before .before .before .before .loop .inv in
+    let read = line-from _ _ (c .before .before .before .before .before .before .next-line .ensures) (c .before .before .before .before .e .given .1) in
+    let busy = sym (c .before .is-busy-line .ensures) ∙ not-false _ (c .if1 .left) in
+    heads-next heads read busy
 
 pub all-busy-lines-spec : {M : Type 1} → statement M
 all-busy-lines-spec =

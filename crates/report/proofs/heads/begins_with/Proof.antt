@@ -1,4 +1,4 @@
--- The loop keeps that what is left decides, and a string longer than the bytes does not stand there.
+-- `report::heads::begins_with` meets its contract: the loop keeps that what is left decides, and a string longer than the bytes does not stand there.
 use mathlib.Core.Path.{refl, sym}
 use Prim.Native.Nat.{_-_}
 use lib.ListN.{length}

@@ -1,4 +1,4 @@
--- Fewer than thirty bytes do not hold the last two lines, and of more the test is the definition's own.
+-- `report::heads::closes_report` meets its contract: fewer than thirty bytes do not hold the last two lines, and of more the test is the definition's own.
 use mathlib.Core.Path.{sym}
 use Rattle.report.specs.Heads.{closesReport, closing}
 use Rattle.report.proofs.HeadsLaws.{closesReport-short}

@@ -1,4 +1,4 @@
--- What is read is the rest of the bytes from the place on, and past the end only the empty string stands.
+-- `report::heads::has_bytes_at` meets its contract: what is read is the rest of the bytes from the place on, and past the end only the empty string stands.
 use mathlib.Core.Path.{_∙_}
 use Rattle.report.proofs.HeadsLaws.{hasBytesAt-past, hasBytesAt-from}
 use borrow.Author.Needs.{needs}

@@ -1,4 +1,4 @@
--- Fewer bytes than the opening and the closing have do not match; of more, the three tests are the definition's own.
+-- `report::heads::heads_match` meets its contract: fewer bytes than the opening and the closing have do not match; of more, the three tests are the definition's own.
 use mathlib.Core.Path.{sym}
 use Rattle.report.proofs.HeadsLaws.{headsMatch-short, headsMatch-by}
 use borrow.Author.Needs.{needs}

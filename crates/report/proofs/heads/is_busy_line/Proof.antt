@@ -1,4 +1,4 @@
--- The three tests are the definition's own.
+-- `report::heads::is_busy_line` meets its contract: the three tests are the definition's own.
 use Rattle.report.proofs.HeadsLaws.{isBusyLine-by}
 use borrow.Author.Needs.{needs}
 use Rattle.report.proofs.heads.is_busy_line.Statement.{statement}

@@ -1,4 +1,4 @@
--- The three tests are the definition's own.
+-- `report::heads::opens_report` meets its contract: the three tests are the definition's own.
 use Rattle.report.specs.Heads.{opensReport, stampHead, startHead, endHead}
 use Rattle.report.proofs.HeadsLaws.{opensReport-by}
 use borrow.Author.Needs.{needs}

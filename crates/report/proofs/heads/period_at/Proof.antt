@@ -1,4 +1,4 @@
--- Each arm compares with the head of the type it was chosen for.
+-- `report::heads::period_at` meets its contract: each arm compares with the head of the type it was chosen for.
 use Rattle.periods.specs.declared.BusyType.{BusyType}
 use Rattle.report.specs.Bytes.{periodHead}
 use Rattle.report.proofs.HeadsLaws.{has-head}

@@ -1,4 +1,4 @@
--- The loop keeps that writing the lines that are left makes all of them.
+-- `report::lines::put_periods` meets its contract: the loop keeps that writing the lines that are left makes all of them.
 use Prim.Native.Nat.{_≤_, _-_}
 use lib.ListN.{take}
 use Rattle.table.specs.Tables.{rows}
@@ -36,7 +36,14 @@ cast-put-period-2 : tie.Need-cast-put-period-2 Inv-loop μ-loop
 cast-put-period-2 c = omega (arith, c .shared-slice-known5 .given (c .before .before .before .before .loop .i))
 
 put-period-requires : tie.Need-put-period-requires Inv-loop μ-loop
-put-period-requires c κs = let n : NextLine _ _ _ _ = lines-ask (c .before .before .before .before .loop .inv .1) (row-next _ _ _ _ (c .before .before .before .loop-test .taken) (c .before .before .before .before .before .before .before .before .before .pre .0 .0) (c .before .before .before .before .before .before .before .before .before .pre .0 .1)) (c .before .before .before .before .before .before .before .before .before .pre .1 .1) in (n .room, n .from-limit, n .to-limit)
+put-period-requires c κs =
+    let starts-long = c .before .before .before .before .before .before .before .before .before .pre .0 .0 in
+    let ends-long = c .before .before .before .before .before .before .before .before .before .pre .0 .1 in
+    let room = c .before .before .before .before .before .before .before .before .before .pre .1 .1 in
+    let writing = c .before .before .before .before .loop .inv .1 in
+    let inside = c .before .before .before .loop-test .taken in
+    let next : NextLine _ _ _ _ = lines-ask writing (row-next _ _ _ _ inside starts-long ends-long) room in
+    (next .room, next .from-limit, next .to-limit)
 
 add-i : tie.Need-add-i Inv-loop μ-loop
 add-i c = omega arith
@@ -45,13 +52,27 @@ loop-less : tie.Need-loop-less Inv-loop μ-loop
 loop-less c = omega arith
 
 loop-again : tie.Need-loop-again Inv-loop μ-loop
-loop-again c = (omega arith, lines-next (c .before .before .before .before .before .before .before .loop .inv .1) (row-next _ _ _ _ (c .before .before .before .before .before .before .loop-test .taken) (c .before .before .before .before .before .before .before .before .before .before .before .before .pre .0 .0) (c .before .before .before .before .before .before .before .before .before .before .before .before .pre .0 .1)) (c .before .before .put-period .ensures))
+loop-again c =
+    let starts-long = c .before .before .before .before .before .before .before .before .before .before .before .before .pre .0 .0 in
+    let ends-long = c .before .before .before .before .before .before .before .before .before .before .before .before .pre .0 .1 in
+    let writing = c .before .before .before .before .before .before .before .loop .inv .1 in
+    let inside = c .before .before .before .before .before .before .loop-test .taken in
+    let line = c .before .before .put-period .ensures in
+    (omega arith, lines-next writing (row-next _ _ _ _ inside starts-long ends-long) line)
 
 same-length : tie.Need-same-length Inv-loop μ-loop
 same-length c = c .before .loop .inv .1 .same
 
 returns : tie.Need-returns Inv-loop μ-loop
-returns c = lines-end (c .before .loop .inv .1) (omega (arith, c .loop-test .left, rows-length (c .before .before .before .before .before .before .args .count) (c .before .before .before .before .before .before .args .starts .now) (c .before .before .before .before .before .before .args .ends .now) (c .before .before .before .before .before .before .pre .0 .0) (c .before .before .before .before .before .before .pre .0 .1)))
+returns c =
+    let count = c .before .before .before .before .before .before .args .count in
+    let ends = c .before .before .before .before .before .before .args .ends .now in
+    let starts = c .before .before .before .before .before .before .args .starts .now in
+    let starts-long = c .before .before .before .before .before .before .pre .0 .0 in
+    let ends-long = c .before .before .before .before .before .before .pre .0 .1 in
+    let writing = c .before .loop .inv .1 in
+    let ended = c .loop-test .left in
+    lines-end writing (omega (arith, ended, rows-length count starts ends starts-long ends-long))
 
 pub put-periods-spec : {M : Type 1} → statement M
 put-periods-spec =

@@ -1,4 +1,4 @@
--- Opening, periods and closing, one behind the other, are the report, and the room for it is known from their lengths.
+-- `report::lines::put_report` meets its contract: opening, periods and closing, one behind the other, are the report, and the room for it is known from their lengths.
 use Rattle.report.proofs.Writing.{put-report, opening-asks, types-good, types-room, closing-room}
 use Rattle.report.specs.Heads.{closing}
 use native.Mathlib.Omega.{arith}
@@ -10,13 +10,23 @@ put-opening-requires : tie.Need-put-opening-requires
 put-opening-requires c κs = opening-asks _ _ _ _ _ _ (c .before .before .pre .0) (c .before .before .pre .1 .1)
 
 put-types-requires : tie.Need-put-types-requires
-put-types-requires c κs = (c .before .before .before .before .before .before .pre .1 .0, (types-good _ _ _ _ _ _ (c .before .before .before .before .before .before .pre .0) (c .before .before .before .before .before .before .pre .1 .1), omega (arith, types-room _ _ _ _ _ _ (c .before .before .before .before .before .before .pre .0) (c .before .before .before .before .before .before .pre .1 .1) (c .before .before .before .put-opening .ensures))))
+put-types-requires c κs =
+    let writable = c .before .before .before .before .before .before .pre .0 in
+    let counts = c .before .before .before .before .before .before .pre .1 .0 in
+    let room = c .before .before .before .before .before .before .pre .1 .1 in
+    let opening = c .before .before .before .put-opening .ensures in
+    (counts, (types-good _ _ _ _ _ _ writable room, omega (arith, types-room _ _ _ _ _ _ writable room opening)))
 
 slice-aggregate-put-bytes : tie.Need-slice-aggregate-put-bytes
 slice-aggregate-put-bytes c = search needs
 
 put-bytes-requires : tie.Need-put-bytes-requires
-put-bytes-requires c κs = omega (arith, closing-room _ _ _ _ _ _ (c .before .before .before .before .before .before .before .before .before .before .before .pre .0) (c .before .before .before .before .before .before .before .before .before .before .before .pre .1 .1) (c .before .before .before .before .before .before .before .before .put-opening .ensures) (c .before .before .before .before .put-types .ensures))
+put-bytes-requires c κs =
+    let writable = c .before .before .before .before .before .before .before .before .before .before .before .pre .0 in
+    let room = c .before .before .before .before .before .before .before .before .before .before .before .pre .1 .1 in
+    let opening = c .before .before .before .before .before .before .before .before .put-opening .ensures in
+    let periods = c .before .before .before .before .put-types .ensures in
+    omega (arith, closing-room _ _ _ _ _ _ writable room opening periods)
 
 add-result : tie.Need-add-result
 add-result c = omega (arith, put-bytes-requires (c .before .before .before) (c .before .before .put-bytes .lifetimes))
@@ -26,7 +36,11 @@ same-length c = search needs
 
 returns : tie.Need-returns
 unfolding closing
-returns c = put-report _ _ _ _ _ _ (c .before .before .before .before .before .before .before .before .before .before .before .put-opening .ensures) (c .before .before .before .before .before .before .before .put-types .ensures) (c .before .before .put-bytes .ensures)
+returns c =
+    let opening = c .before .before .before .before .before .before .before .before .before .before .before .put-opening .ensures in
+    let periods = c .before .before .before .before .before .before .before .put-types .ensures in
+    let closing = c .before .before .put-bytes .ensures in
+    put-report _ _ _ _ _ _ opening periods closing
 
 pub put-report-spec : {M : Type 1} → statement M
 put-report-spec =

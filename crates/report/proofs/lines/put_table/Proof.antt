@@ -1,4 +1,4 @@
--- The rows of the table's columns are its periods.
+-- `report::lines::put_table` meets its contract: the rows of the table's columns are its periods.
 use Rattle.table.specs.Tables.{listed}
 use borrow.Author.Needs.{needs}
 use Rattle.report.proofs.lines.put_table.Statement.{statement}
@@ -6,7 +6,10 @@ use Rattle.report.proofs.lines.put_table.Tie as tie
 
 put-periods-requires : tie.Need-put-periods-requires
 unfolding listed
-put-periods-requires c κs = ((search needs, search needs), (c .before .before .before .before .before .before .before .before .pre .1 .0, c .before .before .before .before .before .before .before .before .pre .1 .1))
+put-periods-requires c κs =
+    let good = c .before .before .before .before .before .before .before .before .pre .1 .0 in
+    let room = c .before .before .before .before .before .before .before .before .pre .1 .1 in
+    ((search needs, search needs), (good, room))
 
 same-length : tie.Need-same-length
 same-length c = search needs

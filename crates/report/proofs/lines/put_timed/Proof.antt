@@ -1,4 +1,4 @@
--- Two runs of bytes, one behind the other, are one run.
+-- `report::lines::put_timed` meets its contract: two runs of bytes, one behind the other, are one run.
 use Rattle.report.proofs.Writing.{put-timed}
 use borrow.Author.Needs.{needs}
 use Rattle.report.proofs.lines.put_timed.Statement.{statement}

@@ -1,4 +1,4 @@
--- The lines of the three types stand one behind the other, each where the last one ended.
+-- `report::lines::put_types` meets its contract: the lines of the three types stand one behind the other, each where the last one ended.
 use Rattle.report.proofs.Writing.{busy-room, tentative-room, unavailable-room, put-types}
 use Rattle.report.specs.Bytes.{periodHead}
 use native.Mathlib.Omega.{arith}
@@ -18,21 +18,36 @@ slice-aggregate-put-table-2 c = search needs
 
 put-table-requires-2 : tie.Need-put-table-requires-2
 unfolding periodHead
-put-table-requires-2 c κs = (c .before .before .before .before .before .before .before .before .pre .0 .1, (c .before .before .before .before .before .before .before .before .pre .1 .0 .1, omega (arith, tentative-room _ _ _ _ _ (c .before .before .before .before .before .before .before .before .pre .1 .1) (c .before .before .before .before .put-table .ensures))))
+put-table-requires-2 c κs =
+    let few = c .before .before .before .before .before .before .before .before .pre .0 .1 in
+    let good = c .before .before .before .before .before .before .before .before .pre .1 .0 .1 in
+    let room = c .before .before .before .before .before .before .before .before .pre .1 .1 in
+    let busy = c .before .before .before .before .put-table .ensures in
+    (few, (good, omega (arith, tentative-room _ _ _ _ _ room busy)))
 
 slice-aggregate-put-table-3 : tie.Need-slice-aggregate-put-table-3
 slice-aggregate-put-table-3 c = search needs
 
 put-table-requires-3 : tie.Need-put-table-requires-3
 unfolding periodHead
-put-table-requires-3 c κs = (c .before .before .before .before .before .before .before .before .before .before .before .before .before .pre .0 .2, (c .before .before .before .before .before .before .before .before .before .before .before .before .before .pre .1 .0 .2, omega (arith, unavailable-room _ _ _ _ _ (c .before .before .before .before .before .before .before .before .before .before .before .before .before .pre .1 .1) (c .before .before .before .before .before .before .before .before .before .put-table .ensures) (c .before .before .before .before .put-table2 .ensures))))
+put-table-requires-3 c κs =
+    let few = c .before .before .before .before .before .before .before .before .before .before .before .before .before .pre .0 .2 in
+    let good = c .before .before .before .before .before .before .before .before .before .before .before .before .before .pre .1 .0 .2 in
+    let room = c .before .before .before .before .before .before .before .before .before .before .before .before .before .pre .1 .1 in
+    let busy = c .before .before .before .before .before .before .before .before .before .put-table .ensures in
+    let tentative = c .before .before .before .before .put-table2 .ensures in
+    (few, (good, omega (arith, unavailable-room _ _ _ _ _ room busy tentative)))
 
 same-length : tie.Need-same-length
 same-length c = search needs
 
 returns : tie.Need-returns
 unfolding periodHead
-returns c = put-types _ _ _ (c .before .before .before .before .before .before .before .before .before .before .before .before .put-table .ensures) (c .before .before .before .before .before .before .before .put-table2 .ensures) (c .before .before .put-table3 .ensures)
+returns c =
+    let busy = c .before .before .before .before .before .before .before .before .before .before .before .before .put-table .ensures in
+    let tentative = c .before .before .before .before .before .before .before .put-table2 .ensures in
+    let unavailable = c .before .before .put-table3 .ensures in
+    put-types _ _ _ busy tentative unavailable
 
 pub put-types-spec : {M : Type 1} → statement M
 put-types-spec =

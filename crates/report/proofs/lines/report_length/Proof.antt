@@ -1,4 +1,4 @@
--- The sum is the definition's own.
+-- `report::lines::report_length` meets its contract: the sum is the definition's own.
 use mathlib.Core.Path.{refl}
 use Rattle.report.specs.Bytes.{reportLength}
 use borrow.Author.Needs.{needs}
