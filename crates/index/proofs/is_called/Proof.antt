@@ -17,13 +17,22 @@ line-at-requires : tie.Need-line-at-requires
 line-at-requires c κs = c .before .before .before .before .before .pre
 
 slice-aggregate-same-name : tie.Need-slice-aggregate-same-name
-slice-aggregate-same-name c = sym (length-take-le _ _ (name-inside (c .before .before .before .before .before .before .before .pre) (c .before .before .before .name-length .ensures) (c .before .line-at .ensures)))
+slice-aggregate-same-name c =
+    let entry = c .before .before .before .before .before .before .before .pre in
+    let size = c .before .before .before .name-length .ensures in
+    let line = c .before .line-at .ensures in
+    sym (length-take-le _ _ (name-inside entry size line))
 
 same-name-requires : tie.Need-same-name-requires
 same-name-requires c κs = search needs
 
 returns-2 : tie.Need-returns-2
-returns-2 c = name-compared (c .before .before .before .before .before .before .before .before .pre) (now (c .before .before .before .before .before .before .before .before .args .name)) (c .before .before .before .before .name-length .ensures) (c .before .before .line-at .ensures) (c .same-name .ensures)
+returns-2 c =
+    let entry = c .before .before .before .before .before .before .before .before .pre in
+    let name = now (c .before .before .before .before .before .before .before .before .args .name) in
+    let size = c .before .before .before .before .name-length .ensures in
+    let line = c .before .before .line-at .ensures in
+    name-compared entry name size line (c .same-name .ensures)
 
 pub is-called-spec : {M : Type 1} → statement M
 is-called-spec =
