@@ -232,7 +232,8 @@ module _ {s rows : List ℕ} {i k q n j m : ℕ} (p : LineIs s i Begins) (w : Ro
   row-list =
       sym (items-components (record { items = with-component p w a c r; none-left = last; few = few; room = room; inside = small }))
       ∙ ap componentsIn (items-component p a c)
-      ∙ rw (back, w .begin, w .next) (ap (λ (x : List Component). record { begin = numberedLine s i; items = itemsBy s (i + 1); end = endOf 0 (delimitedBy s (i + 1)) } ∷ x) (items-components after-items))
+      ∙ rw (back, w .begin, w .next)
+      (ap (λ (x : List Component). record { begin = numberedLine s i; items = itemsBy s (i + 1); end = endOf 0 (delimitedBy s (i + 1)) } ∷ x) (items-components after-items))
 
   next-component : NextComponent s rows k m
   next-component =

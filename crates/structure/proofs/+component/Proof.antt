@@ -31,8 +31,22 @@ component-below t =
     and 4 component-kinds.ps (falls 4 component-kinds.ps _<_ μ-component t) component.Pre
 
 abbrev claims : ℕ → component-lts.Claims
-claims t =
-    (line-at-reads.Asked, line-at-reads.Learnt, name-length-reads.Asked, name-length-reads.Learnt, nesting-step-reads.Asked, nesting-step-reads.Learnt, value-reads.Asked, value-reads.Learnt, component-below t, component.Post, kind-of-reads.Asked, kind-of-reads.Learnt, put-row-reads.Asked, put-row-reads.Learnt)
+claims t = (
+  line-at-reads.Asked,
+  line-at-reads.Learnt,
+  name-length-reads.Asked,
+  name-length-reads.Learnt,
+  nesting-step-reads.Asked,
+  nesting-step-reads.Learnt,
+  value-reads.Asked,
+  value-reads.Learnt,
+  component-below t,
+  component.Post,
+  kind-of-reads.Asked,
+  kind-of-reads.Learnt,
+  put-row-reads.Asked,
+  put-row-reads.Learnt,
+)
 
 abbrev component-Inv-loop : component-lts.InvT-loop
 component-Inv-loop rows₀ s index n name first begun left i₀ k₀ rows i k = Reading s index name rows₀ rows n first begun left i k
@@ -67,7 +81,8 @@ component-enum-told t c = search needs
 component-value-requires : (t : ℕ) → component-lts.Need-value-requires (claims t) (component-at t) component.Post component-Inv-loop component-μ-loop
 component-value-requires t c κs = search needs
 
-component-opened : (t : ℕ) (c : component-lts.After-value (claims t) (component-at t) component.Post component-Inv-loop component-μ-loop) → Opened (c .before .before .before .before .before .before .before .loop .inv) (c .value .result .now)
+component-opened : (t : ℕ) (c : component-lts.After-value (claims t) (component-at t) component.Post component-Inv-loop component-μ-loop)
+    → Opened (c .before .before .before .before .before .before .before .loop .inv) (c .value .result .now)
 component-opened t c =
     reading-opens
     (c .before .before .before .before .before .before .before .loop .inv)
@@ -82,7 +97,9 @@ component-sub-component t c = omega (arith, component-opened t (c .before) .room
 
 component-component-requires : (t : ℕ) → component-lts.Need-component-requires (claims t) (component-at t) component.Post component-Inv-loop component-μ-loop
 component-component-requires t c κs =
-    (omega (arith, component-opened t (c .before) .room .some), (opened-ready (component-opened t (c .before)), omega (arith, c .before .before .before .before .before .before .before .before .before .before .before .before .before .pre .1 .1)))
+    let levels = c .before .before .before .before .before .before .before .before .before .before .before .before .before .pre .1 .1 in
+    let opened = component-opened t (c .before) in
+    (omega (arith, opened .room .some), (opened-ready opened, omega (arith, levels)))
 
 component-enum-known-j : (t : ℕ) → component-lts.Need-enum-known-j (claims t) (component-at t) component.Post component-Inv-loop component-μ-loop
 component-enum-known-j t c = search needs
@@ -92,27 +109,48 @@ component-kind-of-requires t c κs = search needs
 
 component-cast-t30 : (t : ℕ) → component-lts.Need-cast-t30 (claims t) (component-at t) component.Post component-Inv-loop component-μ-loop
 component-cast-t30 t c =
-    omega
-    (arith, c .before .before .before .before .before .before .before .before .before .before .before .before .before .before .before .loop-test .taken, c .before .before .before .before .before .before .before .before .before .before .before .before .before .before .before .before .before .before .before .before .before .pre .1 .0 .many)
+    let turn = c .before .before .before .before .before .before .before .before .before .before .before .before .before .before .before in
+    let many = turn .before .before .before .before .before .before .pre .1 .0 .many in
+    let inside = turn .loop-test .taken in
+    omega (arith, inside, many)
 
 component-cast-t31 : (t : ℕ) → component-lts.Need-cast-t31 (claims t) (component-at t) component.Post component-Inv-loop component-μ-loop
 component-cast-t31 t c =
-    let h = opened-row (component-opened t (c .before .before .before .before .before .before .before .before .before)) _ (c .before .before .before .before .before .before .before .component .ensures) _ _ (c .before .before .before .j .given .1) (omega arith) in
-    omega (arith, h .2, c .before .before .before .before .before .before .before .before .before .before .before .before .before .before .before .before .before .before .before .before .before .pre .1 .0 .many)
+    let called = c .before .before .before .before .before .before .before in
+    let many = called .before .before .before .before .before .before .before .before .before .before .before .before .before .before .pre .1 .0 .many in
+    let opened = component-opened t (called .before .before) in
+    let read = called .component .ensures in
+    let closed = c .before .before .before .j .given .1 in
+    let row = opened-row opened _ read _ _ closed (omega arith) in
+    omega (arith, row .2, many)
 
 component-cast-t32 : (t : ℕ) → component-lts.Need-cast-t32 (claims t) (component-at t) component.Post component-Inv-loop component-μ-loop
 component-cast-t32 t c =
-    let h = opened-row (component-opened t (c .before .before .before .before .before .before .before .before .before)) _ (c .before .before .before .before .before .before .before .component .ensures) _ _ (c .before .before .before .j .given .1) (omega arith) in
-    omega (arith, h .3)
+    let called = c .before .before .before .before .before .before .before in
+    let opened = component-opened t (called .before .before) in
+    let read = called .component .ensures in
+    let closed = c .before .before .before .j .given .1 in
+    let row = opened-row opened _ read _ _ closed (omega arith) in
+    omega (arith, row .3)
 
 component-put-row-requires : (t : ℕ) → component-lts.Need-put-row-requires (claims t) (component-at t) component.Post component-Inv-loop component-μ-loop
 component-put-row-requires t c κs =
-    (opened-row (component-opened t (c .before .before .before .before .before .before .before .before .before)) _ (c .before .before .before .before .before .before .before .component .ensures) _ _ (c .before .before .before .j .given .1) (omega arith)) .0
+    let called = c .before .before .before .before .before .before .before in
+    let opened = component-opened t (called .before .before) in
+    let read = called .component .ensures in
+    let closed = c .before .before .before .j .given .1 in
+    (opened-row opened _ read _ _ closed (omega arith)) .0
 
 component-loop-less : (t : ℕ) → component-lts.Need-loop-less (claims t) (component-at t) component.Post component-Inv-loop component-μ-loop
 component-loop-less t c =
-    let h = opened-row (component-opened t (c .before .before .before .before .before .before .before .before .before .before .before .before)) _ (c .before .before .before .before .before .before .before .before .before .before .component .ensures) _ _ (c .before .before .before .before .before .before .j .given .1) (omega arith) in
-    omega (arith, c .before .before .before .before .before .before .before .before .before .before .before .before .before .before .before .before .before .before .loop-test .taken, h .1)
+    let called = c .before .before .before .before .before .before .before .before .before .before in
+    let turn = called .before .before .before .before .before .before .before .before in
+    let inside = turn .loop-test .taken in
+    let opened = component-opened t (called .before .before) in
+    let read = called .component .ensures in
+    let closed = c .before .before .before .before .before .before .j .given .1 in
+    let row = opened-row opened _ read _ _ closed (omega arith) in
+    omega (arith, inside, row .1)
 
 component-loop-again : (t : ℕ) → component-lts.Need-loop-again (claims t) (component-at t) component.Post component-Inv-loop component-μ-loop
 component-loop-again t c =

@@ -48,7 +48,12 @@ begun c =
     (c .value .ensures)
 
 component-requires : tie.Need-component-requires
-component-requires c κs = (file-ready (c .before .before .before .before .before .before .before .before .before .before .pre .0) (c .before .before .before .before .before .before .before .before .before .before .pre .1 .0) (c .before .before .before .before .before .before .if1 .left) _ (c .before .before .before .before .before .before .before .before .before .before .pre .1 .1), omega arith)
+component-requires c κs =
+    let lines = c .before .before .before .before .before .before .before .before .before .before .pre .0 in
+    let small = c .before .before .before .before .before .before .before .before .before .before .pre .1 .0 in
+    let room = c .before .before .before .before .before .before .before .before .before .before .pre .1 .1 in
+    let some-line = c .before .before .before .before .before .before .if1 .left in
+    (file-ready lines small some-line _ room, omega arith)
 
 enum-known-j : tie.Need-enum-known-j
 enum-known-j c = search needs
@@ -60,15 +65,33 @@ same-length : tie.Need-same-length
 same-length c = search needs
 
 returns-3 : tie.Need-returns-3
-returns-3 c = file-more (begun (c .before .before .before .before .before .before .before .before)) _ _ (c .before .before .before .before .before .before .component .ensures) _ _ _ (c .before .before .j .given .1) (c .if3 .taken)
+returns-3 c =
+    let called = c .before .before .before .before .before .before in
+    let calendar = begun (called .before .before) in
+    let read = called .component .ensures in
+    let closed = c .before .before .j .given .1 in
+    let more = c .if3 .taken in
+    file-more calendar _ _ read _ _ _ closed more
 
 cast-t22 : tie.Need-cast-t22
 cast-t22 c =
-    let h = file-last (begun (c .before .before .before .before .before .before .before .before .before)) _ _ (c .before .before .before .before .before .before .before .component .ensures) _ _ (c .before .before .before .j .given .1) in
-    omega (arith, h .0, c .before .before .before .before .before .before .before .before .before .before .before .before .before .before .before .before .before .before .pre .0 .few, c .before .before .before .before .before .before .before .before .before .before .before .before .before .before .before .before .before .before .pre .1 .0)
+    let called = c .before .before .before .before .before .before .before in
+    let few = called .before .before .before .before .before .before .before .before .before .before .before .pre .0 .few in
+    let small = called .before .before .before .before .before .before .before .before .before .before .before .pre .1 .0 in
+    let calendar = begun (called .before .before) in
+    let read = called .component .ensures in
+    let closed = c .before .before .before .j .given .1 in
+    let last = file-last calendar _ _ read _ _ closed in
+    omega (arith, last .0, few, small)
 
 cast-t23 : tie.Need-cast-t23
-cast-t23 c = let h = file-last (begun (c .before .before .before .before .before .before .before .before .before)) _ _ (c .before .before .before .before .before .before .before .component .ensures) _ _ (c .before .before .before .j .given .1) in omega (arith, h .1)
+cast-t23 c =
+    let called = c .before .before .before .before .before .before .before in
+    let calendar = begun (called .before .before) in
+    let read = called .component .ensures in
+    let closed = c .before .before .before .j .given .1 in
+    let last = file-last calendar _ _ read _ _ closed in
+    omega (arith, last .1)
 
 kind-of-requires : tie.Need-kind-of-requires
 kind-of-requires c κs = search needs

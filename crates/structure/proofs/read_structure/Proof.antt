@@ -12,7 +12,12 @@ enum-known-n : tie.Need-enum-known-n
 enum-known-n c = search needs
 
 read-rows-requires : tie.Need-read-rows-requires
-read-rows-requires c κs = (filled-lines _ (c .before .before .before .before .before .before .before .fill-index .ensures) (c .before .before .before .n .given .1), (c .before .before .before .before .before .before .before .before .before .before .before .before .pre .1 .0, c .before .before .before .before .before .before .before .before .before .before .before .before .pre .1 .1))
+read-rows-requires c κs =
+    let small = c .before .before .before .before .before .before .before .before .before .before .before .before .pre .1 .0 in
+    let room = c .before .before .before .before .before .before .before .before .before .before .before .before .pre .1 .1 in
+    let filled = c .before .before .before .before .before .before .before .fill-index .ensures in
+    let counted = c .before .before .before .n .given .1 in
+    (filled-lines _ filled counted, (small, room))
 
 enum-known-b : tie.Need-enum-known-b
 enum-known-b c = search needs

@@ -21,7 +21,13 @@ next-row-requires : tie.Need-next-row-requires
 next-row-requires c κs = search needs
 
 returns-2 : tie.Need-returns-2
-returns-2 c = item-inner _ _ _ _ _ (c .before .before .before .before .before .if1 .left) (c .before .before .before .before .if2 .taken) _ _ (sym (c .before .before .before .first-line .ensures) ∙ c .before .before .if3 .taken) (c .before .line-behind .ensures) (c .next-row .ensures)
+returns-2 c =
+    let inside = c .before .before .before .before .before .if1 .left in
+    let row-left = c .before .before .before .before .if2 .taken in
+    let first = sym (c .before .before .before .first-line .ensures) ∙ c .before .before .if3 .taken in
+    let behind = c .before .line-behind .ensures in
+    let next = c .next-row .ensures in
+    item-inner _ _ _ _ _ inside row-left _ _ first behind next
 
 returns-3 : tie.Need-returns-3
 returns-3 c = item-other _ _ _ _ _ (c .before .before .before .if1 .left) (λ e. c .if3 .left (c .before .first-line .ensures ∙ e))
