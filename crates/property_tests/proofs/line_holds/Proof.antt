@@ -1,4 +1,4 @@
--- A line of another name fails; one of the name goes by its value, and then by its parameters.
+-- `property_tests::line_holds` meets its contract: a line of another name fails; one of the name goes by its value, and then by its parameters.
 use borrow.Author.Tests.{not-true, not-false}
 use Rattle.property_tests.proofs.PropertyTests.{line-other, line-valued, line-failed}
 use borrow.Author.Needs.{needs}

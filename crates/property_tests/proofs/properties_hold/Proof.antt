@@ -1,4 +1,4 @@
--- Every record so far passes, and the first that does not decides.
+-- `property_tests::properties_hold` meets its contract: every record so far passes, and the first that does not decides.
 use Prim.Native.Nat.{_-_, _≤_}
 use mathlib.Core.Bool.{true}
 use borrow.Author.Tests.{not-true, not-false}
@@ -22,7 +22,12 @@ loop-holds : tie.Need-loop-holds Inv-loop μ-loop
 loop-holds c = (omega arith, every-start _)
 
 property-passes-requires : tie.Need-property-passes-requires Inv-loop μ-loop
-property-passes-requires c κs = (c .before .before .before .before .before .before .before .pre .0, (c .before .before .before .before .before .before .before .pre .1 .0, (c .loop-test .taken, c .before .before .before .before .before .before .before .pre .1 .1)))
+property-passes-requires c κs =
+    let good = c .before .before .before .before .before .before .before .pre .1 .0 in
+    let lines = c .before .before .before .before .before .before .before .pre .1 .1 in
+    let fits = c .before .before .before .before .before .before .before .pre .0 in
+    let inside = c .loop-test .taken in
+    (fits, (good, (inside, lines)))
 
 returns : tie.Need-returns Inv-loop μ-loop
 unfolding propertiesHold

@@ -1,4 +1,4 @@
--- The flag decides which of the two questions is asked; the record's texts are looked up first.
+-- `property_tests::property_holds` meets its contract: the flag decides which of the two questions is asked; the record's texts are looked up first.
 use Rattle.property_tests.proofs.PropertyTests.{property-name, property-text, property-absent, property-there}
 use borrow.Author.Needs.{needs}
 use Rattle.property_tests.proofs.property_holds.Statement.{statement}
@@ -8,7 +8,12 @@ property-at-requires : tie.Need-property-at-requires
 property-at-requires c κs = search needs
 
 text-of-requires : tie.Need-text-of-requires
-text-of-requires c κs = (c .before .before .before .before .before .pre .0, property-name _ _ _ (c .property-at .ensures) (c .before .before .before .before .before .pre .1 .0) (c .before .before .before .before .before .pre .1 .1 .0))
+text-of-requires c κs =
+    let inside = c .before .before .before .before .before .pre .1 .1 .0 in
+    let good = c .before .before .before .before .before .pre .1 .0 in
+    let fits = c .before .before .before .before .before .pre .0 in
+    let read = c .property-at .ensures in
+    (fits, property-name _ _ _ read good inside)
 
 some-named-requires : tie.Need-some-named-requires
 some-named-requires c κs = (c .before .before .before .before .before .before .before .before .pre .1 .1 .1 .0, c .before .before .before .before .before .before .before .before .pre .1 .1 .1 .1)

@@ -1,4 +1,4 @@
--- A record of another component asks nothing of these lines.
+-- `property_tests::property_passes` meets its contract: a record of another component asks nothing of these lines.
 use Rattle.property_tests.proofs.PropertyTests.{property-asked, property-unasked}
 use borrow.Author.Needs.{needs}
 use Rattle.property_tests.proofs.property_passes.Statement.{statement}

@@ -1,4 +1,4 @@
--- No line so far holds, so the lines that are left decide.
+-- `property_tests::some_line` meets its contract: no line so far holds, so the lines that are left decide.
 use Rattle.property_tests.specs.PropertyTests.{someLine}
 use Rattle.property_tests.proofs.PropertyTests.{holding-lines}
 use Rattle.structure.proofs.ItemsLaws.{property-at, inner-at, no-item-at}
@@ -32,7 +32,12 @@ next-row-requires : tie.Need-next-row-requires Inv-loop μ-loop
 next-row-requires c κs = c .before .before .before .before .before .before .before .before .pre .1 .1 .1 .1 .1 .room
 
 loop-holds : tie.Need-loop-holds Inv-loop μ-loop
-loop-holds c = seeking-start _ (c .before .before .before .before .before .before .before .before .before .pre .1 .1 .1 .1 .1) (c .before .before .first-line .ensures) (c .before .line-behind .ensures) (c .next-row .ensures)
+loop-holds c =
+    let row = c .before .before .before .before .before .before .before .before .before .pre .1 .1 .1 .1 .1 in
+    let first = c .before .before .first-line .ensures in
+    let behind = c .before .line-behind .ensures in
+    let next = c .next-row .ensures in
+    seeking-start _ row first behind next
 
 item-at-requires : tie.Need-item-at-requires Inv-loop μ-loop
 item-at-requires c κs = ((c .loop .inv .left .few, c .loop .inv .left .room), omega (arith, seeking-small (c .loop .inv), c .loop .inv .left .inside))
@@ -62,7 +67,12 @@ add-i : tie.Need-add-i Inv-loop μ-loop
 add-i c = omega (arith, seeking-small (c .before .before .before .before .before .loop .inv), c .before .before .before .before .before .loop .inv .left .inside)
 
 loop-less : tie.Need-loop-less Inv-loop μ-loop
-loop-less c = let h = property-at (c .before .before .before .before .before .loop .inv .left) (c .before .before .before .before .item-at .ensures) (c .before .before .enum-told .given .1) in omega (arith, h .onward)
+loop-less c =
+    let seeking = c .before .before .before .before .before .loop .inv in
+    let read = c .before .before .before .before .item-at .ensures in
+    let property = c .before .before .enum-told .given .1 in
+    let item = property-at (seeking .left) read property in
+    omega (arith, item .onward)
 
 loop-again : tie.Need-loop-again Inv-loop μ-loop
 loop-again c =
@@ -75,7 +85,12 @@ enum-known-next : tie.Need-enum-known-next Inv-loop μ-loop
 enum-known-next c = search needs
 
 loop-less-2 : tie.Need-loop-less-2 Inv-loop μ-loop
-loop-less-2 c = let h = inner-at (c .before .before .before .before .loop .inv .left) _ _ (c .before .before .before .item-at .ensures) (c .before .next .given .1) in omega (arith, h .onward, h .within)
+loop-less-2 c =
+    let seeking = c .before .before .before .before .loop .inv in
+    let read = c .before .before .before .item-at .ensures in
+    let inner = c .before .next .given .1 in
+    let item = inner-at (seeking .left) _ _ read inner in
+    omega (arith, item .onward, item .within)
 
 loop-again-2 : tie.Need-loop-again-2 Inv-loop μ-loop
 loop-again-2 c =
@@ -87,7 +102,11 @@ enum-told-2 : tie.Need-enum-told-2 Inv-loop μ-loop
 enum-told-2 c = search needs
 
 returns-2 : tie.Need-returns-2 Inv-loop μ-loop
-returns-2 c = seeking-end (holding-lines _ _ _ _) (c .before .before .before .loop .inv) (no-item-at (c .before .before .before .loop .inv .left) (c .before .before .item-at .ensures) (c .enum-told2 .given .1))
+returns-2 c =
+    let seeking = c .before .before .before .loop .inv in
+    let read = c .before .before .item-at .ensures in
+    let done = c .enum-told2 .given .1 in
+    seeking-end (holding-lines _ _ _ _) seeking (no-item-at (seeking .left) read done)
 
 pub some-line-spec : {M : Type 1} → statement M
 some-line-spec =

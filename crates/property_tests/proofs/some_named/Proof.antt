@@ -1,4 +1,4 @@
--- No line so far has the name, so the lines that are left decide.
+-- `property_tests::some_named` meets its contract: no line so far has the name, so the lines that are left decide.
 use Rattle.property_tests.specs.PropertyTests.{someNamed}
 use Rattle.property_tests.proofs.PropertyTests.{named-lines, named-line}
 use Rattle.structure.proofs.ItemsLaws.{property-at, inner-at, no-item-at}
@@ -58,7 +58,12 @@ add-i : tie.Need-add-i Inv-loop μ-loop
 add-i c = omega (arith, seeking-small (c .before .before .before .before .before .loop .inv), c .before .before .before .before .before .loop .inv .left .inside)
 
 loop-less : tie.Need-loop-less Inv-loop μ-loop
-loop-less c = let h = property-at (c .before .before .before .before .before .loop .inv .left) (c .before .before .before .before .item-at .ensures) (c .before .before .enum-told .given .1) in omega (arith, h .onward)
+loop-less c =
+    let seeking = c .before .before .before .before .before .loop .inv in
+    let read = c .before .before .before .before .item-at .ensures in
+    let property = c .before .before .enum-told .given .1 in
+    let item = property-at (seeking .left) read property in
+    omega (arith, item .onward)
 
 loop-again : tie.Need-loop-again Inv-loop μ-loop
 loop-again c =
@@ -71,16 +76,29 @@ enum-known-next : tie.Need-enum-known-next Inv-loop μ-loop
 enum-known-next c = search needs
 
 loop-less-2 : tie.Need-loop-less-2 Inv-loop μ-loop
-loop-less-2 c = let h = inner-at (c .before .before .before .before .loop .inv .left) _ _ (c .before .before .before .item-at .ensures) (c .before .next .given .1) in omega (arith, h .onward, h .within)
+loop-less-2 c =
+    let seeking = c .before .before .before .before .loop .inv in
+    let read = c .before .before .before .item-at .ensures in
+    let inner = c .before .next .given .1 in
+    let item = inner-at (seeking .left) _ _ read inner in
+    omega (arith, item .onward, item .within)
 
 loop-again-2 : tie.Need-loop-again-2 Inv-loop μ-loop
-loop-again-2 c = seeking-inner (named-lines _) (c .before .before .before .before .loop .inv) (inner-at (c .before .before .before .before .loop .inv .left) _ _ (c .before .before .before .item-at .ensures) (c .before .next .given .1))
+loop-again-2 c =
+    let seeking = c .before .before .before .before .loop .inv in
+    let read = c .before .before .before .item-at .ensures in
+    let inner = c .before .next .given .1 in
+    seeking-inner (named-lines _) seeking (inner-at (seeking .left) _ _ read inner)
 
 enum-told-2 : tie.Need-enum-told-2 Inv-loop μ-loop
 enum-told-2 c = search needs
 
 returns-2 : tie.Need-returns-2 Inv-loop μ-loop
-returns-2 c = seeking-end (named-lines _) (c .before .before .before .loop .inv) (no-item-at (c .before .before .before .loop .inv .left) (c .before .before .item-at .ensures) (c .enum-told2 .given .1))
+returns-2 c =
+    let seeking = c .before .before .before .loop .inv in
+    let read = c .before .before .item-at .ensures in
+    let done = c .enum-told2 .given .1 in
+    seeking-end (named-lines _) seeking (no-item-at (seeking .left) read done)
 
 pub some-named-spec : {M : Type 1} → statement M
 some-named-spec =

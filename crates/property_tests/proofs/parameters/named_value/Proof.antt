@@ -1,4 +1,4 @@
--- A parameter of another name has no value that is asked for.
+-- `property_tests::parameters::named_value` meets its contract: a parameter of another name has no value that is asked for.
 use Rattle.property_tests.proofs.PropertyTests.{named-value, other-value}
 use borrow.Author.Needs.{needs}
 use Rattle.property_tests.proofs.parameters.named_value.Statement.{statement}

@@ -1,4 +1,4 @@
--- The flag decides which of the two questions is asked; the record's texts are looked up first.
+-- `property_tests::parameters::parameter_holds` meets its contract: the flag decides which of the two questions is asked; the record's texts are looked up first.
 use Rattle.property_tests.proofs.PropertyTests.{parameter-absent, parameter-there}
 use borrow.Author.Needs.{needs}
 use Rattle.property_tests.proofs.parameters.parameter_holds.Statement.{statement}

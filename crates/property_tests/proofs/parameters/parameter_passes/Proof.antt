@@ -1,4 +1,4 @@
--- A record of another property asks nothing of the line.
+-- `property_tests::parameters::parameter_passes` meets its contract: a record of another property asks nothing of the line.
 use Rattle.property_tests.proofs.PropertyTests.{parameter-name, parameter-text, parameter-asked, parameter-unasked}
 use borrow.Author.Needs.{needs}
 use Rattle.property_tests.proofs.parameters.parameter_passes.Statement.{statement}

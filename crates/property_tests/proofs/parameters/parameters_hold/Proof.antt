@@ -1,4 +1,4 @@
--- Every record so far passes, and the first that does not decides.
+-- `property_tests::parameters::parameters_hold` meets its contract: every record so far passes, and the first that does not decides.
 use Rattle.property_tests.specs.PropertyTests.{parameterPasses, parametersHold}
 use mathlib.Core.Bool.{true}
 use Rattle.line.specs.Reading.{lineOf}

@@ -1,4 +1,4 @@
--- No value of a parameter before the semicolon holds up, so the parameters from it on decide.
+-- `property_tests::parameters::some_named` meets its contract: no value of a parameter before the semicolon holds up, so the parameters from it on decide.
 use Prim.Native.Nat.{_-_}
 use lib.ListN.{length}
 use Rattle.line.proofs.ReadingParameters.{next-rises, next-inside}
@@ -51,10 +51,19 @@ returns c =
     (c .before .before .before .before .before .before .before .head .ensures) (c .if1 .taken)
 
 loop-less : tie.Need-loop-less Inv-loop μ-loop
-loop-less c = omega (arith, next-rises _ _ _ (c .before .before .before .find2 .ensures), next-inside _ _ _ (c .before .before .before .before .loop-test .taken) (c .before .before .before .find2 .ensures))
+loop-less c =
+    let inside = c .before .before .before .before .loop-test .taken in
+    let next = c .before .before .before .find2 .ensures in
+    omega (arith, next-rises _ _ _ next, next-inside _ _ _ inside next)
 
 loop-again : tie.Need-loop-again Inv-loop μ-loop
-loop-again c = looking-next _ _ (c .before .before .before .before .before .loop .inv) (c .before .before .before .before .loop-test .taken) (c .before .before .before .find2 .ensures) (c .before .named-value .ensures) (c .if1 .left)
+loop-again c =
+    let looking = c .before .before .before .before .before .loop .inv in
+    let inside = c .before .before .before .before .loop-test .taken in
+    let next = c .before .before .before .find2 .ensures in
+    let tested = c .before .named-value .ensures in
+    let fails = c .if1 .left in
+    looking-next _ _ looking inside next tested fails
 
 returns-2 : tie.Need-returns-2 Inv-loop μ-loop
 returns-2 c = looking-end _ _ (c .before .loop .inv) _ (c .loop-test .left) (c .before .before .before .head .ensures)

@@ -1,4 +1,4 @@
--- No value so far holds up, so those from here on decide.
+-- `property_tests::parameters::some_value` meets its contract: no value so far holds up, so those from here on decide.
 use Rattle.property_tests.proofs.PropertyTests.{Trying, trying-start, trying-next, trying-found, trying-end, value-rises, value-inside}
 use Prim.Native.Nat.{_-_, _+_}
 use lib.ListN.{length}
@@ -38,7 +38,13 @@ text-passes-requires : tie.Need-text-passes-requires Inv-loop μ-loop
 text-passes-requires c κs = search needs
 
 returns : tie.Need-returns Inv-loop μ-loop
-returns c = trying-found _ _ (c .before .before .before .before .before .loop .inv) (c .before .before .before .before .find .ensures) (c .before .before .quotes-off .ensures) (c .before .text-passes .ensures) (c .if1 .taken)
+returns c =
+    let trying = c .before .before .before .before .before .loop .inv in
+    let next = c .before .before .before .before .find .ensures in
+    let value = c .before .before .quotes-off .ensures in
+    let tested = c .before .text-passes .ensures in
+    let holds = c .if1 .taken in
+    trying-found _ _ trying next value tested holds
 
 returns-2 : tie.Need-returns-2 Inv-loop μ-loop
 returns-2 c =

@@ -1,4 +1,4 @@
--- Without a text there are no bytes; any other is looked up.
+-- `property_tests::texts::text_or` meets its contract: without a text there are no bytes; any other is looked up.
 use Rattle.property_tests.proofs.PropertyTests.{text-none, text-some}
 use borrow.Author.Needs.{needs}
 use Rattle.property_tests.proofs.texts.text_or.Statement.{statement}

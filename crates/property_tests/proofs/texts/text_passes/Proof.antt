@@ -1,4 +1,4 @@
--- Without a text any value holds up; with one, flag 2 turns the answer round.
+-- `property_tests::texts::text_passes` meets its contract: without a text any value holds up; with one, flag 2 turns the answer round.
 use Rattle.property_tests.proofs.PropertyTests.{passes-none, passes-negated, passes-plain}
 use borrow.Author.Needs.{needs}
 use Rattle.property_tests.proofs.texts.text_passes.Statement.{statement}
