@@ -225,7 +225,8 @@ unfolding offsetOf
 offset-minus [] h e p q = absurd (h refl)
 offset-minus (b ∷ s) h e p q = q ∙ rw (p, behind b s, eq-eqb b 45 e)
 
-pub offset-plus : (s : List ℕ) {a : Number} {r : Offset} → (length s ≡ 0 → ⊥) → (getD s 0 0 ≡ 45 → ⊥) → getD s 0 0 ≡ 43 → a ≡ sizeOf (take (length s - 1) (drop 1 s)) → r ≡ withSign false a → r ≡ offsetOf s
+pub offset-plus : (s : List ℕ) {a : Number} {r : Offset}
+    → (length s ≡ 0 → ⊥) → (getD s 0 0 ≡ 45 → ⊥) → getD s 0 0 ≡ 43 → a ≡ sizeOf (take (length s - 1) (drop 1 s)) → r ≡ withSign false a → r ≡ offsetOf s
 unfolding offsetOf
 offset-plus [] h k e p q = absurd (h refl)
 offset-plus (b ∷ s) h k e p q = q ∙ rw (p, behind b s, ne-eqb b 45 k, eq-eqb b 43 e)

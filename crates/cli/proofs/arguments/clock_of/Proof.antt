@@ -1,4 +1,4 @@
--- Two digits, a colon and two digits, or no clock.
+-- `cli::arguments::clock_of` meets its contract: two digits, a colon and two digits, or no clock.
 use Rattle.cli.proofs.ArgumentsLaws.{clock-length, clock-colon, clock-of}
 use native.Mathlib.Omega.{arith}
 use Rattle.cli.proofs.arguments.clock_of.Statement.{statement}
@@ -41,7 +41,13 @@ hours-minutes-requires : tie.Need-hours-minutes-requires
 hours-minutes-requires c κs = omega arith
 
 returns-3 : tie.Need-returns-3
-returns-3 c = clock-of _ (c .before .before .before .before .before .before .before .if1 .left) (c .before .before .before .before .before .if2 .left) (c .before .before .before .decimal-of .ensures) (c .before .decimal-of2 .ensures) (c .hours-minutes .ensures)
+returns-3 c =
+    let five = c .before .before .before .before .before .before .before .if1 .left in
+    let colon = c .before .before .before .before .before .if2 .left in
+    let hours = c .before .before .before .decimal-of .ensures in
+    let minutes = c .before .decimal-of2 .ensures in
+    let clock = c .hours-minutes .ensures in
+    clock-of _ five colon hours minutes clock
 
 pub clock-of-spec : {M : Type 1} → statement M
 clock-of-spec =

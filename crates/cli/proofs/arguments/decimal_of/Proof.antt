@@ -1,4 +1,4 @@
--- The loop keeps that the digits left, behind the number so far, decide.
+-- `cli::arguments::decimal_of` meets its contract: the loop keeps that the digits left, behind the number so far, decide.
 use mathlib.Core.Path.{sym, _∙_}
 use lib.ListN.{length}
 use Prim.Native.Nat.{_-_}
@@ -36,13 +36,21 @@ loop-less : tie.Need-loop-less Inv-loop μ-loop
 loop-less c = omega arith
 
 loop-again : tie.Need-loop-again Inv-loop μ-loop
-loop-again c = digits-more (c .before .before .before .before .before .before .loop .inv) (c .before .before .before .before .before .loop-test .taken) (sym (c .before .before .before .with-digit .ensures) ∙ c .before .more .given .1)
+loop-again c =
+    let digits = c .before .before .before .before .before .before .loop .inv in
+    let inside = c .before .before .before .before .before .loop-test .taken in
+    let more = sym (c .before .before .before .with-digit .ensures) ∙ c .before .more .given .1 in
+    digits-more digits inside more
 
 enum-told : tie.Need-enum-told Inv-loop μ-loop
 enum-told c = search needs
 
 returns-2 : tie.Need-returns-2 Inv-loop μ-loop
-returns-2 c = digits-stop (c .before .before .before .before .before .loop .inv) (c .before .before .before .before .loop-test .taken) (sym (c .before .before .with-digit .ensures) ∙ c .enum-told .given .1)
+returns-2 c =
+    let digits = c .before .before .before .before .before .loop .inv in
+    let inside = c .before .before .before .before .loop-test .taken in
+    let stop = sym (c .before .before .with-digit .ensures) ∙ c .enum-told .given .1 in
+    digits-stop digits inside stop
 
 returns-3 : tie.Need-returns-3 Inv-loop μ-loop
 returns-3 c = digits-end (c .before .loop .inv) (c .loop-test .left)

@@ -1,4 +1,4 @@
--- Both bounds are tested before the product, so that it fits.
+-- `cli::arguments::hours_minutes` meets its contract: both bounds are tested before the product, so that it fits.
 use Rattle.cli.proofs.ArgumentsLaws.{hours-bad, minutes-bad, hours-large, minutes-large, hours-of}
 use borrow.Author.Needs.{needs}
 use Rattle.cli.proofs.arguments.hours_minutes.Statement.{statement}

@@ -1,4 +1,4 @@
--- A second within the limits is a number, and any other is none.
+-- `cli::arguments::in_limits` meets its contract: a second within the limits is a number, and any other is none.
 use Rattle.cli.proofs.ArgumentsLaws.{limits-at, limits-outside}
 use borrow.Author.Needs.{needs}
 use Rattle.cli.proofs.arguments.in_limits.Statement.{statement}

@@ -1,4 +1,4 @@
--- The last four bytes decide, and a shorter name has not four.
+-- `cli::arguments::is_hex_name` meets its contract: the last four bytes decide, and a shorter name has not four.
 use Rattle.cli.proofs.ArgumentsLaws.{hex-short, hex-end}
 use borrow.Author.Needs.{needs}
 use Rattle.cli.proofs.arguments.is_hex_name.Statement.{statement}

@@ -1,4 +1,4 @@
--- The first byte tells the sign, and what is behind it the size.
+-- `cli::arguments::offset_of` meets its contract: the first byte tells the sign, and what is behind it the size.
 use Rattle.cli.proofs.ArgumentsLaws.{offset-none, offset-minus, offset-plus, offset-bare}
 use borrow.Author.Needs.{needs}
 use Rattle.cli.proofs.arguments.offset_of.Statement.{statement}
@@ -47,7 +47,13 @@ with-sign-requires-2 : tie.Need-with-sign-requires-2
 with-sign-requires-2 c κs = search needs
 
 returns-3 : tie.Need-returns-3
-returns-3 c = offset-plus _ (c .before .before .before .before .before .before .before .if1 .left) (c .before .before .before .before .before .if2 .left) (c .before .before .before .if3 .taken) (c .before .size-of2 .ensures) (c .with-sign2 .ensures)
+returns-3 c =
+    let some = c .before .before .before .before .before .before .before .if1 .left in
+    let no-minus = c .before .before .before .before .before .if2 .left in
+    let plus = c .before .before .before .if3 .taken in
+    let size = c .before .size-of2 .ensures in
+    let signed = c .with-sign2 .ensures in
+    offset-plus _ some no-minus plus size signed
 
 size-of-requires-3 : tie.Need-size-of-requires-3
 size-of-requires-3 c κs = search needs
@@ -56,7 +62,13 @@ with-sign-requires-3 : tie.Need-with-sign-requires-3
 with-sign-requires-3 c κs = search needs
 
 returns-4 : tie.Need-returns-4
-returns-4 c = offset-bare _ (c .before .before .before .before .before .before .if1 .left) (c .before .before .before .before .if2 .left) (c .before .before .if3 .left) (c .before .size-of3 .ensures) (c .with-sign3 .ensures)
+returns-4 c =
+    let some = c .before .before .before .before .before .before .if1 .left in
+    let no-minus = c .before .before .before .before .if2 .left in
+    let no-plus = c .before .before .if3 .left in
+    let size = c .before .size-of3 .ensures in
+    let signed = c .with-sign3 .ensures in
+    offset-bare _ some no-minus no-plus size signed
 
 pub offset-of-spec : {M : Type 1} → statement M
 offset-of-spec =

@@ -1,4 +1,4 @@
--- Digits go first, and a UTC time where they are none.
+-- `cli::arguments::second_of` meets its contract: digits go first, and a UTC time where they are none.
 use mathlib.Core.Path.{sym, _∙_}
 use Rattle.cli.specs.Arguments.{secondOf}
 use Rattle.cli.proofs.ArgumentsLaws.{else-first, else-second}

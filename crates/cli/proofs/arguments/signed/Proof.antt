@@ -1,4 +1,4 @@
--- A number below 2^63 has a negative that 64 bits hold; 2^63 itself is the least number.
+-- `cli::arguments::signed` meets its contract: a number below 2^63 has a negative that 64 bits hold; 2^63 itself is the least number.
 use mir.ValLaws.{toZ-pos}
 use mir.Syntax.{w64}
 use Rattle.cli.proofs.ArgumentsLaws.{minus-fits, signed-minus, signed-plus, signed-least, signed-large}

@@ -1,4 +1,4 @@
--- In each kind's arm the definition is its clause for that kind.
+-- `cli::arguments::utc_clock` meets its contract: in each kind's arm the definition is its clause for that kind.
 use Rattle.cli.proofs.ArgumentsLaws.{clock-utc, clock-floating, clock-date}
 use borrow.Author.Needs.{needs}
 use Rattle.cli.proofs.arguments.utc_clock.Statement.{statement}

@@ -1,4 +1,4 @@
--- What was read decides.
+-- `cli::arguments::utc_of` meets its contract: what was read decides.
 use mathlib.Core.Path.{sym, _∙_}
 use Rattle.cli.proofs.ArgumentsLaws.{utc-at, utc-bad}
 use borrow.Author.Needs.{needs}

@@ -1,4 +1,4 @@
--- The bound on the number is the bound on the product and sum, turned by a division.
+-- `cli::arguments::with_digit` meets its contract: the bound on the number is the bound on the product and sum, turned by a division.
 use Rattle.cli.proofs.ArgumentsLaws.{digit-low, digit-high, digit-large, digit-of}
 use native.Mathlib.Omega.{arith}
 use borrow.Author.Needs.{needs}

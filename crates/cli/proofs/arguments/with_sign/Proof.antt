@@ -1,4 +1,4 @@
--- A size takes the sign, and no size is no offset.
+-- `cli::arguments::with_sign` meets its contract: a size takes the sign, and no size is no offset.
 use Rattle.cli.proofs.ArgumentsLaws.{sign-of, sign-bad}
 use borrow.Author.Needs.{needs}
 use Rattle.cli.proofs.arguments.with_sign.Statement.{statement}

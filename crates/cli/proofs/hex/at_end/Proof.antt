@@ -1,4 +1,4 @@
--- Only behind half a pair is the end wrong.
+-- `cli::hex::at_end` meets its contract: only behind half a pair is the end wrong.
 use Rattle.cli.proofs.HexLaws.{end-between, end-half, end-comment}
 use borrow.Author.Needs.{needs}
 use Rattle.cli.proofs.hex.at_end.Statement.{statement}

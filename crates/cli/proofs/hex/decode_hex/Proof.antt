@@ -1,4 +1,4 @@
--- The loop keeps that what is left of the text writes what is left to store.
+-- `cli::hex::decode_hex` meets its contract: the loop keeps that what is left of the text writes what is left to store.
 use mathlib.Core.Path.{sym, _∙_}
 use lib.ListN.{length}
 use Prim.Native.Nat.{_-_}
@@ -33,7 +33,11 @@ loop-less : tie.Need-loop-less Inv-loop μ-loop
 loop-less c = omega arith
 
 loop-again : tie.Need-loop-again Inv-loop μ-loop
-loop-again c = storing-pass (c .before .before .before .before .before .before .loop .inv) (c .before .before .before .before .before .loop-test .taken) (sym (c .before .before .before .step-of .ensures) ∙ c .before .step .given .1)
+loop-again c =
+    let storing = c .before .before .before .before .before .before .loop .inv in
+    let inside = c .before .before .before .before .before .loop-test .taken in
+    let passed = sym (c .before .before .before .step-of .ensures) ∙ c .before .step .given .1 in
+    storing-pass storing inside passed
 
 enum-known-step-2 : tie.Need-enum-known-step-2 Inv-loop μ-loop
 enum-known-step-2 c = search needs
@@ -42,7 +46,12 @@ same-length : tie.Need-same-length Inv-loop μ-loop
 same-length c = c .before .before .before .before .before .before .before .loop .inv .long
 
 returns : tie.Need-returns Inv-loop μ-loop
-returns c = storing-full (c .before .before .before .before .before .before .before .loop .inv) (c .before .before .before .before .before .before .loop-test .taken) (sym (c .before .before .before .before .step-of .ensures) ∙ c .before .before .step2 .given .1) (c .if1 .taken)
+returns c =
+    let storing = c .before .before .before .before .before .before .before .loop .inv in
+    let inside = c .before .before .before .before .before .before .loop-test .taken in
+    let byte = sym (c .before .before .before .before .step-of .ensures) ∙ c .before .before .step2 .given .1 in
+    let full = c .if1 .taken in
+    storing-full storing inside byte full
 
 slice-write-out : tie.Need-slice-write-out Inv-loop μ-loop
 slice-write-out c = omega (arith, c .before .before .before .before .before .before .before .loop .inv .room, c .before .before .before .before .before .before .before .loop .inv .long, c .if1 .left)
@@ -54,7 +63,12 @@ loop-less-2 : tie.Need-loop-less-2 Inv-loop μ-loop
 loop-less-2 c = omega arith
 
 loop-again-2 : tie.Need-loop-again-2 Inv-loop μ-loop
-loop-again-2 c = storing-byte (c .before .before .before .before .before .before .before .loop .inv) (c .before .before .before .before .before .before .loop-test .taken) (sym (c .before .before .before .before .step-of .ensures) ∙ c .before .before .step2 .given .1) (c .if1 .left)
+loop-again-2 c =
+    let storing = c .before .before .before .before .before .before .before .loop .inv in
+    let inside = c .before .before .before .before .before .before .loop-test .taken in
+    let byte = sym (c .before .before .before .before .step-of .ensures) ∙ c .before .before .step2 .given .1 in
+    let room = c .if1 .left in
+    storing-byte storing inside byte room
 
 enum-told : tie.Need-enum-told Inv-loop μ-loop
 enum-told c = search needs
@@ -63,7 +77,11 @@ same-length-2 : tie.Need-same-length-2 Inv-loop μ-loop
 same-length-2 c = c .before .before .before .before .before .loop .inv .long
 
 returns-2 : tie.Need-returns-2 Inv-loop μ-loop
-returns-2 c = storing-wrong (c .before .before .before .before .before .loop .inv) (c .before .before .before .before .loop-test .taken) (sym (c .before .before .step-of .ensures) ∙ c .enum-told .given .1)
+returns-2 c =
+    let storing = c .before .before .before .before .before .loop .inv in
+    let inside = c .before .before .before .before .loop-test .taken in
+    let wrong = sym (c .before .before .step-of .ensures) ∙ c .enum-told .given .1 in
+    storing-wrong storing inside wrong
 
 at-end-requires : tie.Need-at-end-requires Inv-loop μ-loop
 at-end-requires c κs = search needs

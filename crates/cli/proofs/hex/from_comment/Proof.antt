@@ -1,4 +1,4 @@
--- Only a line's end ends a comment.
+-- `cli::hex::from_comment` meets its contract: only a line's end ends a comment.
 use Rattle.cli.proofs.HexLaws.{comment-end, comment-on}
 use Rattle.cli.proofs.hex.from_comment.Statement.{statement}
 use Rattle.cli.proofs.hex.from_comment.Tie as tie

@@ -1,4 +1,4 @@
--- Both digits are below 16, so that the pair is a byte.
+-- `cli::hex::from_half` meets its contract: both digits are below 16, so that the pair is a byte.
 use Rattle.cli.proofs.HexLaws.{pair-first, pair-second, pair-of}
 use borrow.Author.Needs.{needs}
 use Rattle.cli.proofs.hex.from_half.Statement.{statement}

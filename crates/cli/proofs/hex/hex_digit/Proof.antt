@@ -1,4 +1,4 @@
--- Three intervals are digits, and the four gaps are none.
+-- `cli::hex::hex_digit` meets its contract: three intervals are digits, and the four gaps are none.
 use Rattle.cli.proofs.HexLaws.{digit-decimal, digit-upper, digit-lower, gap-first, gap-second, gap-third, gap-last}
 use native.Mathlib.Omega.{arith}
 use borrow.Author.Needs.{needs}

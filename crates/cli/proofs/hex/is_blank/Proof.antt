@@ -1,4 +1,4 @@
--- The value is the definition's own expression.
+-- `cli::hex::is_blank` meets its contract: the value is the definition's own expression.
 use mathlib.Core.Path.{refl}
 use Rattle.cli.specs.Hex.{isBlank}
 use Rattle.cli.proofs.hex.is_blank.Statement.{statement}

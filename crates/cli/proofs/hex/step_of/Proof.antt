@@ -1,4 +1,4 @@
--- In each place's arm the definition is its clause for that place.
+-- `cli::hex::step_of` meets its contract: in each place's arm the definition is its clause for that place.
 use Rattle.cli.proofs.HexLaws.{step-between, step-half, step-comment}
 use borrow.Author.Needs.{needs}
 use Rattle.cli.proofs.hex.step_of.Statement.{statement}

@@ -1,4 +1,4 @@
--- The loop keeps that what is counted and what is left make the whole, and that each row is small.
+-- `cli::sums::seconds_in` meets its contract: the loop keeps that what is counted and what is left make the whole, and that each row is small.
 use Rattle.table.specs.Tables.{Sound}
 use mathlib.Core.Path.{_≡_, refl}
 use Prim.Native.Nat.{_-_}
@@ -46,7 +46,11 @@ loop-less : tie.Need-loop-less Inv-loop μ-loop
 loop-less c = omega arith
 
 loop-again : tie.Need-loop-again Inv-loop μ-loop
-loop-again c = (counted-more (c .before .before .before .before .loop .inv .0) (sound (c .before .before .before .before .before)) (omega arith) (c .span .ensures .0) (c .span .ensures .1), c .before .before .before .before .loop .inv .1)
+loop-again c =
+    let counted = c .before .before .before .before .loop .inv .0 in
+    let small = c .before .before .before .before .loop .inv .1 in
+    let span = c .span .ensures in
+    (counted-more counted (sound (c .before .before .before .before .before)) (omega arith) (span .0) (span .1), small)
 
 returns : tie.Need-returns Inv-loop μ-loop
 returns c = counted-end (c .before .loop .inv .0) (omega arith)

@@ -1,4 +1,4 @@
--- Each number has its words.
+-- `cli::words::early` meets its contract: each number has its words.
 use mathlib.Core.Path.{refl}
 use Rattle.cli.specs.Words.{refusalWords, meanings, unknown}
 use Rattle.cli.proofs.WordsLaws.{says-at, says-none}
@@ -70,7 +70,13 @@ same-length-5 c = search needs
 
 returns-5 : tie.Need-returns-5
 unfolding refusalWords meanings unknown
-returns-5 c = says-none _ (c .before .before .before .before .before .before .before .before .if1 .left) (c .before .before .before .before .before .before .before .if2 .left) (c .before .before .before .before .before .before .if3 .left) (c .before .before .before .before .before .if4 .left) (omega arith) refl (c .before .before .put5 .ensures)
+returns-5 c =
+    let not-first = c .before .before .before .before .before .before .before .before .if1 .left in
+    let not-second = c .before .before .before .before .before .before .before .if2 .left in
+    let not-third = c .before .before .before .before .before .before .if3 .left in
+    let not-fourth = c .before .before .before .before .before .if4 .left in
+    let said = c .before .before .put5 .ensures in
+    says-none _ not-first not-second not-third not-fourth (omega arith) refl said
 
 pub early-spec : {M : Type 1} → statement M
 early-spec =

@@ -1,4 +1,4 @@
--- The number's part of the table has its words.
+-- `cli::words::meaning` meets its contract: the number's part of the table has its words.
 use native.Mathlib.Omega.{arith}
 use borrow.Author.Needs.{needs}
 use Rattle.cli.proofs.words.meaning.Statement.{statement}

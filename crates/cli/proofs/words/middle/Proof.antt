@@ -1,4 +1,4 @@
--- Each number has its words, and the last is what is left.
+-- `cli::words::middle` meets its contract: each number has its words, and the last is what is left.
 use mathlib.Core.Path.{refl}
 use Rattle.cli.specs.Words.{refusalWords, meanings}
 use Rattle.cli.proofs.WordsLaws.{says-at, says-eighth}
@@ -57,7 +57,12 @@ same-length-4 c = search needs
 
 returns-4 : tie.Need-returns-4
 unfolding refusalWords meanings
-returns-4 c = says-eighth _ (c .before .before .before .before .before .before .before .if1 .left) (c .before .before .before .before .before .before .if2 .left) (c .before .before .before .before .before .if3 .left) (omega arith) (omega arith) refl (c .before .before .put4 .ensures)
+returns-4 c =
+    let not-first = c .before .before .before .before .before .before .before .if1 .left in
+    let not-second = c .before .before .before .before .before .before .if2 .left in
+    let not-third = c .before .before .before .before .before .if3 .left in
+    let said = c .before .before .put4 .ensures in
+    says-eighth _ not-first not-second not-third (omega arith) (omega arith) refl said
 
 pub middle-spec : {M : Type 1} → statement M
 middle-spec =
