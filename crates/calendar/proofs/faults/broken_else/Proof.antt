@@ -1,4 +1,4 @@
--- Each arm is one clause of the definition.
+-- `calendar::faults::broken_else` meets its contract: each arm is one clause of the definition.
 use Rattle.calendar.specs.Checks.{ruleElse}
 use borrow.Author.Needs.{needs}
 use Rattle.calendar.proofs.faults.broken_else.Statement.{statement}

@@ -1,4 +1,4 @@
--- The arms stand in the order of the definition.
+-- `calendar::faults::fault_by` meets its contract: the arms stand in the order of the definition.
 use Rattle.calendar.specs.Meaning.{byValues, byRules, faultOf}
 use borrow.Author.Needs.{needs}
 use Rattle.calendar.proofs.faults.fault_by.Statement.{statement}

@@ -1,4 +1,4 @@
--- What is passed over is no period, so the periods from the place on are those asked for.
+-- `calendar::period_list::next_period` meets its contract: what is passed over is no period, so the periods from the place on are those asked for.
 use Prim.Native.Nat.{_-_}
 use lib.ListN.{length}
 use Rattle.line.proofs.Splitting.{item-rises, item-inside}
@@ -39,16 +39,35 @@ enum-known-p : tie.Need-enum-known-p Inv-loop μ-loop
 enum-known-p c = search needs
 
 returns : tie.Need-returns Inv-loop μ-loop
-returns c = leaving-found (c .before .before .before .before .before .before .before .before .loop .inv) (c .before .before .before .before .before .before .before .loop-test .taken) (c .before .before .before .before .before .before .find .ensures) (c .before .before .before .before .before .place-behind .ensures) (c .before .before .before .read-period .ensures) _ (c .before .p .given .1)
+returns c =
+    let leaving = c .before .before .before .before .before .before .before .before .loop .inv in
+    let inside = c .before .before .before .before .before .before .before .loop-test .taken in
+    let next = c .before .before .before .before .before .before .find .ensures in
+    let behind = c .before .before .before .before .before .place-behind .ensures in
+    let read = c .before .before .before .read-period .ensures in
+    let period = c .before .p .given .1 in
+    leaving-found leaving inside next behind read _ period
 
 enum-told : tie.Need-enum-told Inv-loop μ-loop
 enum-told c = search needs
 
 loop-less : tie.Need-loop-less Inv-loop μ-loop
-loop-less c = let h = period-onward _ (c .before .before .before .before .before .before .loop-test .taken) (c .before .before .before .before .before .find .ensures) (c .before .before .before .before .place-behind .ensures) in omega (arith, h .0, h .1)
+loop-less c =
+    let inside = c .before .before .before .before .before .before .loop-test .taken in
+    let next = c .before .before .before .before .before .find .ensures in
+    let behind = c .before .before .before .before .place-behind .ensures in
+    let onward = period-onward _ inside next behind in
+    omega (arith, onward .0, onward .1)
 
 loop-again : tie.Need-loop-again Inv-loop μ-loop
-loop-again c = leaving-bad (c .before .before .before .before .before .before .before .loop .inv) (c .before .before .before .before .before .before .loop-test .taken) (c .before .before .before .before .before .find .ensures) (c .before .before .before .before .place-behind .ensures) (c .before .before .read-period .ensures) (c .enum-told .given .1)
+loop-again c =
+    let leaving = c .before .before .before .before .before .before .before .loop .inv in
+    let inside = c .before .before .before .before .before .before .loop-test .taken in
+    let next = c .before .before .before .before .before .find .ensures in
+    let behind = c .before .before .before .before .place-behind .ensures in
+    let read = c .before .before .read-period .ensures in
+    let no-period = c .enum-told .given .1 in
+    leaving-bad leaving inside next behind read no-period
 
 returns-2 : tie.Need-returns-2 Inv-loop μ-loop
 returns-2 c = leaving-end (c .before .loop .inv) (c .loop-test .left)

@@ -1,4 +1,4 @@
--- The test is that of the definition.
+-- `calendar::period_list::place_behind` meets its contract: the test is that of the definition.
 use borrow.Author.Tests.{lt-ltb, le-ltb}
 use Rattle.calendar.specs.Periods.{behind}
 use borrow.Author.Needs.{needs}
