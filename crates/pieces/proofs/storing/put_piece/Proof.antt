@@ -1,4 +1,4 @@
--- Three stores, one behind the other.
+-- `pieces::storing::put_piece` meets its contract: three stores, one behind the other.
 use Prim.Native.Nat.{_+_, _*_, _<_}
 use lib.ListN.{length}
 use lib.Seq.{lt-length-set}
@@ -42,7 +42,11 @@ mul-column-3 : tie.Need-mul-column-3
 mul-column-3 c = search needs
 
 slice-write-column-3 : tie.Need-slice-write-column-3
-slice-write-column-3 c = stored-twice (c .args .column .now) (3 * c .args .n) (c .args .from) (3 * c .args .n + 1) (c .args .to) (let z : 3 * c .args .n + 2 < length (c .args .column .now) = omega arith in z)
+slice-write-column-3 c =
+    let column = c .args .column .now in
+    let place = 3 * c .args .n in
+    let room : place + 2 < length column = omega arith in
+    stored-twice column place (c .args .from) (place + 1) (c .args .to) room
 
 same-length : tie.Need-same-length
 same-length c = search needs

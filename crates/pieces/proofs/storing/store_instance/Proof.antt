@@ -1,4 +1,4 @@
--- An instance that stands has the piece of its period, any other none.
+-- `pieces::storing::store_instance` meets its contract: an instance that stands has the piece of its period, any other none.
 use Rattle.pieces.proofs.ColumnsStoring.{instance-stored, instance-left}
 use borrow.Author.Needs.{needs}
 use Rattle.pieces.proofs.storing.store_instance.Statement.{statement}

@@ -1,4 +1,5 @@
--- The instances below k have their pieces stored; those before the first candidate have none, and at the end no later one has, or no room is left.
+-- `pieces::storing::store_instances` meets its contract: the instances below k have their pieces stored; those before the first candidate have
+-- none, and at the end no later one has, or no room is left.
 use mathlib.Core.Path.{_∙_}
 use Prim.Native.Nat.{_-_}
 use Rattle.recurrence.specs.Instances.{instancesAtMost}

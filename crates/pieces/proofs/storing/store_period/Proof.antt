@@ -1,4 +1,4 @@
--- The test is that there is room and a piece.
+-- `pieces::storing::store_period` meets its contract: the test is that there is room and a piece.
 use Rattle.pieces.proofs.ColumnsStoring.{piece-stored, piece-left, piece-small}
 use borrow.Author.Needs.{needs}
 use Rattle.pieces.proofs.storing.store_period.Statement.{statement}
