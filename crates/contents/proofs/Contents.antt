@@ -127,7 +127,8 @@ module _ (c : Context) (x : Component) (w : componentScope x ≡ Scope.Event) wh
   unfolding componentFault
   event-fault h = ap (λ (o : Scope). linesFault c o (propertiesIn (x .items))) w ∙ h
 
-  module _ {a b : ℕ} {o : List ℕ} {n : ℕ} {o₁ : List ℕ} {g : ComponentProperties} {m₁ : ℕ} (h : LinesGood c Scope.Event (propertiesIn (x .items)) a b o n o₁ g m₁) {y : EventRead} (q : y ≡ eventBy g) where
+  module _ {a b : ℕ} {o : List ℕ} {n : ℕ} {o₁ : List ℕ} {g : ComponentProperties} {m₁ : ℕ}
+      (h : LinesGood c Scope.Event (propertiesIn (x .items)) a b o n o₁ g m₁) {y : EventRead} (q : y ≡ eventBy g) where
     event-read : y ≡ eventOf c x
     unfolding eventOf together
     event-read = q ∙ ap eventBy (h .say)
@@ -177,7 +178,8 @@ module _ (c : Context) (x : Component) (w : componentScope x ≡ Scope.FreeBusy)
   unfolding componentFault
   block-fault h = ap (λ (o : Scope). linesFault c o (propertiesIn (x .items))) w ∙ h
 
-  module _ {a b : ℕ} {o : List ℕ} {n : ℕ} {o₁ : List ℕ} {g : ComponentProperties} {m₁ : ℕ} (h : LinesGood c Scope.FreeBusy (propertiesIn (x .items)) a b o n o₁ g m₁) {y : BlockRead} (q : y ≡ blockBy g) where
+  module _ {a b : ℕ} {o : List ℕ} {n : ℕ} {o₁ : List ℕ} {g : ComponentProperties} {m₁ : ℕ}
+      (h : LinesGood c Scope.FreeBusy (propertiesIn (x .items)) a b o n o₁ g m₁) {y : BlockRead} (q : y ≡ blockBy g) where
     block-read : y ≡ blockOf c x
     unfolding blockOf together
     block-read = q ∙ ap blockBy (h .say)

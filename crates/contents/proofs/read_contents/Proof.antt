@@ -59,7 +59,10 @@ enum-told : tie.Need-enum-told Inv-loop μ-loop
 enum-told c = search needs
 
 first-line-requires : tie.Need-first-line-requires Inv-loop μ-loop
-first-line-requires c κs = here (c .before .before .before .before .before .before .before .before .before .before .loop .inv) (c .before .before .before .before .before .before .before .before .before .loop-test .taken) .here .row .room
+first-line-requires c κs =
+    let reading = c .before .before .before .before .before .before .before .before .before .before .loop .inv in
+    let inside = c .before .before .before .before .before .before .before .before .before .loop-test .taken in
+    here reading inside .here .row .room
 
 broken-else-requires : tie.Need-broken-else-requires Inv-loop μ-loop
 broken-else-requires c κs = search needs

@@ -9,15 +9,17 @@ kind-at-requires c κs = search needs
 
 read-event-requires : tie.Need-read-event-requires
 read-event-requires c κs =
+    let event = c .before .before .match .keys1 in
     let pre = c .before .before .before .before .before .before .before .before .before .pre in
     let kind-at = c .before .before .before .kind-at in
-    (pre .0, (pre .1 .0, (pre .1 .1 .0, (pre .1 .1 .1 .0, (pre .1 .1 .1 .1 .0, (pre .1 .1 .1 .1 .1 .0, (row-event (pre .1 .1 .1 .1 .1 .0) (kind-at .ensures) (c .before .before .match .keys1), pre .1 .1 .1 .1 .1 .1)))))))
+    (pre .0, (pre .1 .0, (pre .1 .1 .0, (pre .1 .1 .1 .0, (pre .1 .1 .1 .1 .0, (pre .1 .1 .1 .1 .1 .0, (row-event (pre .1 .1 .1 .1 .1 .0) (kind-at .ensures) event, pre .1 .1 .1 .1 .1 .1)))))))
 
 read-block-requires : tie.Need-read-block-requires
 read-block-requires c κs =
+    let block = c .before .before .match .keys2 in
     let pre = c .before .before .before .before .before .before .before .before .before .pre in
     let kind-at = c .before .before .before .kind-at in
-    (pre .0, (pre .1 .0, (pre .1 .1 .0, (pre .1 .1 .1 .0, (pre .1 .1 .1 .1 .0, (pre .1 .1 .1 .1 .1 .0, (row-block (pre .1 .1 .1 .1 .1 .0) (kind-at .ensures) (c .before .before .match .keys2), pre .1 .1 .1 .1 .1 .1)))))))
+    (pre .0, (pre .1 .0, (pre .1 .1 .0, (pre .1 .1 .1 .0, (pre .1 .1 .1 .1 .0, (pre .1 .1 .1 .1 .1 .0, (row-block (pre .1 .1 .1 .1 .1 .0) (kind-at .ensures) block, pre .1 .1 .1 .1 .1 .1)))))))
 
 same-length : tie.Need-same-length
 same-length c = search needs
@@ -38,7 +40,11 @@ returns-2 : tie.Need-returns-2
 returns-2 c = search needs
 
 returns-3 : tie.Need-returns-3
-returns-3 c = other-good _ _ (row-other (c .before .before .before .before .before .before .before .pre .1 .1 .1 .1 .1 .0) (c .before .kind-at .ensures) (c .match .rest .0 .1) (c .match .rest .1)) _ _ _
+returns-3 c =
+    let row = c .before .before .before .before .before .before .before .pre .1 .1 .1 .1 .1 .0 in
+    let kind = c .before .kind-at .ensures in
+    let other = c .match .rest in
+    other-good _ _ (row-other row kind (other .0 .1) (other .1)) _ _ _
 
 pub read-entry-spec : {M : Type 1} → statement M
 read-entry-spec =

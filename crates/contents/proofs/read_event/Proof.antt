@@ -35,7 +35,10 @@ store-event-requires c κs =
     let pre = c .before .before .before .before .before .before .before .before .before .before .before .before .before .before .before .before .before .before .before .before .before .pre in
     let event-by = c .before .before .before .before .before .before .before .before .event-by in
     let e = c .before .before .before .before .before .before .e in
-    (stored-long ((lines-of (read-lines .ensures) _ _ (g .given .1)) .stored) ∙ pre .0, (stored-few ((lines-of (read-lines .ensures) _ _ (g .given .1)) .stored) (pre .1 .0), (event-small _ _ (pre .1 .1 .1 .1 .1 .1 .0) (lines-of (read-lines .ensures) _ _ (g .given .1)) (event-by .ensures) _ (e .given .1), (pre .1 .1 .1 .1 .1 .1 .1 .0, pre .1 .1 .1 .1 .1 .1 .1 .1))))
+    let lines = lines-of (read-lines .ensures) _ _ (g .given .1) in
+    let small = event-small _ _ (pre .1 .1 .1 .1 .1 .1 .0) lines (event-by .ensures) _ (e .given .1) in
+    let range = pre .1 .1 .1 .1 .1 .1 .1 in
+    (stored-long (lines .stored) ∙ pre .0, (stored-few (lines .stored) (pre .1 .0), (small, (range .0, range .1))))
 
 enum-told : tie.Need-enum-told
 enum-told c = search needs
@@ -54,8 +57,9 @@ same-length-2 c = search needs
 
 returns : tie.Need-returns
 returns c =
-    let pre = c .before .before .before .before .before .before .before .before .before .before .before .before .before .before .before .before .before .before .before .before .before .before .before .before .pre in
-    let read-lines = c .before .before .before .before .before .before .before .before .before .before .before .before .before .before .before .before .before .read-lines in
+    let began = c .before .before .before .before .before .before .before .before .before .before .before .before .before .before .before .before .before in
+    let pre = began .before .before .before .before .before .before .before .pre in
+    let read-lines = began .read-lines in
     let g = c .before .before .before .before .before .before .before .before .before .before .before .before .before .g in
     let event-by = c .before .before .before .before .before .before .before .before .before .before .before .event-by in
     let e = c .before .before .before .before .before .before .before .before .before .e in

@@ -13,7 +13,8 @@ use Rattle.contents.proofs.lines.read_lines.Tie as tie
 use borrow.Author.Needs.{needs}
 
 abbrev Inv-loop : tie.InvT-loop
-Inv-loop column₀ first s index rows k scope c a b stop last n₀ g₀ i₀ row₀ column n g i row = ReadingLines c scope s rows (propertiesIn (componentBy s rows k .items)) a b column₀ first column n g i row stop last
+Inv-loop column₀ first s index rows k scope c a b stop last n₀ g₀ i₀ row₀ column n g i row =
+    ReadingLines c scope s rows (propertiesIn (componentBy s rows k .items)) a b column₀ first column n g i row stop last
 
 abbrev μ-loop : tie.MeasureT-loop
 μ-loop column₀ first s index rows k scope c a b stop last n₀ g₀ i₀ row₀ column n g i row = stop - i
@@ -67,10 +68,13 @@ name-length-requires c κs =
 
 property-value-requires : tie.Need-property-value-requires Inv-loop μ-loop
 property-value-requires c κs =
+    let told = c .before .before .enum-told .given .1 in
+    let line = c .before .line-at .ensures in
+    let size = c .name-length .ensures in
     let pre = c .before .before .before .before .before .before .before .before .before .before .before .before .before .before .pre in
     let turn = c .before .before .before .before .before .loop in
     let item-at = c .before .before .before .before .item-at in
-    (pre .1 .1 .0, entry-name (line-entry (pre .1 .1 .1 .0) (property-at (turn .inv .items) (item-at .ensures) (c .before .before .enum-told .given .1))) (c .name-length .ensures) (c .before .line-at .ensures))
+    (pre .1 .1 .0, entry-name (line-entry (pre .1 .1 .1 .0) (property-at (turn .inv .items) (item-at .ensures) told)) size line)
 
 enum-told-2 : tie.Need-enum-told-2 Inv-loop μ-loop
 enum-told-2 c = search needs
@@ -95,7 +99,10 @@ enum-told-3 : tie.Need-enum-told-3 Inv-loop μ-loop
 enum-told-3 c = search needs
 
 same-length : tie.Need-same-length Inv-loop μ-loop
-same-length c = c .before .before .before .before .before .before .before .before .loop .inv .still .long ∙ sym (c .before .before .before .before .before .before .before .before .before .before .before .before .before .before .before .before .before .pre .0)
+same-length c =
+    let room = c .before .before .before .before .before .before .before .before .before .before .before .before .before .before .before .before .before .pre .0 in
+    let still = c .before .before .before .before .before .before .before .before .loop .inv .still .long in
+    still ∙ sym room
 
 returns : tie.Need-returns Inv-loop μ-loop
 returns c =
@@ -302,8 +309,9 @@ enum-told-5 c = search needs
 
 same-length-3 : tie.Need-same-length-3 Inv-loop μ-loop
 same-length-3 c =
-    let turn = c .before .before .before .before .before .before .before .before .before .before .before .before .before .before .before .before .loop in
-    let pre = c .before .before .before .before .before .before .before .before .before .before .before .before .before .before .before .before .before .before .before .before .before .before .before .before .before .pre in
+    let began = c .before .before .before .before .before .before .before .before .before .before .before .before .before .before .before .before in
+    let turn = began .loop in
+    let pre = began .before .before .before .before .before .before .before .before .before .pre in
     omega (arith, turn .inv .still .long, pre .0)
 
 returns-3 : tie.Need-returns-3 Inv-loop μ-loop
@@ -323,10 +331,19 @@ enum-known-next : tie.Need-enum-known-next Inv-loop μ-loop
 enum-known-next c = search needs
 
 loop-less-9 : tie.Need-loop-less-9 Inv-loop μ-loop
-loop-less-9 c = let h = inner-at (c .before .before .before .before .loop .inv .items) _ _ (c .before .before .before .item-at .ensures) (c .before .next .given .1) in omega (arith, h .onward, h .within)
+loop-less-9 c =
+    let reading = c .before .before .before .before .loop .inv in
+    let read = c .before .before .before .item-at .ensures in
+    let inner = c .before .next .given .1 in
+    let item = inner-at (reading .items) _ _ read inner in
+    omega (arith, item .onward, item .within)
 
 loop-again-9 : tie.Need-loop-again-9 Inv-loop μ-loop
-loop-again-9 c = reading-inner (c .before .before .before .before .loop .inv) (inner-at (c .before .before .before .before .loop .inv .items) _ _ (c .before .before .before .item-at .ensures) (c .before .next .given .1))
+loop-again-9 c =
+    let reading = c .before .before .before .before .loop .inv in
+    let read = c .before .before .before .item-at .ensures in
+    let inner = c .before .next .given .1 in
+    reading-inner reading (inner-at (reading .items) _ _ read inner)
 
 enum-told-6 : tie.Need-enum-told-6 Inv-loop μ-loop
 enum-told-6 c = search needs
