@@ -260,11 +260,9 @@ module _ {c : Context} (p : List ℕ) (q : Sections) (j : ℕ) {s index rows col
       pub here-childless : b ≡ false → TrialOf fits (Trial.Once false)
       unfolding componentFits
       here-childless w =
-          once-of
-          (sym
-          (ap (λ (t : Bool). isCalled p q j (componentBy s rows k) && rangeHolds c p q (componentAt p q j .range) (componentBy s rows k) && propertiesHold p q j (propertiesIn (componentBy s rows k .items)) && t)
-          (inner-as y ∙ w)
-          ∙ and-false (isCalled p q j (componentBy s rows k) && rangeHolds c p q (componentAt p q j .range) (componentBy s rows k) && propertiesHold p q j (propertiesIn (componentBy s rows k .items)))))
+          let component = componentBy s rows k in
+          let alone = isCalled p q j component && rangeHolds c p q (componentAt p q j .range) component && propertiesHold p q j (propertiesIn (component .items)) in
+          once-of (sym (ap (λ (t : Bool). alone && t) (inner-as y ∙ w) ∙ and-false alone))
 
       pub here-tried : {r : ComponentRecord} {t : Trial} → a ≡ true → b ≡ true → r ≡ componentAt p q j
           → TrialOf (rangeHolds c p q (r .range) (componentBy s rows k)) t → TrialOf fits t

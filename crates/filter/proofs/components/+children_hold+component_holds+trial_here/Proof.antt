@@ -1,5 +1,5 @@
--- Of the records of one parent the first that fails decides, and of the components side by side the first that passes; what is tried of one
--- component asks the records of higher numbers.
+-- `filter::components::children_hold`, `component_holds` and `trial_here` meet their contracts: of the records of one parent the first that fails
+-- decides, and of the components side by side the first that passes; what is tried of one component asks the records of higher numbers.
 use Prim.Native.Nat.{ℕ, _+_, _-_, _*_, _<_}
 use mathlib.Core.Path.{_∙_}
 use native.Mathlib.Omega.{arith}
@@ -104,15 +104,18 @@ children-hold-loop-holds t c = descending-start _ _ _ _ _ _ (c .before .before .
 children-hold-add-next : (t : ℕ) → children-hold-lts.Need-add-next (children-hold-claims t) (children-hold-at t) children-hold.Post children-hold-Inv-loop children-hold-μ-loop
 children-hold-add-next t c = omega arith
 
-children-hold-component-at-requires : (t : ℕ) → children-hold-lts.Need-component-at-requires (children-hold-claims t) (children-hold-at t) children-hold.Post children-hold-Inv-loop children-hold-μ-loop
+children-hold-component-at-requires : (t : ℕ)
+    → children-hold-lts.Need-component-at-requires (children-hold-claims t) (children-hold-at t) children-hold.Post children-hold-Inv-loop children-hold-μ-loop
 children-hold-component-at-requires t c κs = (c .before .before .before .before .before .before .before .before .before .pre .1 .0, c .loop-test .taken)
 
-children-hold-component-holds-requires : (t : ℕ) → children-hold-lts.Need-component-holds-requires (children-hold-claims t) (children-hold-at t) children-hold.Post children-hold-Inv-loop children-hold-μ-loop
+children-hold-component-holds-requires : (t : ℕ)
+    → children-hold-lts.Need-component-holds-requires (children-hold-claims t) (children-hold-at t) children-hold.Post children-hold-Inv-loop children-hold-μ-loop
 children-hold-component-holds-requires t c κs =
-    let h = c .before .before .before .before .before .before .before .before .before .before .before .before .pre in (
-      omega (arith, h .0, c .before .before .before .loop-test .taken, c .before .before .before .before .loop .inv .onward),
-      (h .1 .0, (h .1 .1 .0, (c .before .before .before .loop-test .taken, (h .1 .1 .1 .1 .0, (h .1 .1 .1 .1 .1 .0, inner-among (h .1 .1 .1 .1 .1 .1) (c .before .before .before .before .before .next-row .ensures)))))),
-    )
+    let next = c .before .before .before .before .before .next-row .ensures in
+    let onward = c .before .before .before .before .loop .inv .onward in
+    let inside = c .before .before .before .loop-test .taken in
+    let pre = c .before .before .before .before .before .before .before .before .before .before .before .before .pre in
+    (omega (arith, pre .0, inside, onward), (pre .1 .0, (pre .1 .1 .0, (inside, (pre .1 .1 .1 .1 .0, (pre .1 .1 .1 .1 .1 .0, inner-among (pre .1 .1 .1 .1 .1 .1) next))))))
 
 children-hold-returns : (t : ℕ) → children-hold-lts.Need-returns (children-hold-claims t) (children-hold-at t) children-hold.Post children-hold-Inv-loop children-hold-μ-loop
 children-hold-returns t c =
@@ -141,7 +144,12 @@ children-hold-loop-less-2 : (t : ℕ) → children-hold-lts.Need-loop-less-2 (ch
 children-hold-loop-less-2 t c = omega arith
 
 children-hold-loop-again-2 : (t : ℕ) → children-hold-lts.Need-loop-again-2 (children-hold-claims t) (children-hold-at t) children-hold.Post children-hold-Inv-loop children-hold-μ-loop
-children-hold-loop-again-2 t c = descending-other _ _ _ _ _ (c .before .before .before .before .loop .inv) (c .before .before .before .loop-test .taken) (c .before .before .component-at .ensures) (c .if1 .left)
+children-hold-loop-again-2 t c =
+    let descending = c .before .before .before .before .loop .inv in
+    let inside = c .before .before .before .loop-test .taken in
+    let read = c .before .before .component-at .ensures in
+    let other = c .if1 .left in
+    descending-other _ _ _ _ _ descending inside read other
 
 children-hold-returns-2 : (t : ℕ) → children-hold-lts.Need-returns-2 (children-hold-claims t) (children-hold-at t) children-hold.Post children-hold-Inv-loop children-hold-μ-loop
 children-hold-returns-2 t c = descending-end _ _ _ _ _ (c .before .loop .inv) (c .loop-test .left)
@@ -168,37 +176,53 @@ component-holds-claims t = (
   next-row-reads.Learnt,
 )
 
-abbrev component-holds-Inv-loop : component-holds-lts.InvT-loop
-component-holds-Inv-loop query q j s index rows column first end c name row t k₀ k = Tried t k
+abbrev Inv-tried : component-holds-lts.InvT-loop
+Inv-tried query q j s index rows column first end c name row t k₀ k = Tried t k
 
-abbrev component-holds-μ-loop : component-holds-lts.MeasureT-loop
-component-holds-μ-loop query q j s index rows column first end c name row t k₀ k = instancesAtMost - k
+abbrev μ-tried : component-holds-lts.MeasureT-loop
+μ-tried query q j s index rows column first end c name row t k₀ k = instancesAtMost - k
 
-abbrev component-holds-Inv-search : component-holds-lts.InvT-search
-component-holds-Inv-search query q j s index rows column first end c name row₀ row = Beside (someHere c query q j) s rows first end row
+abbrev Inv-search : component-holds-lts.InvT-search
+Inv-search query q j s index rows column first end c name row₀ row = Beside (someHere c query q j) s rows first end row
 
-abbrev component-holds-μ-search : component-holds-lts.MeasureT-search
-component-holds-μ-search query q j s index rows column first end c name row₀ row = end - row
+abbrev μ-search : component-holds-lts.MeasureT-search
+μ-search query q j s index rows column first end c name row₀ row = end - row
 
-component-holds-component-at-requires : (t : ℕ) → component-holds-lts.Need-component-at-requires (component-holds-claims t) (component-holds-at t) component-holds.Post component-holds-Inv-loop component-holds-μ-loop component-holds-Inv-search component-holds-μ-search
+component-holds-component-at-requires : (t : ℕ)
+    → component-holds-lts.Need-component-at-requires (component-holds-claims t) (component-holds-at t) component-holds.Post Inv-tried μ-tried Inv-search μ-search
 component-holds-component-at-requires t c κs = (c .before .before .before .before .before .pre .1 .0, c .before .before .before .before .before .pre .1 .1 .1 .0)
 
-component-holds-text-of-requires : (t : ℕ) → component-holds-lts.Need-text-of-requires (component-holds-claims t) (component-holds-at t) component-holds.Post component-holds-Inv-loop component-holds-μ-loop component-holds-Inv-search component-holds-μ-search
+component-holds-text-of-requires : (t : ℕ) → component-holds-lts.Need-text-of-requires (component-holds-claims t) (component-holds-at t) component-holds.Post Inv-tried μ-tried Inv-search μ-search
 component-holds-text-of-requires t c κs = let h = c .before .before .before .before .before .before .pre in (h .1 .0, component-name _ _ _ (h .1 .1 .0) (h .1 .1 .1 .0) (c .component-at .ensures))
 
-component-holds-some-component-named-requires : (t : ℕ) → component-holds-lts.Need-some-component-named-requires (component-holds-claims t) (component-holds-at t) component-holds.Post component-holds-Inv-loop component-holds-μ-loop component-holds-Inv-search component-holds-μ-search
-component-holds-some-component-named-requires t c κs = (c .before .before .before .before .before .before .before .before .before .pre .1 .1 .1 .1 .1 .0 .indexed, c .before .before .before .before .before .before .before .before .before .pre .1 .1 .1 .1 .1 .1 .components)
+component-holds-some-component-named-requires : (t : ℕ)
+    → component-holds-lts.Need-some-component-named-requires (component-holds-claims t) (component-holds-at t) component-holds.Post Inv-tried μ-tried Inv-search μ-search
+component-holds-some-component-named-requires t c κs =
+    let indexed = c .before .before .before .before .before .before .before .before .before .pre .1 .1 .1 .1 .1 .0 .indexed in
+    let among = c .before .before .before .before .before .before .before .before .before .pre .1 .1 .1 .1 .1 .1 .components in
+    (indexed, among)
 
-component-holds-returns : (t : ℕ) → component-holds-lts.Need-returns (component-holds-claims t) (component-holds-at t) component-holds.Post component-holds-Inv-loop component-holds-μ-loop component-holds-Inv-search component-holds-μ-search
-component-holds-returns t c = test-absent _ _ _ _ _ (c .before .before .before .before .component-at .ensures) (c .before .if1 .taken) (c .before .before .before .text-of .ensures) (c .some-component-named .ensures)
+component-holds-returns : (t : ℕ) → component-holds-lts.Need-returns (component-holds-claims t) (component-holds-at t) component-holds.Post Inv-tried μ-tried Inv-search μ-search
+component-holds-returns t c =
+    let read = c .before .before .before .before .component-at .ensures in
+    let name = c .before .before .before .text-of .ensures in
+    let absent = c .before .if1 .taken in
+    let tested = c .some-component-named .ensures in
+    test-absent _ _ _ _ _ read absent name tested
 
-component-holds-search-holds : (t : ℕ) → component-holds-lts.Need-search-holds (component-holds-claims t) (component-holds-at t) component-holds.Post component-holds-Inv-loop component-holds-μ-loop component-holds-Inv-search component-holds-μ-search
+component-holds-search-holds : (t : ℕ) → component-holds-lts.Need-search-holds (component-holds-claims t) (component-holds-at t) component-holds.Post Inv-tried μ-tried Inv-search μ-search
 component-holds-search-holds t c = beside-start _ (c .before .before .before .before .before .before .before .before .before .pre .1 .1 .1 .1 .1 .1 .components)
 
-component-holds-returns-2 : (t : ℕ) → component-holds-lts.Need-returns-2 (component-holds-claims t) (component-holds-at t) component-holds.Post component-holds-Inv-loop component-holds-μ-loop component-holds-Inv-search component-holds-μ-search
-component-holds-returns-2 t c = test-there _ _ _ _ _ (c .before .before .before .before .before .component-at .ensures) (c .before .before .if1 .left) (here-none _ _ _ _ ∙ beside-end (c .before .search .inv) (c .if2 .taken))
+component-holds-returns-2 : (t : ℕ) → component-holds-lts.Need-returns-2 (component-holds-claims t) (component-holds-at t) component-holds.Post Inv-tried μ-tried Inv-search μ-search
+component-holds-returns-2 t c =
+    let read = c .before .before .before .before .before .component-at .ensures in
+    let there = c .before .before .if1 .left in
+    let beside = c .before .search .inv in
+    let ended = c .if2 .taken in
+    test-there _ _ _ _ _ read there (here-none _ _ _ _ ∙ beside-end beside ended)
 
-component-holds-trial-here-requires : (t : ℕ) → component-holds-lts.Need-trial-here-requires (component-holds-claims t) (component-holds-at t) component-holds.Post component-holds-Inv-loop component-holds-μ-loop component-holds-Inv-search component-holds-μ-search
+component-holds-trial-here-requires : (t : ℕ)
+    → component-holds-lts.Need-trial-here-requires (component-holds-claims t) (component-holds-at t) component-holds.Post Inv-tried μ-tried Inv-search μ-search
 component-holds-trial-here-requires t c κs =
     let h = c .before .before .before .before .before .before .before .before .before .before .before .pre in (
       omega (arith, h .0, h .1 .1 .1 .0),
@@ -217,35 +241,36 @@ component-holds-trial-here-requires t c κs =
       ),
     )
 
-component-holds-first-tried-requires : (t : ℕ) → component-holds-lts.Need-first-tried-requires (component-holds-claims t) (component-holds-at t) component-holds.Post component-holds-Inv-loop component-holds-μ-loop component-holds-Inv-search component-holds-μ-search
+component-holds-first-tried-requires : (t : ℕ)
+    → component-holds-lts.Need-first-tried-requires (component-holds-claims t) (component-holds-at t) component-holds.Post Inv-tried μ-tried Inv-search μ-search
 component-holds-first-tried-requires t c κs = c .trial-here .ensures .small
 
-component-holds-loop-holds : (t : ℕ) → component-holds-lts.Need-loop-holds (component-holds-claims t) (component-holds-at t) component-holds.Post component-holds-Inv-loop component-holds-μ-loop component-holds-Inv-search component-holds-μ-search
+component-holds-loop-holds : (t : ℕ) → component-holds-lts.Need-loop-holds (component-holds-claims t) (component-holds-at t) component-holds.Post Inv-tried μ-tried Inv-search μ-search
 component-holds-loop-holds t c = c .first-tried .ensures
 
-component-holds-goes-on-requires : (t : ℕ) → component-holds-lts.Need-goes-on-requires (component-holds-claims t) (component-holds-at t) component-holds.Post component-holds-Inv-loop component-holds-μ-loop component-holds-Inv-search component-holds-μ-search
+component-holds-goes-on-requires : (t : ℕ) → component-holds-lts.Need-goes-on-requires (component-holds-claims t) (component-holds-at t) component-holds.Post Inv-tried μ-tried Inv-search μ-search
 component-holds-goes-on-requires t c κs = (c .before .before .trial-here .ensures .small, omega (arith, c .loop .inv .few))
 
-component-holds-passes-requires : (t : ℕ) → component-holds-lts.Need-passes-requires (component-holds-claims t) (component-holds-at t) component-holds.Post component-holds-Inv-loop component-holds-μ-loop component-holds-Inv-search component-holds-μ-search
+component-holds-passes-requires : (t : ℕ) → component-holds-lts.Need-passes-requires (component-holds-claims t) (component-holds-at t) component-holds.Post Inv-tried μ-tried Inv-search μ-search
 component-holds-passes-requires t c κs = (c .before .before .before .before .trial-here .ensures .small, omega (arith, c .before .before .loop .inv .few))
 
-component-holds-add-k : (t : ℕ) → component-holds-lts.Need-add-k (component-holds-claims t) (component-holds-at t) component-holds.Post component-holds-Inv-loop component-holds-μ-loop component-holds-Inv-search component-holds-μ-search
+component-holds-add-k : (t : ℕ) → component-holds-lts.Need-add-k (component-holds-claims t) (component-holds-at t) component-holds.Post Inv-tried μ-tried Inv-search μ-search
 component-holds-add-k t c = omega (arith, c .before .before .before .before .loop .inv .few)
 
-component-holds-loop-less : (t : ℕ) → component-holds-lts.Need-loop-less (component-holds-claims t) (component-holds-at t) component-holds.Post component-holds-Inv-loop component-holds-μ-loop component-holds-Inv-search component-holds-μ-search
+component-holds-loop-less : (t : ℕ) → component-holds-lts.Need-loop-less (component-holds-claims t) (component-holds-at t) component-holds.Post Inv-tried μ-tried Inv-search μ-search
 component-holds-loop-less t c = omega (arith, c .before .before .before .goes-on .ensures .few (c .before .before .if3 .taken))
 
-component-holds-loop-again : (t : ℕ) → component-holds-lts.Need-loop-again (component-holds-claims t) (component-holds-at t) component-holds.Post component-holds-Inv-loop component-holds-μ-loop component-holds-Inv-search component-holds-μ-search
+component-holds-loop-again : (t : ℕ) → component-holds-lts.Need-loop-again (component-holds-claims t) (component-holds-at t) component-holds.Post Inv-tried μ-tried Inv-search μ-search
 component-holds-loop-again t c =
     tried-more _ _
     (c .before .before .before .goes-on .ensures .few (c .before .before .if3 .taken))
     (c .before .before .before .before .loop .inv)
     (c .before .passes .ensures) (c .if4 .left)
 
-component-holds-next-row-requires : (t : ℕ) → component-holds-lts.Need-next-row-requires (component-holds-claims t) (component-holds-at t) component-holds.Post component-holds-Inv-loop component-holds-μ-loop component-holds-Inv-search component-holds-μ-search
+component-holds-next-row-requires : (t : ℕ) → component-holds-lts.Need-next-row-requires (component-holds-claims t) (component-holds-at t) component-holds.Post Inv-tried μ-tried Inv-search μ-search
 component-holds-next-row-requires t c κs = beside-here (c .before .before .before .before .before .before .search .inv) (c .before .before .before .before .before .if2 .left) .row .room
 
-component-holds-search-less : (t : ℕ) → component-holds-lts.Need-search-less (component-holds-claims t) (component-holds-at t) component-holds.Post component-holds-Inv-loop component-holds-μ-loop component-holds-Inv-search component-holds-μ-search
+component-holds-search-less : (t : ℕ) → component-holds-lts.Need-search-less (component-holds-claims t) (component-holds-at t) component-holds.Post Inv-tried μ-tried Inv-search μ-search
 component-holds-search-less t c =
     let h =
     beside-here
@@ -254,7 +279,7 @@ component-holds-search-less t c =
     in
     omega (arith, h .onward, h .within, c .next-row .ensures)
 
-component-holds-search-again : (t : ℕ) → component-holds-lts.Need-search-again (component-holds-claims t) (component-holds-at t) component-holds.Post component-holds-Inv-loop component-holds-μ-loop component-holds-Inv-search component-holds-μ-search
+component-holds-search-again : (t : ℕ) → component-holds-lts.Need-search-again (component-holds-claims t) (component-holds-at t) component-holds.Post Inv-tried μ-tried Inv-search μ-search
 component-holds-search-again t c =
     beside-next
     (c .before .before .before .before .before .before .before .search .inv)
@@ -263,7 +288,7 @@ component-holds-search-again t c =
     (c .before .before .before .before .before .trial-here .ensures)
     (tried-end _ _ (c .before .before .before .before .before .trial-here .ensures .small) (c .before .before .before .loop .inv) (c .before .before .goes-on .ensures) (c .before .if3 .left)))
 
-component-holds-returns-3 : (t : ℕ) → component-holds-lts.Need-returns-3 (component-holds-claims t) (component-holds-at t) component-holds.Post component-holds-Inv-loop component-holds-μ-loop component-holds-Inv-search component-holds-μ-search
+component-holds-returns-3 : (t : ℕ) → component-holds-lts.Need-returns-3 (component-holds-claims t) (component-holds-at t) component-holds.Post Inv-tried μ-tried Inv-search μ-search
 component-holds-returns-3 t c =
     test-there _ _ _ _ _
     (c .before .before .before .before .before .before .before .before .before .before .before .before .component-at .ensures)
@@ -287,7 +312,10 @@ trial-here-alone-holds-requires t c κs =
     (h .1 .0, (h .1 .1 .0, (h .1 .1 .1 .0, (h .1 .1 .1 .1 .0, (h .1 .1 .1 .1 .1 .1 .0 .indexed, (h .1 .1 .1 .1 .1 .1 .1 .row, row-small (h .1 .1 .1 .1 .1 .1 .0) (h .1 .1 .1 .1 .1 .1 .1)))))))
 
 trial-here-add-children-hold : (t : ℕ) → trial-here-lts.Need-add-children-hold (trial-here-claims t) (trial-here-at t) trial-here.Post
-trial-here-add-children-hold t c = omega (arith, c .before .before .before .before .before .before .before .before .pre .1 .1 .1 .0, c .before .before .before .before .before .before .before .before .pre .1 .0 .components-few)
+trial-here-add-children-hold t c =
+    let few = c .before .before .before .before .before .before .before .before .pre .1 .0 .components-few in
+    let inside = c .before .before .before .before .before .before .before .before .pre .1 .1 .1 .0 in
+    omega (arith, inside, few)
 
 trial-here-children-hold-requires : (t : ℕ) → trial-here-lts.Need-children-hold-requires (trial-here-claims t) (trial-here-at t) trial-here.Post
 trial-here-children-hold-requires t c κs =
@@ -295,7 +323,10 @@ trial-here-children-hold-requires t c κs =
     (omega (arith, h .0, h .1 .1 .1 .0), (h .1 .0, (h .1 .1 .0, (omega (arith, h .1 .1 .1 .0), (h .1 .1 .1 .1 .1 .0, (h .1 .1 .1 .1 .1 .1 .0, h .1 .1 .1 .1 .1 .1 .1))))))
 
 trial-here-component-at-requires : (t : ℕ) → trial-here-lts.Need-component-at-requires (trial-here-claims t) (trial-here-at t) trial-here.Post
-trial-here-component-at-requires t c κs = (c .before .before .before .before .before .before .before .before .before .before .pre .1 .0, c .before .before .before .before .before .before .before .before .before .before .pre .1 .1 .1 .0)
+trial-here-component-at-requires t c κs =
+    let fits = c .before .before .before .before .before .before .before .before .before .before .pre .1 .0 in
+    let inside = c .before .before .before .before .before .before .before .before .before .before .pre .1 .1 .1 .0 in
+    (fits, inside)
 
 trial-here-trial-of-requires : (t : ℕ) → trial-here-lts.Need-trial-of-requires (trial-here-claims t) (trial-here-at t) trial-here.Post
 trial-here-trial-of-requires t c κs =
@@ -344,10 +375,10 @@ pub +children-hold+component-holds+trial-here-spec : {M : Type 1} → statement 
     (λ t. component-holds-lts.spec (component-holds-claims t)
     (component-holds-at t)
     component-holds.Post
-    component-holds-Inv-loop
-    component-holds-μ-loop
-    component-holds-Inv-search
-    component-holds-μ-search
+    Inv-tried
+    μ-tried
+    Inv-search
+    μ-search
     (component-holds-component-at-requires t)
     (component-holds-text-of-requires t)
     (component-holds-some-component-named-requires t)

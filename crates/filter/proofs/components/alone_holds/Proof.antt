@@ -1,4 +1,4 @@
--- The name is asked first, then what the row rules out, then the component's own lines.
+-- `filter::components::alone_holds` meets its contract: the name is asked first, then what the row rules out, then the component's own lines.
 use borrow.Author.Tests.{not-true, not-false}
 use Rattle.filter.proofs.Tests.{component-range}
 use Rattle.filter.proofs.TrialsLaws.{alone-other, alone-out, alone-lines}

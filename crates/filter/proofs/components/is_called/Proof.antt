@@ -1,4 +1,4 @@
--- The name is the value of the line before the first of the component.
+-- `filter::components::is_called` meets its contract: the name is the value of the line before the first of the component.
 use borrow.Author.Needs.{needs}
 use Rattle.filter.proofs.Tests.{begin-some, begin-entry, begin-named}
 use Rattle.filter.proofs.components.is_called.Statement.{statement}

@@ -1,4 +1,4 @@
--- What stands outside every component are the rows up to that of row 0's next, and a good query has a component record 0.
+-- `filter::components::query_holds` meets its contract: what stands outside every component are the rows up to that of row 0's next, and a good query has a component record 0.
 use Rattle.filter.proofs.Tests.{first-record, query-as}
 use Rattle.filter.proofs.RangesLaws.{file-room, file-given, file-among}
 use Rattle.filter.proofs.components.query_holds.Statement.{statement}

@@ -1,4 +1,4 @@
--- No component so far has the name, so those that are left decide.
+-- `filter::components::some_component_named` meets its contract: no component so far has the name, so those that are left decide.
 use Prim.Native.Nat.{_-_}
 use Rattle.filter.specs.Tests.{someComponentNamed}
 use mathlib.Core.Path.{_∙_}
@@ -29,7 +29,13 @@ loop-less : tie.Need-loop-less Inv-loop μ-loop
 loop-less c = let h = beside-here (c .before .before .before .before .loop .inv) (c .before .before .before .loop-test .taken) in omega (arith, h .onward, h .within, c .next-row .ensures)
 
 loop-again : tie.Need-loop-again Inv-loop μ-loop
-loop-again c = beside-next (c .before .before .before .before .loop .inv) (c .before .before .before .loop-test .taken) (c .next-row .ensures) (component-other _ _ (c .before .before .is-called .ensures) (c .before .if1 .left))
+loop-again c =
+    let beside = c .before .before .before .before .loop .inv in
+    let inside = c .before .before .before .loop-test .taken in
+    let tested = c .before .before .is-called .ensures in
+    let other = c .before .if1 .left in
+    let next = c .next-row .ensures in
+    beside-next beside inside next (component-other _ _ tested other)
 
 returns-2 : tie.Need-returns-2 Inv-loop μ-loop
 returns-2 c = no-component _ ∙ beside-end (c .before .loop .inv) (c .loop-test .left)

@@ -1,4 +1,4 @@
--- Both ends decide where both are given, and the periods where not.
+-- `filter::ranges::bounds_in` meets its contract: both ends decide where both are given, and the periods where not.
 use borrow.Author.Needs.{needs}
 use Rattle.filter.proofs.RangesLaws.{both-ends, no-end, no-start}
 use Rattle.filter.proofs.ranges.bounds_in.Statement.{statement}

@@ -1,4 +1,4 @@
--- Only both ends together tell.
+-- `filter::ranges::ends_outside` meets its contract: only both ends together tell.
 use borrow.Author.Needs.{needs}
 use Rattle.filter.proofs.RangesLaws.{between-outside, no-outside}
 use Rattle.filter.proofs.ranges.ends_outside.Statement.{statement}

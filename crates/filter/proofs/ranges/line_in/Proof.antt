@@ -1,4 +1,4 @@
--- A line without periods touches no range; any other goes by those of its value.
+-- `filter::ranges::line_in` meets its contract: a line without periods touches no range; any other goes by those of its value.
 use borrow.Author.Needs.{needs}
 use Rattle.filter.proofs.RangesLaws.{line-overlaps, line-gives-none}
 use Rattle.filter.proofs.ranges.line_in.Statement.{statement}

@@ -1,4 +1,4 @@
--- No line so far touches the range, so the lines that are left decide.
+-- `filter::ranges::lines_in` meets its contract: no line so far touches the range, so the lines that are left decide.
 use Prim.Native.Nat.{_-_}
 use Rattle.filter.specs.Ranges.{linesIn}
 use Rattle.structure.proofs.ItemsLaws.{property-at, inner-at, no-item-at}
@@ -42,8 +42,11 @@ enum-told c = search needs
 
 name-length-requires : tie.Need-name-length-requires Inv-loop μ-loop
 name-length-requires c κs =
-    entry-here
-    (seeking-line (c .before .before .before .loop .inv) (c .before .before .before .before .before .before .before .before .before .before .pre .1 .0) (property-at (c .before .before .before .loop .inv .left) (c .before .before .item-at .ensures) (c .enum-told .given .1)))
+    let indexed = c .before .before .before .before .before .before .before .before .before .before .pre .1 .0 in
+    let seeking = c .before .before .before .loop .inv in
+    let read = c .before .before .item-at .ensures in
+    let property = c .enum-told .given .1 in
+    entry-here (seeking-line seeking indexed (property-at (seeking .left) read property))
 
 line-at-requires : tie.Need-line-at-requires Inv-loop μ-loop
 line-at-requires c κs =
@@ -64,11 +67,13 @@ line-in-requires c κs =
 
 returns : tie.Need-returns Inv-loop μ-loop
 returns c =
-    seeking-found (period-lines _ _ _)
-    (c .before .before .before .before .before .before .before .loop .inv)
-    (property-at (c .before .before .before .before .before .before .before .loop .inv .left) (c .before .before .before .before .before .before .item-at .ensures) (c .before .before .before .before .enum-told .given .1))
-    (c .before .before .line-at .ensures)
-    (c .before .line-in .ensures) (c .if1 .taken)
+    let seeking = c .before .before .before .before .before .before .before .loop .inv in
+    let read = c .before .before .before .before .before .before .item-at .ensures in
+    let property = c .before .before .before .before .enum-told .given .1 in
+    let line = c .before .before .line-at .ensures in
+    let tested = c .before .line-in .ensures in
+    let touches = c .if1 .taken in
+    seeking-found (period-lines _ _ _) seeking (property-at (seeking .left) read property) line tested touches
 
 add-i : tie.Need-add-i Inv-loop μ-loop
 add-i c = omega (arith, seeking-small (c .before .before .before .before .before .before .before .loop .inv), c .before .before .before .before .before .before .before .loop .inv .left .inside)
@@ -85,26 +90,41 @@ loop-less c =
 
 loop-again : tie.Need-loop-again Inv-loop μ-loop
 loop-again c =
-    seeking-next (period-lines _ _ _)
-    (c .before .before .before .before .before .before .before .loop .inv)
-    (property-at (c .before .before .before .before .before .before .before .loop .inv .left) (c .before .before .before .before .before .before .item-at .ensures) (c .before .before .before .before .enum-told .given .1))
-    (c .before .before .line-at .ensures)
-    (c .before .line-in .ensures) (c .if1 .left)
+    let seeking = c .before .before .before .before .before .before .before .loop .inv in
+    let read = c .before .before .before .before .before .before .item-at .ensures in
+    let property = c .before .before .before .before .enum-told .given .1 in
+    let line = c .before .before .line-at .ensures in
+    let tested = c .before .line-in .ensures in
+    let outside = c .if1 .left in
+    seeking-next (period-lines _ _ _) seeking (property-at (seeking .left) read property) line tested outside
 
 enum-known-next : tie.Need-enum-known-next Inv-loop μ-loop
 enum-known-next c = search needs
 
 loop-less-2 : tie.Need-loop-less-2 Inv-loop μ-loop
-loop-less-2 c = let h = inner-at (c .before .before .before .before .loop .inv .left) _ _ (c .before .before .before .item-at .ensures) (c .before .next .given .1) in omega (arith, h .onward, h .within)
+loop-less-2 c =
+    let seeking = c .before .before .before .before .loop .inv in
+    let read = c .before .before .before .item-at .ensures in
+    let inner = c .before .next .given .1 in
+    let item = inner-at (seeking .left) _ _ read inner in
+    omega (arith, item .onward, item .within)
 
 loop-again-2 : tie.Need-loop-again-2 Inv-loop μ-loop
-loop-again-2 c = seeking-inner (period-lines _ _ _) (c .before .before .before .before .loop .inv) (inner-at (c .before .before .before .before .loop .inv .left) _ _ (c .before .before .before .item-at .ensures) (c .before .next .given .1))
+loop-again-2 c =
+    let seeking = c .before .before .before .before .loop .inv in
+    let read = c .before .before .before .item-at .ensures in
+    let inner = c .before .next .given .1 in
+    seeking-inner (period-lines _ _ _) seeking (inner-at (seeking .left) _ _ read inner)
 
 enum-told-2 : tie.Need-enum-told-2 Inv-loop μ-loop
 enum-told-2 c = search needs
 
 returns-2 : tie.Need-returns-2 Inv-loop μ-loop
-returns-2 c = seeking-end (period-lines _ _ _) (c .before .before .before .loop .inv) (no-item-at (c .before .before .before .loop .inv .left) (c .before .before .item-at .ensures) (c .enum-told2 .given .1))
+returns-2 c =
+    let seeking = c .before .before .before .loop .inv in
+    let read = c .before .before .item-at .ensures in
+    let done = c .enum-told2 .given .1 in
+    seeking-end (period-lines _ _ _) seeking (no-item-at (seeking .left) read done)
 
 pub lines-in-spec : {M : Type 1} → statement M
 lines-in-spec =

@@ -1,4 +1,4 @@
--- No period so far touches the range, so those that are left decide.
+-- `filter::ranges::value_in` meets its contract: no period so far touches the range, so those that are left decide.
 use Prim.Native.Nat.{_-_}
 use lib.ListN.{length}
 use Rattle.calendar.proofs.Periods.{next-period-at, no-period-at}

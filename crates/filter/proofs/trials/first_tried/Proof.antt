@@ -1,4 +1,4 @@
--- The division finds the first instance to try; anything else is tried once, as number 0.
+-- `filter::trials::first_tried` meets its contract: the division finds the first instance to try; anything else is tried once, as number 0.
 use native.Mathlib.Omega.{arith}
 use borrow.Author.Needs.{needs}
 use Rattle.filter.proofs.TrialsLaws.{instances-small, instances-tried, once-tried}

@@ -1,4 +1,4 @@
--- The search of an event's instances tells it; what is tried once has number 0 alone.
+-- `filter::trials::goes_on` meets its contract: the search of an event's instances tells it; what is tried once has number 0 alone.
 use borrow.Author.Needs.{needs}
 use Rattle.filter.proofs.TrialsLaws.{instances-small, instances-on, once-on}
 use Rattle.filter.proofs.trials.goes_on.Statement.{statement}

@@ -1,4 +1,4 @@
--- Each arm is one clause of the definition.
+-- `filter::trials::passes` meets its contract: each arm is one clause of the definition.
 use Rattle.filter.specs.Trials.{trialPasses}
 use borrow.Author.Needs.{needs}
 use Rattle.filter.proofs.TrialsLaws.{instances-small, instances-pass, once-passes}

@@ -1,4 +1,5 @@
--- An event without an instance from the first candidate on is not in the range, nor is a block whose ends stand outside it, nor anything else.
+-- `filter::trials::row_outside` meets its contract: an event without an instance from the first candidate on is not in the range, nor is a block
+-- whose ends stand outside it, nor anything else.
 use native.Mathlib.Omega.{arith}
 use borrow.Author.Needs.{needs}
 use Rattle.filter.proofs.TrialsLaws.{looked-small, looked-event, looked-block, looked-other}
@@ -43,8 +44,13 @@ ends-outside-requires c κs = search needs
 
 returns-2 : tie.Need-returns-2
 returns-2 c =
+    let given = c .before .before .before .before .before .before .before .pre .0 in
+    let kind = c .before .before .before .before .kind-at .ensures in
+    let block = c .before .before .if2 .taken in
+    let read = c .before .block-at .ensures in
+    let outside = c .ends-outside .ensures in
     λ y.
-    looked-block (c .before .before .before .before .before .before .before .pre .0) (c .before .before .before .before .kind-at .ensures) (c .before .before .if2 .taken) (c .before .block-at .ensures) (c .ends-outside .ensures y)
+    looked-block given kind block read (outside y)
 
 returns-3 : tie.Need-returns-3
 returns-3 c = λ y. looked-other (c .before .before .before .before .before .pre .0) (c .before .before .kind-at .ensures) _ _ (c .before .if1 .left) (c .if2 .left)

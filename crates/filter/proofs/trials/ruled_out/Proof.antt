@@ -1,4 +1,4 @@
--- Without a range nothing is ruled out; with one, its two ends are those of the record.
+-- `filter::trials::ruled_out` meets its contract: without a range nothing is ruled out; with one, its two ends are those of the record.
 use borrow.Author.Needs.{needs}
 use Rattle.filter.proofs.TrialsLaws.{range-good, looked-range, nothing-ruled-out}
 use Rattle.filter.proofs.trials.ruled_out.Statement.{statement}

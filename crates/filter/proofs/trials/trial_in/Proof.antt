@@ -1,4 +1,4 @@
--- Each way out is one kind of row.
+-- `filter::trials::trial_in` meets its contract: each way out is one kind of row.
 use Rattle.filter.proofs.RangesLaws.{row-small}
 use Rattle.filter.proofs.TrialsLaws.{trial-event, trial-block, trial-other}
 use Rattle.filter.proofs.trials.trial_in.Statement.{statement}

@@ -1,4 +1,4 @@
--- Without a range the one trial passes; with one, its two ends are those of the record.
+-- `filter::trials::trial_of` meets its contract: without a range the one trial passes; with one, its two ends are those of the record.
 use borrow.Author.Needs.{needs}
 use Rattle.filter.proofs.TrialsLaws.{range-good, range-none, range-some}
 use Rattle.filter.proofs.trials.trial_of.Statement.{statement}
