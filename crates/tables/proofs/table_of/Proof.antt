@@ -1,4 +1,4 @@
--- While the loop goes on, what is left of the pieces, added to the table so far, makes the whole table.
+-- `tables::table_of` meets its contract: while the loop goes on, what is left of the pieces, added to the table so far, makes the whole table.
 use Rattle.tables.proofs.Building.{Building, building-start, building-added, building-passed, building-end}
 use Prim.Native.Nat.{_-_}
 use mathlib.Core.Logic.{⊎-elim}
