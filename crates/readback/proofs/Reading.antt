@@ -103,7 +103,9 @@ value-read {t} g = periodItems-written (t .period .start) (t .period .end) (g .r
 
 period-value : (c : Context) {t : BusyPeriod} → GoodTyped t → propertyValueOf c Scope.FreeBusy (periodLine t) ≡ PropertyValue.HasPeriods (t .busy)
 unfolding propertyValueOf beforePeriods withPeriods propertyOf timesOr freeBusyProperty valueAs typeValue periodLine hasTwice hasList parametersNamed someList sameName upper allPeriods
-period-value c {t} g = ap (λ (ps : List PeriodRead). cond (allPeriods ps) (PropertyValue.HasPeriods (busyOf (periodLine t))) PropertyValue.Bad) (value-read g) ∙ ap PropertyValue.HasPeriods (busy-read t)
+period-value c {t} g =
+    ap (λ (ps : List PeriodRead). cond (allPeriods ps) (PropertyValue.HasPeriods (busyOf (periodLine t))) PropertyValue.Bad) (value-read g)
+    ∙ ap PropertyValue.HasPeriods (busy-read t)
 
 period-given : (c : Context) {t : BusyPeriod} → GoodTyped t → periodsBy (propertyValueOf c Scope.FreeBusy (periodLine t)) (periodLine t) ≡ t ∷ []
 unfolding periodsBy goodPeriods
