@@ -1,10 +1,9 @@
 -- THE THEOREM of refusal 10: no component is broken exactly where each keeps its rules, and otherwise the first that does not is named.
 use Prim.Native.Nat.{ℕ}
-use mathlib.Core.Path.{_≡_, refl, ap, _∙_}
+use mathlib.Core.Path.{_≡_, refl, ap}
 use mathlib.Core.Bool.{Bool, true, false, cond, _||_}
-use mathlib.Core.Logic.{_↔_, _⊎_, inl, inr, ⊎-elim}
-use mathlib.Core.List.{List, [], _∷_, _++_}
-use native.Mathlib.Omega.{arith}
+use mathlib.Core.Logic.{_↔_}
+use mathlib.Core.List.{List, [], _∷_}
 use Rattle.ascii.specs.Names.{sameName, sameBytes}
 use Rattle.ascii.specs.Words.{ascii}
 use Rattle.ascii.proofs.Bools.{clash}
@@ -25,9 +24,8 @@ use Rattle.events.specs.declared.EventRead.{EventRead}
 use Rattle.events.specs.declared.Block.{Block}
 use Rattle.events.specs.declared.BlockRead.{BlockRead}
 use Rattle.events.proofs.ComponentRules.{event-iff, block-iff}
-use Rattle.calendar.specs.Meaning.{componentScope, propertyValuesIn, eventOf, blockOf, eventBroken, blockBroken, isBroken, brokenOr, ruleFault}
-use Rattle.calendar.specs.ComponentRules.{KeepsAs, Keeps, EachKeeps, FirstBroken}
-use Rattle.calendar.specs.declared.RuleCheck.{RuleCheck}
+use Rattle.calendar.specs.Meaning.{componentScope, propertyValuesIn, eventOf, blockOf, eventBroken, blockBroken, isBroken}
+use Rattle.calendar.specs.ComponentRules.{KeepsAs, Keeps}
 
 -- ---- what a line of a VFREEBUSY can say
 
@@ -155,85 +153,3 @@ as-keeps c Scope.Other k h = refl
 -- a component is not broken exactly where it keeps its rules
 pub keeps-iff : (c : Context) (k : Component) → (isBroken c (componentScope k) k ≡ false) ↔ Keeps c k
 keeps-iff c k = (keeps-as c (componentScope k) k, as-keeps c (componentScope k) k)
-
--- ---- all components
-
-broken-good : (b : Bool) (n : ℕ) (r : RuleCheck) → brokenOr b n r ≡ RuleCheck.Good → (b ≡ false) × (r ≡ RuleCheck.Good)
-unfolding brokenOr
-broken-good true n r e = let z : _≡_ {A = ℕ} 0 1 = cc in absurd (omega arith)
-broken-good false n r e = (refl, e)
-
-good-each : (c : Context) (ks : List Component) → ruleFault c ks ≡ RuleCheck.Good → EachKeeps c ks
-unfolding ruleFault
-good-each c [] e = tt
-good-each c (k ∷ ks) e =
-    let w = broken-good (isBroken c (componentScope k) k) (k .begin .number) (ruleFault c ks) e in
-    (keeps-iff c k .0 (w .0), good-each c ks (w .1))
-
--- components that keep their rules are passed over
-each-past : (c : Context) (ks rest : List Component) → EachKeeps c ks → ruleFault c (ks ++ rest) ≡ ruleFault c rest
-unfolding ruleFault brokenOr
-each-past c [] rest h = refl
-each-past c (k ∷ ks) rest h =
-    ap (λ (b : Bool). brokenOr b (k .begin .number) (ruleFault c (ks ++ rest))) (keeps-iff c k .1 (h .0)) ∙ each-past c ks rest (h .1)
-
-each-good : (c : Context) (ks : List Component) → EachKeeps c ks → ruleFault c ks ≡ RuleCheck.Good
-unfolding ruleFault brokenOr
-each-good c [] h = refl
-each-good c (k ∷ ks) h =
-    ap (λ (b : Bool). brokenOr b (k .begin .number) (ruleFault c ks)) (keeps-iff c k .1 (h .0)) ∙ each-good c ks (h .1)
-
-broken-here : (b : Bool) (i n : ℕ) (r : RuleCheck) → brokenOr b i r ≡ RuleCheck.Broken n → ((b ≡ true) × (i ≡ n)) ⊎ ((b ≡ false) × (r ≡ RuleCheck.Broken n))
-unfolding brokenOr
-broken-here true i n r e = let z : i ≡ n = cc in inl (refl, z)
-broken-here false i n r e = inr (refl, e)
-
-first-broken : (c : Context) (ks : List Component) (n : ℕ) → ruleFault c ks ≡ RuleCheck.Broken n → FirstBroken c ks n
-unfolding ruleFault
-first-broken c [] n e = let z : _≡_ {A = ℕ} 0 1 = cc in absurd (omega arith)
-first-broken c (k ∷ ks) n e =
-    ⊎-elim
-    (λ w. record {
-      earlier = [];
-      broken = k;
-      rest = ks;
-      whole = refl;
-      kept = tt;
-      breaks = λ h. clash (w .0) (keeps-iff c k .1 h);
-      number = w .1;
-    })
-    (λ w.
-    let f = first-broken c ks n (w .1) in
-    record {
-      earlier = k ∷ f .earlier;
-      broken = f .broken;
-      rest = f .rest;
-      whole = ap (λ (l : List Component). k ∷ l) (f .whole);
-      kept = (keeps-iff c k .0 (w .0), f .kept);
-      breaks = f .breaks;
-      number = f .number;
-    })
-    (broken-here (isBroken c (componentScope k) k) (k .begin .number) n (ruleFault c ks) e)
-
-is-broken : (c : Context) (k : Component) → (Keeps c k → ⊥) → isBroken c (componentScope k) k ≡ true
-is-broken c k h = go (isBroken c (componentScope k) k) refl
-  where
-    go : (b : Bool) → isBroken c (componentScope k) k ≡ b → b ≡ true
-    go true e = refl
-    go false e = absurd (h (keeps-iff c k .0 e))
-
-broken-first : (c : Context) (ks : List Component) (n : ℕ) → FirstBroken c ks n → ruleFault c ks ≡ RuleCheck.Broken n
-unfolding ruleFault brokenOr
-broken-first c ks n f =
-    ap (ruleFault c) (f .whole)
-    ∙ each-past c (f .earlier) (f .broken ∷ f .rest) (f .kept)
-    ∙ ap (λ (b : Bool). brokenOr b (f .broken .begin .number) (ruleFault c (f .rest))) (is-broken c (f .broken) (f .breaks))
-    ∙ ap RuleCheck.Broken (f .number)
-
--- THE THEOREM: the check of rules passes exactly where each component keeps its rules
-pub rules-good-iff : (c : Context) (ks : List Component) → (ruleFault c ks ≡ RuleCheck.Good) ↔ EachKeeps c ks
-rules-good-iff c ks = (good-each c ks, each-good c ks)
-
--- and it names a line exactly where that line begins the first component that breaks them
-pub rules-broken-iff : (c : Context) (ks : List Component) (n : ℕ) → (ruleFault c ks ≡ RuleCheck.Broken n) ↔ FirstBroken c ks n
-rules-broken-iff c ks n = (first-broken c ks n, broken-first c ks n)

@@ -13,6 +13,7 @@ use Rattle.property.specs.declared.PropertyValue.{PropertyValue}
 use Rattle.nesting.specs.Components.{Numbered, Component, propertiesIn}
 use Rattle.calendar.specs.Meaning.{componentScope, faultOr, faultIn, valueFault, isBroken, brokenOr, ruleFault}
 use Rattle.calendar.specs.FirstFaults.{First, ReadLine, linesWithin, readLines, saysOf, Faulty, FirstFaulty, Breaks, FirstBroken}
+use Rattle.calendar.proofs.ComponentRules.{keeps-iff}
 use Rattle.calendar.specs.declared.ValueCheck.{ValueCheck}
 use Rattle.calendar.specs.declared.RuleCheck.{RuleCheck}
 
@@ -182,10 +183,10 @@ broken-found c i (k ∷ ks) e = go (isBroken c (componentScope k) k) refl (broke
     go : (t : Bool) → isBroken c (componentScope k) k ≡ t → (ruleFault c ks ≡ RuleCheck.Broken i → FirstBroken c ks i) → FirstBroken c (k ∷ ks) i
     go true q ih =
         let w : RuleCheck.Broken (k .begin .number) ≡ RuleCheck.Broken i = rw q at e in
-        record { which = k; first = first-here k ks q; number = cc }
+        record { which = k; first = first-here k ks (λ kept. clash q (keeps-iff c k .1 kept)); number = cc }
     go false q ih =
         let f = ih (rw q at e) in
-        record { which = f .which; first = first-later k ks (λ b. clash b q) (f .first); number = f .number }
+        record { which = f .which; first = first-later k ks (λ b. b (keeps-iff c k .0 q)) (f .first); number = f .number }
 
 found-broken : (c : Context) (i : ℕ) (ks : List Component) → FirstBroken c ks i → ruleFault c ks ≡ RuleCheck.Broken i
 unfolding ruleFault brokenOr Breaks
@@ -195,10 +196,11 @@ found-broken c i (k ∷ ks) f = go (first-cases k ks (f .first)) (isBroken c (co
     go : ((f .which ≡ k) × Breaks c k) ⊎ ((Breaks c k → ⊥) × First (Breaks c) ks (f .which))
         → (t : Bool) → isBroken c (componentScope k) k ≡ t → (FirstBroken c ks i → ruleFault c ks ≡ RuleCheck.Broken i)
         → brokenOr (isBroken c (componentScope k) k) (k .begin .number) (ruleFault c ks) ≡ RuleCheck.Broken i
-    go (inl h) t q ih =
-        ap (λ (b : Bool). brokenOr b (k .begin .number) (ruleFault c ks)) (h .1)
+    go (inl h) true q ih =
+        ap (λ (b : Bool). brokenOr b (k .begin .number) (ruleFault c ks)) q
         ∙ ap RuleCheck.Broken (ap (λ (y : Component). y .begin .number) (sym (h .0)) ∙ f .number)
-    go (inr h) true q ih = absurd (h .0 q)
+    go (inl h) false q ih = absurd (h .1 (keeps-iff c k .0 q))
+    go (inr h) true q ih = absurd (h .0 (λ kept. clash q (keeps-iff c k .1 kept)))
     go (inr h) false q ih = rw q (ih (record { which = f .which; first = h .1; number = f .number }))
 
 pub broken-iff : (c : Context) (ks : List Component) (i : ℕ) → (ruleFault c ks ≡ RuleCheck.Broken i) ↔ FirstBroken c ks i

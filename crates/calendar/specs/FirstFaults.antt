@@ -1,7 +1,6 @@
 -- Refusals 8 to 10 for the reader (document 01, Refusal numbers): the first line with a fault of all that are read, and the first component that breaks a rule.
 use Prim.Native.Nat.{ℕ}
 use mathlib.Core.Path.{_≡_}
-use mathlib.Core.Bool.{true}
 use mathlib.Core.Logic.{_⊎_}
 use mathlib.Core.List.{List, [], _∷_, _++_, List·Memᴰ}
 use Rattle.values.specs.declared.times.Context.{Context}
@@ -9,7 +8,8 @@ use Rattle.property.specs.Properties.{propertyValueOf}
 use Rattle.property.specs.declared.Scope.{Scope}
 use Rattle.property.specs.declared.PropertyValue.{PropertyValue}
 use Rattle.nesting.specs.Components.{Numbered, Component, propertiesIn}
-use Rattle.calendar.specs.Meaning.{componentScope, isBroken}
+use Rattle.calendar.specs.Meaning.{componentScope}
+use Rattle.calendar.specs.ComponentRules.{Keeps}
 
 -- x is the first of the list of which P holds
 pub record First {A : Type 0} (P : A → Type 0) (xs : List A) (x : A) : Type 0 where
@@ -52,8 +52,9 @@ pub record FirstFaulty (c : Context) (fault : PropertyValue) (ks : List Componen
 
 -- ---- 10
 
+-- it does not keep the rules that its name asks for
 unfoldable pub Breaks : Context → Component → Type 0
-Breaks c k = isBroken c (componentScope k) k ≡ true
+Breaks c k = Keeps c k → ⊥
 
 -- the component that begins at line i is the first that breaks a rule
 pub record FirstBroken (c : Context) (ks : List Component) (i : ℕ) : Type 0 where

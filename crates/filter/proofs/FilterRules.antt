@@ -2,24 +2,28 @@
 use Prim.Native.Nat.{ℕ, zero, suc, _-_, _≤_, _<_}
 use mathlib.Core.Path.{_≡_, refl, sym, ap, _∙_, subst}
 use mathlib.Core.Bool.{Bool, true, false, cond, not, _&&_, _||_}
-use mathlib.Core.List.{List, [], _∷_, List·Memᴰ, List·Memᴰ·head, List·Memᴰ·tail}
-use mathlib.Core.Logic.{_↔_}
+use mathlib.Core.List.{List, [], _∷_, List·Memᴰ, List·Memᴰ·head, List·Memᴰ·tail, List·Memᴰ·cases-cons, List·Memᴰ·not-nil}
+use mathlib.Core.Logic.{_↔_, ⊎-elim}
 use native.Mathlib.Omega.{arith}
 use lib.Dec.{eqb}
-use borrow.Author.Tests.{eqb-true, eqb-false, eq-eqb, ne-eqb, not-true}
+use lib.ListN.{length}
+use borrow.Author.Tests.{eqb-true, eqb-false, eq-eqb, ne-eqb, not-true, ltb-false, le-ltb}
 use Rattle.time.specs.Limits.{lastSecond}
 use Rattle.ascii.specs.Names.{sameName}
+use Rattle.ascii.proofs.Names.{sameName-iff}
 use Rattle.ascii.proofs.Bools.{and-left, and-right, and-both, clash, not-so}
 use Rattle.text.specs.TextMatch.{contains}
+use Rattle.text.proofs.TextMatch.{contains-iff}
 use Rattle.query.specs.Records.{rangeStart, rangeEnd, textOf, componentAt, propertyAt, parameterAt}
 use Rattle.query.specs.Counting.{everyBelow, implies}
 use Rattle.query.specs.declared.Sections.{Sections}
 use Rattle.query.specs.declared.PropertyRecord.{PropertyRecord}
 use Rattle.query.specs.declared.ParameterRecord.{ParameterRecord}
 use Rattle.query.proofs.Counting.{every-at, every-all, or-left, or-right}
-use Rattle.line.specs.Grammar.{ContentLine}
-use Rattle.line.specs.Reading.{hasParameter, valuesNamed}
+use Rattle.line.specs.Grammar.{Parameter, ContentLine}
+use Rattle.line.specs.Reading.{keepIf, parametersNamed, hasParameter, valuesNamed}
 use Rattle.query_check.specs.WellFormed.{recordsGood}
+use Rattle.query_check.specs.QueryRules.{Spells}
 use Rattle.query_check.proofs.QueryRules.{records-say}
 use Rattle.values.specs.declared.times.Context.{Context}
 use Rattle.property.specs.declared.Scope.{Scope}
@@ -37,7 +41,7 @@ use Rattle.calendar.proofs.Meaning.{eventOf-small}
 use Rattle.recurrence.specs.TimeRange.{EventIn, betweenIn, periodsOverlap, boundsIn, blockIn, Decides}
 use Rattle.recurrence.proofs.Blocks.{periods-iff}
 use Rattle.recurrence.proofs.Candidates.{search-finds}
-use Rattle.recurrence.proofs.TimeRange.{decided-once}
+use Rattle.recurrence.proofs.TimeRange.{decided-once, overlaps-iff, instance-in-iff}
 use Rattle.recurrence.specs.Instances.{instancesAtMost}
 use Rattle.filter.specs.Tests.{eventIn, blockRangeIn, componentIn, rangeHolds, someComponentNamed, someComponent, componentHolds, childrenHold, componentTest, queryHolds}
 use Rattle.filter.specs.FilterRules.{ValuePasses, ParameterPasses, LinePasses, PropertyPasses, ComponentIn, RangePasses, ComponentPasses, QueryPasses}
@@ -117,6 +121,50 @@ module _ {A : Type 0} {some : List A → Bool} {f : A → Bool} (t : SomeIn some
   all-fail : (xs : List A) → ((x : A) → List·Memᴰ x xs → f x ≡ false) → some xs ≡ false
   all-fail xs h = not-so (some xs) (λ e. let w = some-found xs e in clash (w .passes) (h (w .which) (w .listed)))
 
+-- ---- names
+
+module _ (s t : List ℕ) where
+  spells : sameName s t ≡ true → Spells s t
+  unfolding Spells
+  spells e = sameName-iff s t .0 e
+
+  spelled : Spells s t → sameName s t ≡ true
+  unfolding Spells
+  spelled e = sameName-iff s t .1 e
+
+  apart : sameName s t ≡ false → Spells s t → ⊥
+  apart n e = clash (spelled e) n
+
+  not-spelled : (Spells s t → ⊥) → sameName s t ≡ false
+  not-spelled n = not-so (sameName s t) (λ e. n (spells e))
+
+-- no parameter has the name where none is counted
+module _ (n : List ℕ) where
+  none-counted : (x : ContentLine) → hasParameter n x ≡ false → length (parametersNamed n (x .parameters)) ≡ 0
+  unfolding hasParameter
+  none-counted x e = omega (arith, ltb-false 0 (length (parametersNamed n (x .parameters))) e)
+
+  counted-none : (x : ContentLine) → length (parametersNamed n (x .parameters)) ≡ 0 → hasParameter n x ≡ false
+  unfolding hasParameter
+  counted-none x e = rw e
+
+  no-parameter : (ps : List Parameter) → length (parametersNamed n ps) ≡ 0 → (y : Parameter) → List·Memᴰ y ps → Spells (y .name) n → ⊥
+  unfolding parametersNamed
+  no-parameter (p ∷ ps) e y m = go (sameName (p .name) n) refl e (λ h. no-parameter ps h y)
+    where
+      go : (t : Bool) → sameName (p .name) n ≡ t → length (keepIf t p (parametersNamed n ps)) ≡ 0
+          → (length (parametersNamed n ps) ≡ 0 → List·Memᴰ y ps → Spells (y .name) n → ⊥) → Spells (y .name) n → ⊥
+      go true q h below s = absurd (omega arith)
+      go false q h below s =
+          ⊎-elim (λ (same : y ≡ p). apart _ _ q (subst (λ (z : Parameter). Spells (z .name) n) same s)) (λ k. below h k s) (List·Memᴰ·cases-cons m)
+  no-parameter [] e y m = absurd (List·Memᴰ·not-nil m)
+
+  parameter-none : (ps : List Parameter) → ((y : Parameter) → List·Memᴰ y ps → Spells (y .name) n → ⊥) → length (parametersNamed n ps) ≡ 0
+  unfolding parametersNamed
+  parameter-none [] h = refl
+  parameter-none (p ∷ ps) h =
+      rw (not-spelled _ _ (h p (List·Memᴰ·head refl))) (parameter-none ps (λ y m. h y (List·Memᴰ·tail m)))
+
 module _ (p : List ℕ) (q : Sections) where
   -- ---- a value
 
@@ -125,8 +173,8 @@ module _ (p : List ℕ) (q : Sections) where
   value-says zero c f v h = ValuePasses.present refl
   value-says (suc i) c f v h =
       by-flag f 2 (not (contains (collationOf c) v (textOf p q i))) (contains (collationOf c) v (textOf p q i))
-      (λ e n. ValuePasses.negated i refl e (not-true _ n))
-      (λ e n. ValuePasses.contained i refl e n)
+      (λ e n. ValuePasses.negated i refl e (λ o. clash (contains-iff (collationOf c) v (textOf p q i) .1 o) (not-true _ n)))
+      (λ e n. ValuePasses.contained i refl e (contains-iff (collationOf c) v (textOf p q i) .0 n))
       h
 
   value-holds : (t c f : ℕ) (v : List ℕ) → ValuePasses p q t c f v → textHolds p q t c f v ≡ true
@@ -134,10 +182,11 @@ module _ (p : List ℕ) (q : Sections) where
   value-holds t c f v (ValuePasses.present e) = ap (λ (n : ℕ). textHolds p q n c f v) e
   value-holds t c f v (ValuePasses.contained i e n h) =
       ap (λ (n : ℕ). textHolds p q n c f v) e
-      ∙ flag-off f 2 (not (contains (collationOf c) v (textOf p q i))) (contains (collationOf c) v (textOf p q i)) n h
+      ∙ flag-off f 2 (not (contains (collationOf c) v (textOf p q i))) (contains (collationOf c) v (textOf p q i)) n (contains-iff (collationOf c) v (textOf p q i) .1 h)
   value-holds t c f v (ValuePasses.negated i e n h) =
       ap (λ (n : ℕ). textHolds p q n c f v) e
-      ∙ flag-on f 2 (not (contains (collationOf c) v (textOf p q i))) (contains (collationOf c) v (textOf p q i)) n (ap not h)
+      ∙ flag-on f 2 (not (contains (collationOf c) v (textOf p q i))) (contains (collationOf c) v (textOf p q i)) n
+      (ap not (not-so (contains (collationOf c) v (textOf p q i)) (λ y. h (contains-iff (collationOf c) v (textOf p q i) .0 y))))
 
   pub value-passes-iff : (t c f : ℕ) (v : List ℕ) → (textHolds p q t c f v ≡ true) ↔ ValuePasses p q t c f v
   value-passes-iff t c f v = (value-says t c f v, value-holds t c f v)
@@ -153,7 +202,7 @@ module _ (p : List ℕ) (q : Sections) where
     unfolding parameterHolds
     parameter-says h =
         by-flag (r .flag) 1 (not (hasParameter (textOf p q (r .name)) x)) (someValue p q r (valuesNamed (textOf p q (r .name)) (x .parameters)))
-        (λ e n. ParameterPasses.not-defined e (not-true _ n))
+        (λ e n. ParameterPasses.not-defined e (no-parameter (textOf p q (r .name)) (x .parameters) (none-counted (textOf p q (r .name)) x (not-true _ n))))
         (λ e n.
         let w = some-found (values-tried r) _ n in
         ParameterPasses.some-value e (w .which) (w .listed) (value-says (r .text) (r .collation) (r .flag) (w .which) (w .passes)))
@@ -161,7 +210,8 @@ module _ (p : List ℕ) (q : Sections) where
 
     parameter-holds : ParameterPasses p q x r → parameterHolds p q x r ≡ true
     unfolding parameterHolds
-    parameter-holds (ParameterPasses.not-defined e h) = flag-on (r .flag) 1 _ _ e (ap not h)
+    parameter-holds (ParameterPasses.not-defined e h) =
+        flag-on (r .flag) 1 _ _ e (ap not (counted-none (textOf p q (r .name)) x (parameter-none (textOf p q (r .name)) (x .parameters) h)))
     parameter-holds (ParameterPasses.some-value e v m h) =
         flag-off (r .flag) 1 _ _ e (some-listed (values-tried r) m (value-holds (r .text) (r .collation) (r .flag) v h))
 
@@ -185,7 +235,7 @@ module _ (p : List ℕ) (q : Sections) where
     line-says x h =
         let front = and-left (sameName (x .name) (textOf p q (r .name)) && textHolds p q (r .text) (r .collation) (r .flag) (x .value)) _ h in
         record {
-          named = and-left (sameName (x .name) (textOf p q (r .name))) _ front;
+          named = spells _ _ (and-left (sameName (x .name) (textOf p q (r .name))) _ front);
           value-passes = value-says (r .text) (r .collation) (r .flag) (x .value) (and-right (sameName (x .name) (textOf p q (r .name))) _ front);
           parameters-pass =
               parameters-iff i x .0
@@ -195,7 +245,7 @@ module _ (p : List ℕ) (q : Sections) where
     line-holds : (x : ContentLine) → LinePasses p q i r x → lineHolds p q i r x ≡ true
     unfolding lineHolds
     line-holds x l =
-        and-both (and-both (l .named) (value-holds (r .text) (r .collation) (r .flag) (x .value) (l .value-passes)))
+        and-both (and-both (spelled _ _ (l .named)) (value-holds (r .text) (r .collation) (r .flag) (x .value) (l .value-passes)))
         (parameters-iff i x .1 (l .parameters-pass))
 
     pub line-passes-iff : (x : ContentLine) → (lineHolds p q i r x ≡ true) ↔ LinePasses p q i r x
@@ -206,7 +256,7 @@ module _ (p : List ℕ) (q : Sections) where
       unfolding propertyHolds
       property-says h =
           by-flag (r .flag) 1 (not (someNamed (textOf p q (r .name)) xs)) (someLine p q i r xs)
-          (λ e n. PropertyPasses.not-defined e (λ x m. none-listed (of-lines (named-lines (textOf p q (r .name)))) m (not-true _ n)))
+          (λ e n. PropertyPasses.not-defined e (λ x m. apart _ _ (none-listed (of-lines (named-lines (textOf p q (r .name)))) m (not-true _ n))))
           (λ e n.
           let w = some-found (of-lines (holding-lines p q i r)) xs n in
           PropertyPasses.one-line e (w .which) (w .listed) (line-says (w .which .line) (w .passes)))
@@ -215,7 +265,7 @@ module _ (p : List ℕ) (q : Sections) where
       property-holds : PropertyPasses p q i r xs → propertyHolds p q i r xs ≡ true
       unfolding propertyHolds
       property-holds (PropertyPasses.not-defined e h) =
-          flag-on (r .flag) 1 _ _ e (ap not (all-fail (of-lines (named-lines (textOf p q (r .name)))) xs h))
+          flag-on (r .flag) 1 _ _ e (ap not (all-fail (of-lines (named-lines (textOf p q (r .name)))) xs (λ x m. not-spelled _ _ (h x m))))
       property-holds (PropertyPasses.one-line e x m h) = flag-off (r .flag) 1 _ _ e (some-listed (of-lines (holding-lines p q i r)) m (line-holds (x .line) h))
 
       pub property-iff : (propertyHolds p q i r xs ≡ true) ↔ PropertyPasses p q i r xs
@@ -258,15 +308,15 @@ module _ (c : Context) (k : Component) (a b : ℕ) where
 
   event-says : componentScope k ≡ Scope.Event → (r : EventRead) → eventOf c k ≡ r → eventIn r a b ≡ true → ComponentIn c k a b
   unfolding eventIn
-  event-says o (EventRead.Of e) x h = ComponentIn.event-in e o x (some-at e a b instancesAtMost h)
+  event-says o (EventRead.Of e) x h = let i = some-at e a b instancesAtMost h in ComponentIn.event-in e o x (i .number) (instance-in-iff e a b (i .number) .0 (i .passes))
   event-says o EventRead.Broken x h = clash h refl
 
   block-says : componentScope k ≡ Scope.FreeBusy → (r : BlockRead) → blockOf c k ≡ r → blockRangeIn c k r a b ≡ true → ComponentIn c k a b
-  unfolding blockRangeIn blockIn
+  unfolding blockRangeIn blockIn betweenIn
   block-says o (BlockRead.Of x) e h =
       by-ends a b busyPeriods (x .start) (x .end)
-      (λ s t y z w. ComponentIn.block-between x s t o e y z w)
-      (λ y w. ComponentIn.block-period x o e y (periods-iff a b busyPeriods .0 w))
+      (λ s t y z w. ComponentIn.block-between x s t o e y z (overlaps-iff a b s t .0 w))
+      (λ y w. let i = periods-iff a b busyPeriods .0 w in ComponentIn.block-period x o e y (i .which) (i .listed) (overlaps-iff a b _ _ .0 (i .passes)))
       h
   block-says o BlockRead.Broken e h = clash h refl
 
@@ -292,12 +342,12 @@ module _ (c : Context) (k : Component) (a b : ℕ) where
       sym (decided-once true _ (search-finds (i .number) (i .passes)) (some-decides a b (eventOf-small c k e x) l))
 
   scope-holds : b ≤ lastSecond → ComponentIn c k a b → componentIn c (componentScope k) k a b ≡ true
-  unfolding blockIn
-  scope-holds l (ComponentIn.event-in e o x i) =
-      as-event o (EventRead.Of e) x (in-event l e x i)
-  scope-holds l (ComponentIn.block-between x s t o e y z h) = as-block o x e (sym (both-ends c a b x (propertiesIn (k .items)) s t y z (sym h)))
-  scope-holds l (ComponentIn.block-period x o e y i) =
-      as-block o x e (by-periods a b busyPeriods (x .start) (x .end) y ∙ periods-iff a b busyPeriods .1 i)
+  unfolding blockIn betweenIn
+  scope-holds l (ComponentIn.event-in e o x n i) =
+      as-event o (EventRead.Of e) x (in-event l e x (record { number = n; passes = instance-in-iff e a b n .1 i }))
+  scope-holds l (ComponentIn.block-between x s t o e y z h) = as-block o x e (sym (both-ends c a b x (propertiesIn (k .items)) s t y z (sym (overlaps-iff a b s t .1 h))))
+  scope-holds l (ComponentIn.block-period x o e y p m h) =
+      as-block o x e (by-periods a b busyPeriods (x .start) (x .end) y ∙ periods-iff a b busyPeriods .1 (record { which = p; listed = m; passes = overlaps-iff a b _ _ .1 h }))
 
   pub component-in-iff : b ≤ lastSecond → (componentIn c (componentScope k) k a b ≡ true) ↔ ComponentIn c k a b
   component-in-iff l = (scope-says (componentScope k) refl, scope-holds l)
@@ -353,7 +403,7 @@ module _ (c : Context) (p : List ℕ) (q : Sections) (g : recordsGood p q ≡ tr
         let lined = propertiesHold p q j (propertiesIn (k .items)) in
         let front = and-left (named && ranged && lined) _ h in
         let head = and-left (named && ranged) lined front in
-        ComponentPasses.some-component f k m (and-left named ranged head) (range-says _ k (and-right named ranged head))
+        ComponentPasses.some-component f k m (spells _ _ (and-left named ranged head)) (range-says _ k (and-right named ranged head))
         (properties-iff p q j (propertiesIn (k .items)) .0 (and-right (named && ranged) lined front))
         (w (componentsIn (k .items)) .0 (and-right (named && ranged && lined) (children (componentsIn (k .items))) h))
 
@@ -362,18 +412,18 @@ module _ (c : Context) (p : List ℕ) (q : Sections) (g : recordsGood p q ≡ tr
     component-says ks h =
         by-flag (componentAt p q j .flag) 1 (not (someComponentNamed wanted ks))
         (someComponent c p q j (componentAt p q j) children ks)
-        (λ e n. ComponentPasses.not-defined e (λ k m. none-listed (named-components wanted) m (not-true _ n)))
+        (λ e n. ComponentPasses.not-defined e (λ k m. apart _ _ (none-listed (named-components wanted) m (not-true _ n))))
         (λ e n. let x = some-found fitting-components _ n in fit-says ks (x .which) e (x .listed) (x .passes))
         h
 
     component-holds : (ks : List Component) → ComponentPasses c p q j ks → componentHolds c p q j (componentAt p q j) children ks ≡ true
     unfolding componentHolds
     component-holds ks (ComponentPasses.not-defined e h) =
-        flag-on (componentAt p q j .flag) 1 _ _ e (ap not (all-fail (named-components wanted) ks h))
+        flag-on (componentAt p q j .flag) 1 _ _ e (ap not (all-fail (named-components wanted) ks (λ k m. not-spelled _ _ (h k m))))
     component-holds ks (ComponentPasses.some-component e k m n r ps cs) =
         flag-off (componentAt p q j .flag) 1 _ _ e
         (some-listed fitting-components m
-        (and-both (and-both (and-both n (range-holds _ k range-there r)) (properties-iff p q j (propertiesIn (k .items)) .1 ps)) (w (componentsIn (k .items)) .1 cs)))
+        (and-both (and-both (and-both (spelled _ _ n) (range-holds _ k range-there r)) (properties-iff p q j (propertiesIn (k .items)) .1 ps)) (w (componentsIn (k .items)) .1 cs)))
 
     holds-iff : (ks : List Component) → (componentHolds c p q j (componentAt p q j) children ks ≡ true) ↔ ComponentPasses c p q j ks
     holds-iff ks = (component-says ks, component-holds ks)

@@ -19,7 +19,7 @@ use Rattle.events.specs.Events.{Entry, event, block}
 use Rattle.events.specs.Sizes.{EventSmall}
 use Rattle.events.specs.declared.Event.{Event}
 use Rattle.recurrence.specs.Instances.{occurs, instancesAtMost}
-use Rattle.recurrence.proofs.Instances.{starts-few}
+use Rattle.recurrence.proofs.Instances.{starts-few, takes-place-iff}
 use Rattle.pieces.specs.BusyPeriods.{instancePeriod, eventPeriods, entryPeriods, busyPeriods}
 use Rattle.pieces.specs.Covered.{ofType, coveredBy, covered, Covers, by-instance, by-period}
 use Rattle.pieces.proofs.BusyPeriods.{occurs-period, fails-period, listed-below, entry-listed, instance-listed, block-listed}
@@ -127,7 +127,7 @@ module _ (b : BusyType) (x : ℕ) where
       go : (y : Bool) → occurs e k ≡ y → Covers es b x
       go true q =
           let z = List·Memᴰ·eq-of-singleton (subst (λ (l : List BusyPeriod). List·Memᴰ p l) (occurs-period e k q) m) in
-          by-instance e d (sym (ap (λ (w : BusyPeriod). w .busy) z) ∙ t) k q (subst (λ (w : BusyPeriod). w .period .start ≤ x) z f)
+          by-instance e d (sym (ap (λ (w : BusyPeriod). w .busy) z) ∙ t) k (takes-place-iff e k .0 q) (subst (λ (w : BusyPeriod). w .period .start ≤ x) z f)
           (subst (λ (w : BusyPeriod). x < w .period .end) z g)
       go false q = absurd (List·Memᴰ·not-nil (subst (λ (l : List BusyPeriod). List·Memᴰ p l) (fails-period e k q) m))
 
@@ -159,7 +159,7 @@ module _ (b : BusyType) (es : List Entry) (x : ℕ) where
   covers-covered : x ≤ lastSecond → ((e : Event) → List·Memᴰ (event e) es → EventSmall e) → Covers es b x → covered b es x ≡ true
   unfolding covered
   covers-covered l small (by-instance e d t k s f g) =
-      listed-covered b x (busyPeriods es) (entry-listed (event e) es d (instance-listed e k (starts-few k (small e d) (omega arith)) s)) t f g
+      listed-covered b x (busyPeriods es) (entry-listed (event e) es d (instance-listed e k (starts-few k (small e d) (omega arith)) (takes-place-iff e k .1 s))) t f g
   covers-covered l small (by-period k ps d p m t f g) =
       listed-covered b x (busyPeriods es) (entry-listed (block k ps) es d (block-listed k ps m)) t f g
 

@@ -10,7 +10,7 @@ use Rattle.periods.specs.BusyTypes.{sameBusy, BusyPeriod}
 use Rattle.events.specs.Events.{Entry, event, block}
 use Rattle.events.specs.declared.Event.{Event}
 use Rattle.events.specs.declared.Block.{Block}
-use Rattle.recurrence.specs.Instances.{startOf, endOf, occurs}
+use Rattle.recurrence.specs.Instances.{startOf, endOf, TakesPlace}
 use Rattle.pieces.specs.BusyPeriods.{busyPeriods}
 
 -- the periods of one type
@@ -26,8 +26,8 @@ coveredBy b ps x = covers (ofType b ps) x
 unfoldable pub covered : BusyType → List Entry → ℕ → Bool
 covered b es x = coveredBy b (busyPeriods es) x
 
--- the same for the reader: some instance that stands, or some FREEBUSY period, of that type covers the second
+-- the same for the reader: some instance that takes place, or some FREEBUSY period, of that type covers the second
 pub data Covers (es : List Entry) (b : BusyType) (x : ℕ) : Type 0 where
-  by-instance : (e : Event) → List·Memᴰ (event e) es → e .busy ≡ b → (k : ℕ) → occurs e k ≡ true → startOf e k ≤ x → x < endOf e k → Covers es b x
+  by-instance : (e : Event) → List·Memᴰ (event e) es → e .busy ≡ b → (k : ℕ) → TakesPlace e k → startOf e k ≤ x → x < endOf e k → Covers es b x
   by-period : (k : Block) (ps : List BusyPeriod) → List·Memᴰ (block k ps) es → (p : BusyPeriod) → List·Memᴰ p ps → p .busy ≡ b → p .period .start ≤ x
       → x < p .period .end → Covers es b x

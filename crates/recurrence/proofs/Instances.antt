@@ -3,6 +3,7 @@
 use Prim.Native.Nat.{ℕ, _*_, _≤_, _<_}
 use mathlib.Core.Path.{_≡_, refl, subst}
 use mathlib.Core.Bool.{true, false}
+use mathlib.Core.Logic.{_↔_}
 use native.Mathlib.Omega.{arith}
 use native.Mathlib.Nat.{mul-le-mul-right, mul-le-mul, mul-le-mul-left}
 use borrow.Author.Tests.{ltb-true, leb-true, eqb-true, lt-ltb, le-leb, eq-eqb}
@@ -15,7 +16,7 @@ use Rattle.events.specs.declared.Repeat.{Repeat}
 use Rattle.events.specs.declared.Event.{Event}
 use Rattle.events.specs.declared.Ending.{Ending}
 use Rattle.events.specs.Sizes.{EventSmall, EndingSmall}
-use Rattle.recurrence.specs.Instances.{stepOf, startOf, repeats, isInstance, occurs, instancesAtMost, defaultLength, lengthBy, isZeroLength, endOf}
+use Rattle.recurrence.specs.Instances.{stepOf, startOf, repeats, isInstance, occurs, instancesAtMost, defaultLength, lengthBy, isZeroLength, endOf, HasInstance, TakesPlace}
 
 pub starts-rise : (e : Event) {j k : ℕ} → j ≤ k → startOf e j ≤ startOf e k
 unfolding startOf
@@ -103,3 +104,16 @@ length-small h = length-by-small h _ refl
 pub zero-length-end : (e : Event) (k : ℕ) → isZeroLength e ≡ true → endOf e k ≡ startOf e k
 unfolding isZeroLength endOf
 zero-length-end e k h = omega (arith, eqb-true (lengthBy e (e .ending)) 0 h)
+
+-- ---- which instances there are, for the reader
+
+has-iff : (r : Repeat) (s k : ℕ) → (repeats r s k ≡ true) ↔ HasInstance r s k
+unfolding repeats
+has-iff Repeat.Once s k = (λ e. eqb-true k 0 e, λ h. eq-eqb k 0 h)
+has-iff Repeat.Forever s k = (λ e. tt, λ h. refl)
+has-iff (Repeat.Count n) s k = (λ e. ltb-true k n e, λ h. lt-ltb k n h)
+has-iff (Repeat.Until t) s k = (λ e. leb-true s t e, λ h. le-leb s t h)
+
+pub takes-place-iff : (e : Event) (k : ℕ) → (occurs e k ≡ true) ↔ TakesPlace e k
+unfolding occurs isInstance TakesPlace
+takes-place-iff e k = has-iff (e .repeat) (startOf e k) k

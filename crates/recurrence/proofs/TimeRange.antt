@@ -4,15 +4,16 @@ use Prim.Native.Nat.{ℕ, _≤_, _<_}
 use mathlib.Core.Path.{_≡_, refl, sym, ap, _∙_}
 use mathlib.Core.Bool.{Bool, true, false, cond, _&&_, _||_, or-assoc}
 use mathlib.Core.List.{List, [], _∷_, _++_}
+use mathlib.Core.Logic.{_↔_}
 use native.Mathlib.Omega.{arith}
-use lib.Dec.{ltb, leb}
-use borrow.Author.Tests.{ltb-true, leb-true, lt-ltb}
+use lib.Dec.{eqb, ltb, leb}
+use borrow.Author.Tests.{ltb-true, leb-true, lt-ltb, le-leb, eqb-true, eqb-false, eq-eqb, ne-eqb}
 use Rattle.ascii.proofs.Bools.{and-left, and-right, and-both}
 use Rattle.periods.specs.declared.Period.{Period}
 use Rattle.events.specs.declared.Event.{Event}
-use Rattle.recurrence.specs.Instances.{startOf, endOf, isZeroLength, occurs}
-use Rattle.recurrence.specs.TimeRange.{overlaps, endsAfter, instanceIn, periodsOverlap, Decides}
-use Rattle.recurrence.proofs.Instances.{zero-length-end}
+use Rattle.recurrence.specs.Instances.{startOf, endOf, lengthBy, isZeroLength, occurs}
+use Rattle.recurrence.specs.TimeRange.{overlaps, endsAfter, instanceIn, periodsOverlap, Overlaps, InstanceIn, Decides}
+use Rattle.recurrence.proofs.Instances.{zero-length-end, takes-place-iff}
 
 -- it stands
 pub in-range-occurs : (e : Event) (a b k : ℕ) → instanceIn e a b k ≡ true → occurs e k ≡ true
@@ -61,3 +62,54 @@ decided-once true true d f = refl
 decided-once true false d f = absurd (f .fails refl (d .holds refl))
 decided-once false true d f = absurd (d .fails refl (f .holds refl))
 decided-once false false d f = refl
+
+-- ---- for the reader
+
+pub overlaps-iff : (a b s t : ℕ) → (overlaps a b s t ≡ true) ↔ Overlaps a b s t
+unfolding overlaps
+overlaps-iff a b s t = (λ e. says (eqb s t) refl e, tests)
+  where
+    says : (z : Bool) → eqb s t ≡ z → cond z (leb a s && ltb s b) (ltb a t && ltb s b) ≡ true → Overlaps a b s t
+    says true q e =
+        Overlaps.no-length (eqb-true s t q) (leb-true a s (and-left (leb a s) (ltb s b) e)) (ltb-true s b (and-right (leb a s) (ltb s b) e))
+    says false q e =
+        Overlaps.with-length (eqb-false s t q) (ltb-true a t (and-left (ltb a t) (ltb s b) e)) (ltb-true s b (and-right (ltb a t) (ltb s b) e))
+
+    tests : Overlaps a b s t → cond (eqb s t) (leb a s && ltb s b) (ltb a t && ltb s b) ≡ true
+    tests (Overlaps.with-length n f g) =
+        ap (λ (z : Bool). cond z (leb a s && ltb s b) (ltb a t && ltb s b)) (ne-eqb s t n) ∙ and-both (lt-ltb a t f) (lt-ltb s b g)
+    tests (Overlaps.no-length e f g) =
+        ap (λ (z : Bool). cond z (leb a s && ltb s b) (ltb a t && ltb s b)) (eq-eqb s t e) ∙ and-both (le-leb a s f) (lt-ltb s b g)
+
+module _ (e : Event) (a k : ℕ) where
+  ends-says : endsAfter e a k ≡ true → ((lengthBy e (e .ending) ≡ 0 → ⊥) → a < endOf e k) × (lengthBy e (e .ending) ≡ 0 → a ≤ startOf e k)
+  unfolding endsAfter isZeroLength
+  ends-says h = go (eqb (lengthBy e (e .ending)) 0) refl h
+    where
+      go : (z : Bool) → eqb (lengthBy e (e .ending)) 0 ≡ z → cond z (leb a (startOf e k)) (ltb a (endOf e k)) ≡ true
+          → ((lengthBy e (e .ending) ≡ 0 → ⊥) → a < endOf e k) × (lengthBy e (e .ending) ≡ 0 → a ≤ startOf e k)
+      go true q h = (λ n. absurd (n (eqb-true _ 0 q)), λ z. leb-true a (startOf e k) h)
+      go false q h = (λ n. ltb-true a (endOf e k) h, λ z. absurd (eqb-false _ 0 q z))
+
+  ends-tests : ((lengthBy e (e .ending) ≡ 0 → ⊥) → a < endOf e k) → (lengthBy e (e .ending) ≡ 0 → a ≤ startOf e k) → endsAfter e a k ≡ true
+  unfolding endsAfter isZeroLength
+  ends-tests f g = go (eqb (lengthBy e (e .ending)) 0) refl
+    where
+      go : (z : Bool) → eqb (lengthBy e (e .ending)) 0 ≡ z → cond z (leb a (startOf e k)) (ltb a (endOf e k)) ≡ true
+      go true q = le-leb a (startOf e k) (g (eqb-true _ 0 q))
+      go false q = lt-ltb a (endOf e k) (f (eqb-false _ 0 q))
+
+pub instance-in-iff : (e : Event) (a b k : ℕ) → (instanceIn e a b k ≡ true) ↔ InstanceIn e a b k
+unfolding instanceIn
+instance-in-iff e a b k = (
+  λ h.
+      let ends = ends-says e a k (and-right (occurs e k) (endsAfter e a k) (and-left (occurs e k && endsAfter e a k) (ltb (startOf e k) b) h)) in
+      record {
+        takes-place = takes-place-iff e k .0 (in-range-occurs e a b k h);
+        starts-before = starts-early e a b k h;
+        ends-after = ends .0;
+        starts-within = ends .1;
+      },
+  λ i.
+      and-both (and-both (takes-place-iff e k .1 (i .takes-place)) (ends-tests e a k (i .ends-after) (i .starts-within))) (lt-ltb (startOf e k) b (i .starts-before)),
+)

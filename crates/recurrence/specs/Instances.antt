@@ -1,5 +1,6 @@
 -- Recurrence instances of an event (document 01, Events and blocks): when each starts and ends, and which there are.
-use Prim.Native.Nat.{ℕ, _+_, _-_, _*_}
+use Prim.Native.Nat.{ℕ, _+_, _-_, _*_, _≤_, _<_}
+use mathlib.Core.Path.{_≡_}
 use mathlib.Core.Bool.{Bool, true}
 use lib.Dec.{eqb, ltb, leb}
 use Rattle.time.specs.Duration.{durationSeconds}
@@ -30,6 +31,17 @@ isInstance e k = repeats (e .repeat) (startOf e k) k
 -- an instance that stands; today each of the rule's does
 unfoldable pub occurs : Event → ℕ → Bool
 occurs e k = isInstance e k
+
+-- the same for the reader
+abbrev pub HasInstance : Repeat → ℕ → ℕ → Type 0
+HasInstance Repeat.Once s k = k ≡ 0
+HasInstance Repeat.Forever s k = Unit {0}
+HasInstance (Repeat.Count n) s k = k < n
+HasInstance (Repeat.Until t) s k = s ≤ t
+
+-- instance k takes place
+unfoldable pub TakesPlace : Event → ℕ → Type 0
+TakesPlace e k = HasInstance (e .repeat) (startOf e k) k
 
 -- starts are a day or more apart, so no instance from this number on starts by 2099
 abbrev pub instancesAtMost : ℕ

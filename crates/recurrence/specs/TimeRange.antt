@@ -1,5 +1,5 @@
 -- The time range test (document 01, Events and blocks; RFC 4791 9.9): is an event or a block in the range from a up to, but not including, b?
-use Prim.Native.Nat.{ℕ}
+use Prim.Native.Nat.{ℕ, _≤_, _<_}
 use mathlib.Core.Path.{_≡_}
 use mathlib.Core.Bool.{Bool, true, false, cond, _&&_, _||_}
 use mathlib.Core.List.{List, [], _∷_}
@@ -9,7 +9,7 @@ use Rattle.periods.specs.BusyTypes.{BusyPeriod, periodsOf}
 use Rattle.events.specs.declared.Event.{Event}
 use Rattle.events.specs.declared.Bound.{Bound}
 use Rattle.events.specs.declared.Block.{Block}
-use Rattle.recurrence.specs.Instances.{startOf, endOf, isZeroLength, occurs}
+use Rattle.recurrence.specs.Instances.{startOf, endOf, lengthBy, isZeroLength, occurs, TakesPlace}
 
 -- what stands from s to t, against the range: start < t and end > s; where it has no length, start ≤ s and s < end
 unfoldable pub overlaps : ℕ → ℕ → ℕ → ℕ → Bool
@@ -45,6 +45,20 @@ boundsIn a b Bound.None Bound.None ps = periodsOverlap a b (periodsOf ps)
 
 unfoldable pub blockIn : Block → List BusyPeriod → ℕ → ℕ → Bool
 blockIn k ps a b = boundsIn a b (k .start) (k .end) ps
+
+-- ---- the same for the reader
+
+-- from s to t, against the range: a second of it is in the range; where it has no length, its start is
+pub data Overlaps (a b s t : ℕ) : Type 0 where
+  with-length : (s ≡ t → ⊥) → a < t → s < b → Overlaps a b s t
+  no-length : s ≡ t → a ≤ s → s < b → Overlaps a b s t
+
+-- instance k of an event is in range
+pub record InstanceIn (e : Event) (a b k : ℕ) : Type 0 where
+  pub takes-place : TakesPlace e k
+  pub starts-before : startOf e k < b
+  pub ends-after : (lengthBy e (e .ending) ≡ 0 → ⊥) → a < endOf e k
+  pub starts-within : lengthBy e (e .ending) ≡ 0 → a ≤ startOf e k
 
 -- a Bool that decides a statement
 pub record Decides (r : Bool) (P : Type 0) : Type 0 where
