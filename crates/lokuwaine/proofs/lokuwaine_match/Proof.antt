@@ -1,4 +1,4 @@
--- The call keeps its promise, and its answer is spread as it says.
+-- `lokuwaine::lokuwaine_match` meets its contract: the call keeps its promise, and its answer is spread as it says.
 use mir.Syntax.{w64}
 use mir.ValLaws.{toZ-ofZ}
 use Rattle.lokuwaine.proofs.Spreading.{match-spread}

@@ -1,4 +1,4 @@
--- The call keeps its promise, and its answer is spread as it says.
+-- `lokuwaine::lokuwaine_report` meets its contract: the call keeps its promise, and its answer is spread as it says.
 use mir.Syntax.{w64}
 use mir.ValLaws.{toZ-ofZ}
 use Rattle.lokuwaine.proofs.Spreading.{report-spread}
@@ -19,7 +19,11 @@ same-length-2 : tie.Need-same-length-2
 same-length-2 c = search needs
 
 returns : tie.Need-returns
-returns c = report-spread (toZ-ofZ w64 _ (c .before .before .before .before .before .before .before .before .before .before .before .fits .offset)) (c .before .before .before .before .before .report .ensures) (c .spread-of .ensures)
+returns c =
+    let offset = c .before .before .before .before .before .before .before .before .before .before .before .fits .offset in
+    let answer = c .before .before .before .before .before .report .ensures in
+    let spread = c .spread-of .ensures in
+    report-spread (toZ-ofZ w64 _ offset) answer spread
 
 pub lokuwaine-report-spec : {M : Type 1} → statement M
 lokuwaine-report-spec =

@@ -1,4 +1,4 @@
--- Each arm is one law of the definition.
+-- `lokuwaine::spread_of` meets its contract: each arm is one law of the definition.
 use Rattle.lokuwaine.proofs.Spreading.{spread-verdict, spread-length, spread-refused}
 use borrow.Author.Needs.{needs}
 use Rattle.lokuwaine.proofs.spread_of.Statement.{statement}

@@ -1,4 +1,4 @@
--- Each arm is one clause of the definition.
+-- `lokuwaine::verdict_value` meets its contract: each arm is one clause of the definition.
 use mathlib.Core.Path.{sym, ap}
 use Rattle.lokuwaine.specs.Spreading.{verdictValue}
 use Rattle.lokuwaine.proofs.verdict_value.Statement.{statement}
