@@ -7,7 +7,8 @@ use Rattle.pairs.proofs.run.Statement.{statement}
 use Rattle.pairs.proofs.run.Tie as tie
 
 abbrev Inv-loop : tie.InvT-loop
-Inv-loop block₀ cal₀ query₀ before₀ now₀ left₀ block cal query before now left = (length block ≡ length block₀) × (length cal ≡ length cal₀) × (length query ≡ length query₀) × (length before ≡ length before₀)
+Inv-loop block₀ cal₀ query₀ before₀ now₀ left₀ block cal query before now left =
+    (length block ≡ length block₀) × (length cal ≡ length cal₀) × (length query ≡ length query₀) × (length before ≡ length before₀)
 
 abbrev μ-loop : tie.MeasureT-loop
 μ-loop block₀ cal₀ query₀ before₀ now₀ left₀ block cal query before now left = left
