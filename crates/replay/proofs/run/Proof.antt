@@ -7,7 +7,8 @@ use Rattle.replay.proofs.run.Statement.{statement}
 use Rattle.replay.proofs.run.Tie as tie
 
 abbrev Inv-loop : tie.InvT-loop
-Inv-loop block₀ cal₀ query₀ work₀ out₀ now₀ left₀ block cal query work out now left = (length block ≡ length block₀) × (length cal ≡ length cal₀) × (length query ≡ length query₀) × (length work ≡ length work₀) × (length out ≡ length out₀)
+Inv-loop block₀ cal₀ query₀ work₀ out₀ now₀ left₀ block cal query work out now left =
+    (length block ≡ length block₀) × (length cal ≡ length cal₀) × (length query ≡ length query₀) × (length work ≡ length work₀) × (length out ≡ length out₀)
 
 abbrev μ-loop : tie.MeasureT-loop
 μ-loop block₀ cal₀ query₀ work₀ out₀ now₀ left₀ block cal query work out now left = left

@@ -1,3 +1,4 @@
+-- `replay::adler::adler` is safe and ends: the place rises to the end of the bytes, and the sums are taken by functions that ask nothing.
 use Prim.Native.Nat.{_-_}
 use lib.ListN.{length}
 use native.Mathlib.Omega.{arith}
