@@ -1,4 +1,4 @@
--- Safe, and it ends: it counts its blocks down, and no call changes a buffer's length.
+-- `batch::batch::run_all` is safe, and it ends: it counts its blocks down, and no call changes a buffer's length.
 use mathlib.Core.Path.{_≡_, refl}
 use lib.ListN.{length}
 use native.Mathlib.Omega.{arith}
@@ -7,7 +7,8 @@ use Rattle.batch.proofs.batch.run_all.Statement.{statement}
 use Rattle.batch.proofs.batch.run_all.Tie as tie
 
 abbrev Inv-loop : tie.InvT-loop
-Inv-loop block₀ name₀ p asked query cal₀ work₀ out₀ now₀ left₀ block name cal work out now left = (length block ≡ length block₀) × (length name ≡ length name₀) × (length cal ≡ length cal₀) × (length work ≡ length work₀) × (length out ≡ length out₀)
+Inv-loop block₀ name₀ p asked query cal₀ work₀ out₀ now₀ left₀ block name cal work out now left =
+    (length block ≡ length block₀) × (length name ≡ length name₀) × (length cal ≡ length cal₀) × (length work ≡ length work₀) × (length out ≡ length out₀)
 
 abbrev μ-loop : tie.MeasureT-loop
 μ-loop block₀ name₀ p asked query cal₀ work₀ out₀ now₀ left₀ block name cal work out now left = left

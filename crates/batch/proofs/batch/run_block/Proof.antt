@@ -1,4 +1,4 @@
--- Safe, and it ends: the place rises to the block's end, and no call changes a buffer's length.
+-- `batch::batch::run_block` is safe, and it ends: the place rises to the block's end, and no call changes a buffer's length.
 use mathlib.Core.Path.{_≡_, refl}
 use lib.ListN.{length}
 use Prim.Native.Nat.{_-_}
@@ -8,7 +8,8 @@ use Rattle.batch.proofs.batch.run_block.Statement.{statement}
 use Rattle.batch.proofs.batch.run_block.Tie as tie
 
 abbrev Inv-loop : tie.InvT-loop
-Inv-loop block name₀ p asked query cal₀ work₀ out₀ now₀ i₀ name cal work out now i = (length name ≡ length name₀) × (length cal ≡ length cal₀) × (length work ≡ length work₀) × (length out ≡ length out₀)
+Inv-loop block name₀ p asked query cal₀ work₀ out₀ now₀ i₀ name cal work out now i =
+    (length name ≡ length name₀) × (length cal ≡ length cal₀) × (length work ≡ length work₀) × (length out ≡ length out₀)
 
 abbrev μ-loop : tie.MeasureT-loop
 μ-loop block name₀ p asked query cal₀ work₀ out₀ now₀ i₀ name cal work out now i = length block - i
