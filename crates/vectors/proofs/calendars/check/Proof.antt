@@ -48,7 +48,11 @@ slice-aggregate-fault-of : tie.Need-slice-aggregate-fault-of
 slice-aggregate-fault-of c = unfolded-long (c .before .before .unfold-into .ensures)
 
 fault-of-requires : tie.Need-fault-of-requires
-fault-of-requires c κs = (omega (arith, unfolded-small (c .before .before .unfold-into .ensures) (c .before .before .before .before .if2 .left), unfolded-long (c .before .before .unfold-into .ensures)), c .before .before .before .before .before .before .before .before .pre)
+fault-of-requires c κs =
+    let room = c .before .before .before .before .before .before .before .before .pre in
+    let small = c .before .before .before .before .if2 .left in
+    let unfolded = c .before .before .unfold-into .ensures in
+    (omega (arith, unfolded-small unfolded small, unfolded-long unfolded), room)
 
 show-fault-requires : tie.Need-show-fault-requires
 show-fault-requires c κs = search needs

@@ -36,7 +36,12 @@ slice-aggregate-contents-fault-2 : tie.Need-slice-aggregate-contents-fault-2
 slice-aggregate-contents-fault-2 c = search needs
 
 contents-fault-requires : tie.Need-contents-fault-requires
-contents-fault-requires c κs = (structure-known (c .before .before .before .before .before .before .before .read-structure .ensures) (c .before .before .before .before .structure-fault .ensures) (c .before .before .enum-told .given .1), c .before .before .before .before .before .before .before .before .before .before .before .pre .1)
+contents-fault-requires c κs =
+    let room = c .before .before .before .before .before .before .before .before .before .before .before .pre .1 in
+    let read = c .before .before .before .before .before .before .before .read-structure .ensures in
+    let tested = c .before .before .before .before .structure-fault .ensures in
+    let good = c .before .before .enum-told .given .1 in
+    (structure-known read tested good, room)
 
 returns : tie.Need-returns
 returns c = search needs
