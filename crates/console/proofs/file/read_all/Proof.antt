@@ -1,4 +1,4 @@
--- Safe, and it ends: each read that goes on fills some of the room, and no read changes a buffer's length.
+-- `console::file::read_all` is safe, and it ends: each read that goes on fills some of the room, and no read changes a buffer's length.
 use mathlib.Core.Path.{_≡_, refl}
 use lib.ListN.{length}
 use Prim.Native.Nat.{_≤_, _-_}
