@@ -1,3 +1,4 @@
+-- `worked::main` is safe: what was read is no longer than its buffer, and the program ends where the buffer is full.
 use mathlib.Core.Path.{_≡_, refl, sym, ap, _∙_}
 use native.Mathlib.Omega.{arith}
 use borrow.Author.Needs.{needs}
