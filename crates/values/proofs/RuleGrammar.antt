@@ -21,7 +21,7 @@ use Rattle.time.specs.Grammar.{decimal}
 use Rattle.time.specs.declared.date_time.Number.{Number}
 use Rattle.values.specs.Times.{readTime}
 use Rattle.values.specs.Rule.{numberTo, frequencyPart, intervalBy, countBy, untilBy, untilPart, namedPart, partOf, noParts, withPart, withParts, ruleBy, ruleOf}
-use Rattle.values.specs.RuleGrammar.{RulePart, written, KnownName, freq, interval, count, until, EachKnown, valuesNamed, FrequencyIs, daily, weekly, NumberIs, UntilIs, date, date-time, OneFrequency, OneInterval, OneLimit, RuleGrammar, Unsupported, other-name, other-frequency, HasUnsupported}
+use Rattle.values.specs.RuleGrammar.{RulePart, written, KnownName, freq, interval, count, until, EachKnown, partValues, FrequencyIs, daily, weekly, NumberIs, UntilIs, date, date-time, OneFrequency, OneInterval, OneLimit, RuleGrammar, Unsupported, other-name, other-frequency, HasUnsupported}
 use Rattle.values.specs.declared.times.Context.{Context}
 use Rattle.values.specs.declared.times.Time.{Time}
 use Rattle.values.specs.declared.times.TimeRead.{TimeRead}
@@ -184,12 +184,12 @@ module _ (c : Context) where
 -- ---- the values by name, with one part more in front
 
 module _ (x : RulePart) (xs : List RulePart) (w : List ℕ) where
-  values-same : sameName (x .name) w ≡ true → valuesNamed w (x ∷ xs) ≡ x .value ∷ valuesNamed w xs
-  unfolding valuesNamed
+  values-same : sameName (x .name) w ≡ true → partValues w (x ∷ xs) ≡ x .value ∷ partValues w xs
+  unfolding partValues
   values-same e = rw e
 
-  values-other : sameName (x .name) w ≡ false → valuesNamed w (x ∷ xs) ≡ valuesNamed w xs
-  unfolding valuesNamed
+  values-other : sameName (x .name) w ≡ false → partValues w (x ∷ xs) ≡ partValues w xs
+  unfolding partValues
   values-other e = rw e
 
 -- ---- what is left to read, after parts that gave these: 0 days, 0 for the interval and no limit where nothing was read
@@ -223,9 +223,9 @@ LimitLeft c none cs us l = OneLimit c cs us l
 LimitLeft c (seen m) cs us l = (cs ≡ []) × (us ≡ []) × (l ≡ m)
 
 record Left (c : Context) (d i : ℕ) (o : Seen) (xs : List RulePart) (r : Rule) : Type 0 where
-  frequency-left : FrequencyLeft d (valuesNamed (ascii "FREQ") xs) (r .days)
-  interval-left : IntervalLeft i (valuesNamed (ascii "INTERVAL") xs) (r .interval)
-  limit-left : LimitLeft c o (valuesNamed (ascii "COUNT") xs) (valuesNamed (ascii "UNTIL") xs) (r .limit)
+  frequency-left : FrequencyLeft d (partValues (ascii "FREQ") xs) (r .days)
+  interval-left : IntervalLeft i (partValues (ascii "INTERVAL") xs) (r .interval)
+  limit-left : LimitLeft c o (partValues (ascii "COUNT") xs) (partValues (ascii "UNTIL") xs) (r .limit)
 
 -- one value more: the first that is read, and the others are none
 frequency-first : (v : List ℕ) (k : ℕ) (vs : List (List ℕ)) (n : ℕ) → FrequencyIs v k → FrequencyLeft k vs n → OneFrequency (v ∷ vs) n
@@ -266,7 +266,7 @@ some-none e = let z : _≡_ {A = ℕ} 0 1 = cc in absurd (omega arith)
 
 module _ (c : Context) (x : RulePart) (xs : List RulePart) (r : Rule) where
   -- a part named w adds no value to those named u
-  passes : (w u : List ℕ) → sameName (x .name) w ≡ true → sameName w u ≡ false → valuesNamed u (x ∷ xs) ≡ valuesNamed u xs
+  passes : (w u : List ℕ) → sameName (x .name) w ≡ true → sameName w u ≡ false → partValues u (x ∷ xs) ≡ partValues u xs
   passes w u e h = values-other x xs u (other (x .name) w u e h)
 
   module _ (e : sameName (x .name) (ascii "FREQ") ≡ true) where
@@ -276,7 +276,7 @@ module _ (c : Context) (x : RulePart) (xs : List RulePart) (r : Rule) where
         record {
           frequency-left =
               rw (values-same x xs (ascii "FREQ") e)
-              (frequency-first (x .value) k (valuesNamed (ascii "FREQ") xs) (r .days) f (h .frequency-left));
+              (frequency-first (x .value) k (partValues (ascii "FREQ") xs) (r .days) f (h .frequency-left));
           interval-left = rw (passes (ascii "FREQ") (ascii "INTERVAL") e refl) (h .interval-left);
           limit-left = rw (passes (ascii "FREQ") (ascii "COUNT") e refl, passes (ascii "FREQ") (ascii "UNTIL") e refl) (h .limit-left);
         }
@@ -284,11 +284,11 @@ module _ (c : Context) (x : RulePart) (xs : List RulePart) (r : Rule) where
     freq-take : (d i : ℕ) (o : Seen) → Left c d i o (x ∷ xs) r → (d ≡ 0) × (FrequencyIs (x .value) (r .days)) × (Left c (r .days) i o xs r)
     unfolding sameName upper
     freq-take zero i o h =
-        let w = frequency-only (x .value) (valuesNamed (ascii "FREQ") xs) (r .days) (rw (values-same x xs (ascii "FREQ") e) at (h .frequency-left)) in (
+        let w = frequency-only (x .value) (partValues (ascii "FREQ") xs) (r .days) (rw (values-same x xs (ascii "FREQ") e) at (h .frequency-left)) in (
           refl,
           w .0,
           record {
-            frequency-left = frequency-done (r .days) (valuesNamed (ascii "FREQ") xs) (frequency-some (x .value) (r .days) (w .0)) (w .1);
+            frequency-left = frequency-done (r .days) (partValues (ascii "FREQ") xs) (frequency-some (x .value) (r .days) (w .0)) (w .1);
             interval-left = rw (passes (ascii "FREQ") (ascii "INTERVAL") e refl) at (h .interval-left);
             limit-left = rw (passes (ascii "FREQ") (ascii "COUNT") e refl, passes (ascii "FREQ") (ascii "UNTIL") e refl) at (h .limit-left);
           },
@@ -303,19 +303,19 @@ module _ (c : Context) (x : RulePart) (xs : List RulePart) (r : Rule) where
           frequency-left = rw (passes (ascii "INTERVAL") (ascii "FREQ") e refl) (h .frequency-left);
           interval-left =
               rw (values-same x xs (ascii "INTERVAL") e)
-              (interval-first (x .value) k (valuesNamed (ascii "INTERVAL") xs) (r .interval) f (h .interval-left));
+              (interval-first (x .value) k (partValues (ascii "INTERVAL") xs) (r .interval) f (h .interval-left));
           limit-left = rw (passes (ascii "INTERVAL") (ascii "COUNT") e refl, passes (ascii "INTERVAL") (ascii "UNTIL") e refl) (h .limit-left);
         }
 
     interval-take : (d i : ℕ) (o : Seen) → Left c d i o (x ∷ xs) r → (i ≡ 0) × (NumberIs 999 (x .value) (r .interval)) × (Left c d (r .interval) o xs r)
     unfolding sameName upper
     interval-take d zero o h =
-        let w = interval-only (x .value) (valuesNamed (ascii "INTERVAL") xs) (r .interval) (rw (values-same x xs (ascii "INTERVAL") e) at (h .interval-left)) in (
+        let w = interval-only (x .value) (partValues (ascii "INTERVAL") xs) (r .interval) (rw (values-same x xs (ascii "INTERVAL") e) at (h .interval-left)) in (
           refl,
           w .0,
           record {
             frequency-left = rw (passes (ascii "INTERVAL") (ascii "FREQ") e refl) at (h .frequency-left);
-            interval-left = interval-done (r .interval) (valuesNamed (ascii "INTERVAL") xs) (w .0 .least) (w .1);
+            interval-left = interval-done (r .interval) (partValues (ascii "INTERVAL") xs) (w .0 .least) (w .1);
             limit-left = rw (passes (ascii "INTERVAL") (ascii "COUNT") e refl, passes (ascii "INTERVAL") (ascii "UNTIL") e refl) at (h .limit-left);
           },
         )
@@ -338,7 +338,7 @@ module _ (c : Context) (x : RulePart) (xs : List RulePart) (r : Rule) where
         → (o ≡ none) × ((k : ℕ) × (NumberIs 9999 (x .value) k) × (Left c d i (seen (Limit.Count k)) xs r))
     unfolding sameName upper
     count-take d i none h =
-        let w = count-only c (x .value) (valuesNamed (ascii "COUNT") xs) (valuesNamed (ascii "UNTIL") xs) (r .limit)
+        let w = count-only c (x .value) (partValues (ascii "COUNT") xs) (partValues (ascii "UNTIL") xs) (r .limit)
         (rw (values-same x xs (ascii "COUNT") e, passes (ascii "COUNT") (ascii "UNTIL") e refl) at (h .limit-left)) in (
           refl,
           (
@@ -370,7 +370,7 @@ module _ (c : Context) (x : RulePart) (xs : List RulePart) (r : Rule) where
         → (o ≡ none) × ((t : Time) × (UntilIs c (x .value) t) × (Left c d i (seen (Limit.Until t)) xs r))
     unfolding sameName upper
     until-take d i none h =
-        let w = until-only c (x .value) (valuesNamed (ascii "COUNT") xs) (valuesNamed (ascii "UNTIL") xs) (r .limit)
+        let w = until-only c (x .value) (partValues (ascii "COUNT") xs) (partValues (ascii "UNTIL") xs) (r .limit)
         (rw (passes (ascii "UNTIL") (ascii "COUNT") e refl, values-same x xs (ascii "UNTIL") e) at (h .limit-left)) in (
           refl,
           (
@@ -517,7 +517,7 @@ limit-end c (seen l) = (refl, refl, refl)
 
 -- no text is left
 read-end : (c : Context) (d i : ℕ) (o : Seen) (r : Rule) → ruleBy (state d i o) ≡ RuleRead.Of r → Left c d i o [] r
-unfolding ruleBy valuesNamed
+unfolding ruleBy partValues
 read-end c zero i o r h = let z : _≡_ {A = ℕ} 0 1 = cc in absurd (omega arith)
 read-end c (suc d) i o r h =
     let e : eqb (suc d) 0 ≡ false = ne-eqb (suc d) 0 (λ k. let n : suc d ≡ 0 = k in absurd (omega arith)) in
@@ -625,7 +625,7 @@ limit-ended c none l OneLimit.absent = refl
 limit-ended c (seen m) l h = sym (h .2)
 
 left-end : (c : Context) (d i : ℕ) (o : Seen) (r : Rule) → Left c d i o [] r → ruleBy (state d i o) ≡ RuleRead.Of r
-unfolding ruleBy valuesNamed
+unfolding ruleBy partValues
 left-end c zero i o r h = no-frequency (h .frequency-left)
 left-end c (suc d) i o r h =
     let e : eqb (suc d) 0 ≡ false = ne-eqb (suc d) 0 (λ k. let n : suc d ≡ 0 = k in absurd (omega arith)) in

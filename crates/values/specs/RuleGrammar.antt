@@ -47,9 +47,9 @@ valueIf true v vs = v ∷ vs
 valueIf false v vs = vs
 
 -- the values of all parts with this name, in order
-unfoldable pub valuesNamed : List ℕ → List RulePart → List (List ℕ)
-valuesNamed n [] = []
-valuesNamed n (x ∷ xs) = valueIf (sameName (x .name) n) (x .value) (valuesNamed n xs)
+unfoldable pub partValues : List ℕ → List RulePart → List (List ℕ)
+partValues n [] = []
+partValues n (x ∷ xs) = valueIf (sameName (x .name) n) (x .value) (partValues n xs)
 
 -- ---- what the value of one part says
 
@@ -96,9 +96,9 @@ pub record RuleGrammar (c : Context) (v : List ℕ) (r : Rule) : Type 0 where
   pub parts : List RulePart
   pub cut : plainSplit 59 v ≡ map written parts
   pub known : EachKnown parts
-  pub frequency : OneFrequency (valuesNamed (ascii "FREQ") parts) (r .days)
-  pub interval : OneInterval (valuesNamed (ascii "INTERVAL") parts) (r .interval)
-  pub limit : OneLimit c (valuesNamed (ascii "COUNT") parts) (valuesNamed (ascii "UNTIL") parts) (r .limit)
+  pub frequency : OneFrequency (partValues (ascii "FREQ") parts) (r .days)
+  pub interval : OneInterval (partValues (ascii "INTERVAL") parts) (r .interval)
+  pub limit : OneLimit c (partValues (ascii "COUNT") parts) (partValues (ascii "UNTIL") parts) (r .limit)
 
 -- ---- what is not supported
 
