@@ -1,0 +1,266 @@
+-- The lines that the component rules count are the lines with that name, where no value is bad or unsupported.
+use Prim.Native.Nat.{ℕ}
+use mathlib.Core.Path.{_≡_, refl, sym, ap, _∙_, subst}
+use mathlib.Core.Bool.{Bool, true, false, cond, _||_}
+use mathlib.Core.List.{List, [], _∷_, map, List·Memᴰ, List·Memᴰ·head, List·Memᴰ·tail}
+use native.Mathlib.Omega.{arith}
+use Rattle.ascii.specs.Bytes.{upper}
+use Rattle.ascii.specs.Names.{sameName, sameBytes}
+use Rattle.ascii.specs.Words.{ascii}
+use Rattle.ascii.proofs.Names.{sameName-iff}
+use Rattle.line.specs.Grammar.{ContentLine}
+use Rattle.line.specs.Reading.{hasParameter, hasTwice, hasList}
+use Rattle.time.specs.Duration.{readDuration}
+use Rattle.time.specs.declared.duration.DurationRead.{DurationRead}
+use Rattle.values.specs.Rule.{ruleOf}
+use Rattle.values.specs.Period.{allPeriods, periodItems}
+use Rattle.values.specs.Times.{timeOf}
+use Rattle.values.specs.declared.times.Context.{Context}
+use Rattle.values.specs.declared.times.TimeRead.{TimeRead}
+use Rattle.values.specs.declared.rule.RuleRead.{RuleRead}
+use Rattle.property.specs.Properties.{isUnsupported, timesOr, eventProperty, freeBusyProperty, propertyOf, timeIn, startBy, endBy, unlessZoned, durationBy, ruleValue, busyOf, typeValue, valueAs, beforePeriods, withPeriods, propertyValueOf}
+use Rattle.property.specs.declared.Scope.{Scope}
+use Rattle.property.specs.declared.Property.{Property}
+use Rattle.property.specs.declared.PropertyValue.{PropertyValue}
+use Rattle.nesting.specs.Components.{Numbered, Component, propertiesIn}
+use Rattle.events.specs.ComponentRules.{propertyName, countIf, linesNamed}
+use Rattle.calendar.specs.Meaning.{componentScope, propertyValuesIn, faultOr, faultIn, valueFault}
+use Rattle.calendar.specs.ComponentRules.{linesCalled, EventCounts, BlockCounts}
+use Rattle.calendar.specs.declared.ValueCheck.{ValueCheck}
+
+-- ---- a good value
+
+-- neither unsupported nor bad
+abbrev Good : PropertyValue → Type 0
+Good PropertyValue.Nothing = Unit {0}
+Good PropertyValue.Unsupported = ⊥
+Good PropertyValue.Bad = ⊥
+Good (PropertyValue.Start t) = Unit {0}
+Good (PropertyValue.End t) = Unit {0}
+Good (PropertyValue.Lasts d) = Unit {0}
+Good (PropertyValue.Repeats r) = Unit {0}
+Good (PropertyValue.HasStatus s) = Unit {0}
+Good (PropertyValue.Transparent t) = Unit {0}
+Good (PropertyValue.HasPeriods b) = Unit {0}
+
+fault-good : (n : ℕ) (s : PropertyValue) (r : ValueCheck) → faultOr n s r ≡ ValueCheck.Good → Good s × (r ≡ ValueCheck.Good)
+unfolding faultOr
+fault-good n PropertyValue.Nothing r e = (tt, e)
+fault-good n PropertyValue.Unsupported r e = let z : _≡_ {A = ℕ} 0 1 = cc in absurd (omega arith)
+fault-good n PropertyValue.Bad r e = let z : _≡_ {A = ℕ} 0 1 = cc in absurd (omega arith)
+fault-good n (PropertyValue.Start t) r e = (tt, e)
+fault-good n (PropertyValue.End t) r e = (tt, e)
+fault-good n (PropertyValue.Lasts d) r e = (tt, e)
+fault-good n (PropertyValue.Repeats x) r e = (tt, e)
+fault-good n (PropertyValue.HasStatus x) r e = (tt, e)
+fault-good n (PropertyValue.Transparent x) r e = (tt, e)
+fault-good n (PropertyValue.HasPeriods b) r e = (tt, e)
+
+-- ---- the name of what a line says, where it is good
+
+module _ (c : Context) (s : Scope) (x : ContentLine) where
+  abbrev valueOfLine : Property → PropertyValue
+  valueOfLine p = withPeriods (x .value) (valueAs p c s x)
+
+  start-name : Good (valueOfLine Property.Start) → propertyName (valueOfLine Property.Start) ≡ ascii "DTSTART"
+  unfolding valueAs unlessZoned startBy withPeriods propertyName
+  start-name h = go (hasParameter (ascii "TZID") x) (timeIn s (timeOf c x)) h
+    where
+      go : (z : Bool) (r : TimeRead) → Good (withPeriods (x .value) (cond z PropertyValue.Unsupported (startBy r)))
+          → propertyName (withPeriods (x .value) (cond z PropertyValue.Unsupported (startBy r))) ≡ ascii "DTSTART"
+      go true r h = absurd h
+      go false (TimeRead.Of t) h = refl
+      go false TimeRead.Bad h = absurd h
+
+  end-name : Good (valueOfLine Property.End) → propertyName (valueOfLine Property.End) ≡ ascii "DTEND"
+  unfolding valueAs unlessZoned endBy withPeriods propertyName
+  end-name h = go (hasParameter (ascii "TZID") x) (timeIn s (timeOf c x)) h
+    where
+      go : (z : Bool) (r : TimeRead) → Good (withPeriods (x .value) (cond z PropertyValue.Unsupported (endBy r)))
+          → propertyName (withPeriods (x .value) (cond z PropertyValue.Unsupported (endBy r))) ≡ ascii "DTEND"
+      go true r h = absurd h
+      go false (TimeRead.Of t) h = refl
+      go false TimeRead.Bad h = absurd h
+
+  duration-name : Good (valueOfLine Property.Duration) → propertyName (valueOfLine Property.Duration) ≡ ascii "DURATION"
+  unfolding valueAs durationBy withPeriods propertyName
+  duration-name h = go (readDuration (x .value)) h
+    where
+      go : (r : DurationRead) → Good (withPeriods (x .value) (durationBy r)) → propertyName (withPeriods (x .value) (durationBy r)) ≡ ascii "DURATION"
+      go (DurationRead.Of d) h = refl
+      go DurationRead.Bad h = absurd h
+
+  rule-name : Good (valueOfLine Property.Rule) → propertyName (valueOfLine Property.Rule) ≡ ascii "RRULE"
+  unfolding valueAs ruleValue withPeriods propertyName
+  rule-name h = go (ruleOf c (x .value)) h
+    where
+      go : (r : RuleRead) → Good (withPeriods (x .value) (ruleValue r)) → propertyName (withPeriods (x .value) (ruleValue r)) ≡ ascii "RRULE"
+      go (RuleRead.Of r) h = refl
+      go RuleRead.Unsupported h = absurd h
+      go RuleRead.Bad h = absurd h
+
+  status-name : propertyName (valueOfLine Property.Status) ≡ ascii "STATUS"
+  unfolding valueAs withPeriods propertyName
+  status-name = refl
+
+  transparency-name : propertyName (valueOfLine Property.Transparency) ≡ ascii "TRANSP"
+  unfolding valueAs withPeriods propertyName
+  transparency-name = refl
+
+  periods-name : Good (valueOfLine Property.Periods) → propertyName (valueOfLine Property.Periods) ≡ ascii "FREEBUSY"
+  unfolding valueAs typeValue withPeriods propertyName
+  periods-name h = go (hasTwice (ascii "FBTYPE") x || hasList (ascii "FBTYPE") x) (allPeriods (periodItems (x .value))) refl h
+    where
+      go : (a b : Bool) → allPeriods (periodItems (x .value)) ≡ b
+          → Good (withPeriods (x .value) (cond a PropertyValue.Bad (PropertyValue.HasPeriods (busyOf x))))
+          → propertyName (withPeriods (x .value) (cond a PropertyValue.Bad (PropertyValue.HasPeriods (busyOf x)))) ≡ ascii "FREEBUSY"
+      go true b e h = absurd h
+      go false true e h = rw e
+      go false false e h = absurd (rw e at h)
+
+-- ---- the name of the line, and the name of what it says
+
+-- words in capitals are compared as they stand
+word-name : (n u w : List ℕ) (v : PropertyValue) → map upper u ≡ u → map upper w ≡ w → sameName n u ≡ true → propertyName v ≡ u
+    → sameBytes (propertyName v) w ≡ sameName n w
+unfolding sameName
+word-name n u w v p q e f =
+    ap (λ (a : List ℕ). sameBytes a w) f
+    ∙ ap (λ (a : List ℕ). sameBytes a w) (sym p)
+    ∙ ap (λ (a : List ℕ). sameBytes a w) (sym (sameName-iff n u .0 e))
+    ∙ ap (λ (a : List ℕ). sameBytes (map upper n) a) (sym q)
+
+-- what a line says has the line's name, as far as the rules of a VEVENT look at it
+record Agree (n : List ℕ) (v : PropertyValue) : Type 0 where
+  starts : sameBytes (propertyName v) (ascii "DTSTART") ≡ sameName n (ascii "DTSTART")
+  ends : sameBytes (propertyName v) (ascii "DTEND") ≡ sameName n (ascii "DTEND")
+  durations : sameBytes (propertyName v) (ascii "DURATION") ≡ sameName n (ascii "DURATION")
+  rules : sameBytes (propertyName v) (ascii "RRULE") ≡ sameName n (ascii "RRULE")
+  statuses : sameBytes (propertyName v) (ascii "STATUS") ≡ sameName n (ascii "STATUS")
+  transparencies : sameBytes (propertyName v) (ascii "TRANSP") ≡ sameName n (ascii "TRANSP")
+
+agree : (n u : List ℕ) (v : PropertyValue) → map upper u ≡ u → sameName n u ≡ true → propertyName v ≡ u → Agree n v
+unfolding upper
+agree n u v p e f =
+    record {
+      starts = word-name n u (ascii "DTSTART") v p refl e f;
+      ends = word-name n u (ascii "DTEND") v p refl e f;
+      durations = word-name n u (ascii "DURATION") v p refl e f;
+      rules = word-name n u (ascii "RRULE") v p refl e f;
+      statuses = word-name n u (ascii "STATUS") v p refl e f;
+      transparencies = word-name n u (ascii "TRANSP") v p refl e f;
+    }
+
+-- the property of a name, by its comparisons
+abbrev picked : Bool → Bool → Bool → Bool → Bool → Bool → Bool → Property
+picked s e d r t p u =
+    cond s Property.Start
+    (cond e Property.End
+    (cond d Property.Duration
+    (cond r Property.Rule (cond t Property.Status (cond p Property.Transparency (cond u Property.Unsupported Property.Unread))))))
+
+module _ (c : Context) (x : ContentLine) where
+  event-agree-by : (s e d r t p u : Bool) → sameName (x .name) (ascii "DTSTART") ≡ s → sameName (x .name) (ascii "DTEND") ≡ e
+      → sameName (x .name) (ascii "DURATION") ≡ d → sameName (x .name) (ascii "RRULE") ≡ r → sameName (x .name) (ascii "STATUS") ≡ t
+      → sameName (x .name) (ascii "TRANSP") ≡ p → Good (valueOfLine c Scope.Event x (picked s e d r t p u))
+      → Agree (x .name) (valueOfLine c Scope.Event x (picked s e d r t p u))
+  unfolding upper valueAs withPeriods propertyName
+  event-agree-by true e d r t p u es ee ed er et ep h = agree (x .name) (ascii "DTSTART") _ refl es (start-name c Scope.Event x h)
+  event-agree-by false true d r t p u es ee ed er et ep h = agree (x .name) (ascii "DTEND") _ refl ee (end-name c Scope.Event x h)
+  event-agree-by false false true r t p u es ee ed er et ep h = agree (x .name) (ascii "DURATION") _ refl ed (duration-name c Scope.Event x h)
+  event-agree-by false false false true t p u es ee ed er et ep h = agree (x .name) (ascii "RRULE") _ refl er (rule-name c Scope.Event x h)
+  event-agree-by false false false false true p u es ee ed er et ep h = agree (x .name) (ascii "STATUS") _ refl et (status-name c Scope.Event x)
+  event-agree-by false false false false false true u es ee ed er et ep h = agree (x .name) (ascii "TRANSP") _ refl ep (transparency-name c Scope.Event x)
+  event-agree-by false false false false false false true es ee ed er et ep h = absurd h
+  event-agree-by false false false false false false false es ee ed er et ep h =
+      record { starts = sym es; ends = sym ee; durations = sym ed; rules = sym er; statuses = sym et; transparencies = sym ep }
+
+  event-agree : Good (propertyValueOf c Scope.Event x) → Agree (x .name) (propertyValueOf c Scope.Event x)
+  unfolding propertyValueOf beforePeriods propertyOf timesOr eventProperty
+  event-agree h =
+      event-agree-by (sameName (x .name) (ascii "DTSTART")) (sameName (x .name) (ascii "DTEND")) (sameName (x .name) (ascii "DURATION"))
+      (sameName (x .name) (ascii "RRULE")) (sameName (x .name) (ascii "STATUS")) (sameName (x .name) (ascii "TRANSP")) (isUnsupported (x .name)) refl refl refl
+      refl refl refl h
+
+-- the same in a VFREEBUSY, of DTSTART and DTEND
+record AgreeTimes (n : List ℕ) (v : PropertyValue) : Type 0 where
+  starts : sameBytes (propertyName v) (ascii "DTSTART") ≡ sameName n (ascii "DTSTART")
+  ends : sameBytes (propertyName v) (ascii "DTEND") ≡ sameName n (ascii "DTEND")
+
+agree-times : (n u : List ℕ) (v : PropertyValue) → map upper u ≡ u → sameName n u ≡ true → propertyName v ≡ u → AgreeTimes n v
+agree-times n u v p e f = let a = agree n u v p e f in record { starts = a .starts; ends = a .ends }
+
+module _ (c : Context) (x : ContentLine) where
+  block-agree-by : (s e p : Bool) → sameName (x .name) (ascii "DTSTART") ≡ s → sameName (x .name) (ascii "DTEND") ≡ e
+      → sameName (x .name) (ascii "FREEBUSY") ≡ p
+      → Good (valueOfLine c Scope.FreeBusy x (cond s Property.Start (cond e Property.End (cond p Property.Periods Property.Unread))))
+      → AgreeTimes (x .name) (valueOfLine c Scope.FreeBusy x (cond s Property.Start (cond e Property.End (cond p Property.Periods Property.Unread))))
+  unfolding upper valueAs withPeriods propertyName
+  block-agree-by true e p es ee ep h = agree-times (x .name) (ascii "DTSTART") _ refl es (start-name c Scope.FreeBusy x h)
+  block-agree-by false true p es ee ep h = agree-times (x .name) (ascii "DTEND") _ refl ee (end-name c Scope.FreeBusy x h)
+  block-agree-by false false true es ee ep h = agree-times (x .name) (ascii "FREEBUSY") _ refl ep (periods-name c Scope.FreeBusy x h)
+  block-agree-by false false false es ee ep h = record { starts = sym es; ends = sym ee }
+
+  block-agree : Good (propertyValueOf c Scope.FreeBusy x) → AgreeTimes (x .name) (propertyValueOf c Scope.FreeBusy x)
+  unfolding propertyValueOf beforePeriods propertyOf timesOr freeBusyProperty
+  block-agree h =
+      block-agree-by (sameName (x .name) (ascii "DTSTART")) (sameName (x .name) (ascii "DTEND")) (sameName (x .name) (ascii "FREEBUSY")) refl refl refl h
+
+-- ---- all lines of a component
+
+count-step : (w : List ℕ) (s : PropertyValue) (ss : List PropertyValue) (x : Numbered) (xs : List Numbered)
+    → sameBytes (propertyName s) w ≡ sameName (x .line .name) w → linesNamed w ss ≡ linesCalled w xs → linesNamed w (s ∷ ss) ≡ linesCalled w (x ∷ xs)
+unfolding linesNamed linesCalled
+count-step w s ss x xs e h =
+    ap (λ (b : Bool). countIf b (linesNamed w ss)) e ∙ ap (λ (n : ℕ). countIf (sameName (x .line .name) w) n) h
+
+-- where no value of a VEVENT is bad or unsupported, its lines are counted by their names
+pub event-counts : (c : Context) (xs : List Numbered) (r : ValueCheck) → faultIn c Scope.Event xs r ≡ ValueCheck.Good
+    → EventCounts xs (propertyValuesIn c Scope.Event xs)
+unfolding faultIn propertyValuesIn linesNamed linesCalled
+event-counts c [] r e = record { starts = refl; ends = refl; durations = refl; rules = refl; statuses = refl; transparencies = refl }
+event-counts c (x ∷ xs) r e =
+    let s = propertyValueOf c Scope.Event (x .line) in
+    let ss = propertyValuesIn c Scope.Event xs in
+    let f = fault-good (x .number) s (faultIn c Scope.Event xs r) e in
+    let a = event-agree c (x .line) (f .0) in
+    let k = event-counts c xs r (f .1) in
+    record {
+      starts = count-step (ascii "DTSTART") s ss x xs (a .starts) (k .starts);
+      ends = count-step (ascii "DTEND") s ss x xs (a .ends) (k .ends);
+      durations = count-step (ascii "DURATION") s ss x xs (a .durations) (k .durations);
+      rules = count-step (ascii "RRULE") s ss x xs (a .rules) (k .rules);
+      statuses = count-step (ascii "STATUS") s ss x xs (a .statuses) (k .statuses);
+      transparencies = count-step (ascii "TRANSP") s ss x xs (a .transparencies) (k .transparencies);
+    }
+
+-- and so are those of a VFREEBUSY
+pub block-counts : (c : Context) (xs : List Numbered) (r : ValueCheck) → faultIn c Scope.FreeBusy xs r ≡ ValueCheck.Good
+    → BlockCounts xs (propertyValuesIn c Scope.FreeBusy xs)
+unfolding faultIn propertyValuesIn linesNamed linesCalled
+block-counts c [] r e = record { starts = refl; ends = refl }
+block-counts c (x ∷ xs) r e =
+    let s = propertyValueOf c Scope.FreeBusy (x .line) in
+    let ss = propertyValuesIn c Scope.FreeBusy xs in
+    let f = fault-good (x .number) s (faultIn c Scope.FreeBusy xs r) e in
+    let a = block-agree c (x .line) (f .0) in
+    let k = block-counts c xs r (f .1) in
+    record {
+      starts = count-step (ascii "DTSTART") s ss x xs (a .starts) (k .starts);
+      ends = count-step (ascii "DTEND") s ss x xs (a .ends) (k .ends);
+    }
+
+-- ---- all components: where 8 and 9 are not given, no component has such a value
+
+rest-good : (c : Context) (s : Scope) (xs : List Numbered) (r : ValueCheck) → faultIn c s xs r ≡ ValueCheck.Good → r ≡ ValueCheck.Good
+unfolding faultIn
+rest-good c s [] r e = e
+rest-good c s (x ∷ xs) r e = rest-good c s xs r (fault-good (x .number) (propertyValueOf c s (x .line)) (faultIn c s xs r) e .1)
+
+pub values-good : (c : Context) (ks : List Component) → valueFault c ks ≡ ValueCheck.Good → (k : Component) → List·Memᴰ k ks
+    → (r : ValueCheck) × (faultIn c (componentScope k) (propertiesIn (k .items)) r ≡ ValueCheck.Good)
+unfolding valueFault
+values-good c (j ∷ ks) e k (List·Memᴰ·head q) =
+    (valueFault c ks, subst (λ (i : Component). faultIn c (componentScope i) (propertiesIn (i .items)) (valueFault c ks) ≡ ValueCheck.Good) (sym q) e)
+values-good c (j ∷ ks) e k (List·Memᴰ·tail m) =
+    values-good c ks (rest-good c (componentScope j) (propertiesIn (j .items)) (valueFault c ks) e) k m
