@@ -24,6 +24,8 @@ Keeps c k = KeepsAs c (componentScope k) k
 
 -- ---- the counts in these rules are counts of lines by their names, since 8 and 9 are given before 10: proofs/LineCounts.antt
 
+-- ---- the counts in these rules are counts of lines by their names, since 8 and 9 are given before 10: proofs/LineCounts.antt
+
 -- how many of the lines have this name
 unfoldable pub linesCalled : List ℕ → List Numbered → ℕ
 linesCalled n [] = 0

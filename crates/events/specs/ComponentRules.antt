@@ -38,21 +38,21 @@ unfoldable pub linesNamed : List ℕ → List PropertyValue → ℕ
 linesNamed n [] = 0
 linesNamed n (s ∷ ss) = countIf (sameBytes (propertyName s) n) (linesNamed n ss)
 
--- DTEND e fits to DTSTART s
+-- DTEND e beside DTSTART s: of its kind (UTC, floating, DATE), and later
 pub record EndFits (s e : Time) : Type 0 where
   pub same-kind : e .kind ≡ s .kind
   pub later : s .second < e .second
 
--- DURATION d fits to DTSTART s
+-- DURATION d beside DTSTART s: on a DATE its text has no time part
 pub record DurationFits (s : Time) (d : Duration) : Type 0 where
   pub no-time-on-date : s .kind ≡ Kind.Date → d .timed ≡ false
 
--- UNTIL t fits to DTSTART s
+-- UNTIL t beside DTSTART s: of its kind, and not before it
 pub record UntilFits (s t : Time) : Type 0 where
   pub same-kind : t .kind ≡ s .kind
   pub not-before : s .second ≤ t .second
 
--- what the lines of a VEVENT must be
+-- what the lines of a VEVENT must be: one DTSTART, at most one each of five others, and what a DTEND, a DURATION and an UNTIL must be
 pub record EventRules (ss : List PropertyValue) : Type 0 where
   pub one-start : linesNamed (ascii "DTSTART") ss ≡ 1
   pub few-ends : linesNamed (ascii "DTEND") ss ≤ 1
@@ -66,7 +66,7 @@ pub record EventRules (ss : List PropertyValue) : Type 0 where
   pub until-fits : (s : Time) (r : Rule) (t : Time) → List·Memᴰ (PropertyValue.Start s) ss → List·Memᴰ (PropertyValue.Repeats r) ss
       → r .limit ≡ Limit.Until t → UntilFits s t
 
--- what the lines of a VFREEBUSY must be
+-- what the lines of a VFREEBUSY must be: at most one DTSTART and one DTEND, and with both, the second is later
 pub record BlockRules (ss : List PropertyValue) : Type 0 where
   pub few-starts : linesNamed (ascii "DTSTART") ss ≤ 1
   pub few-ends : linesNamed (ascii "DTEND") ss ≤ 1
