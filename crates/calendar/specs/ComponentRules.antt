@@ -2,7 +2,7 @@
 -- Tied to `isBroken` in proofs/ComponentRules.antt; the first component that does not keep them is in FirstFaults.
 use Prim.Native.Nat.{ℕ}
 use mathlib.Core.Path.{_≡_}
-use mathlib.Core.List.{List, [], _∷_, _++_}
+use mathlib.Core.List.{List, [], _∷_}
 use Rattle.ascii.specs.Names.{sameName}
 use Rattle.ascii.specs.Words.{ascii}
 use Rattle.values.specs.declared.times.Context.{Context}
@@ -21,8 +21,6 @@ KeepsAs c Scope.Other k = Unit {0}
 -- the component keeps the rules that its name asks for
 abbrev pub Keeps : Context → Component → Type 0
 Keeps c k = KeepsAs c (componentScope k) k
-
--- ---- the counts in these rules are counts of lines by their names, since 8 and 9 are given before 10: proofs/LineCounts.antt
 
 -- ---- the counts in these rules are counts of lines by their names, since 8 and 9 are given before 10: proofs/LineCounts.antt
 
