@@ -26,6 +26,7 @@ use Rattle.engine.specs.Matching.{MatchCall, queryRows, offsetRow, early
 use Rattle.engine.specs.Demands.{MatchesWhen, Demand1, Demand2, Demand3}
 use Rattle.engine.proofs.Answers.{let-through, verdict-found, same-verdict}
 use Rattle.engine.proofs.DemandsAnswers.{match-decided, match-work, report-decided, report-work, output-left}
+use Rattle.engine.proofs.Sentences.{match-applies-iff, report-applies-iff}
 use Rattle.engine.proofs.DemandsReports.{says-covered, reads-back, one-meaning}
 
 -- ---- Demand 2
@@ -113,6 +114,8 @@ work-unwritten {m} {b} p =
 pub demand-1 : Demand1
 demand-1 =
     record {
+      match-rows = match-applies-iff;
+      report-rows = report-applies-iff;
       of-match = λ m a left p. (match-decided p, match-work p);
       of-report = λ m a left out-left p. (report-decided p, report-work p, output-left p);
     }

@@ -15,12 +15,13 @@ use Rattle.report.specs.Bytes.{reportBytes}
 use Rattle.query_check.specs.QueryRules.{WellFormedQuery}
 use Rattle.filter.specs.FilterRules.{QueryPasses}
 use Rattle.pieces.specs.Covered.{Covers}
-use Rattle.refusals.specs.Refusals.{Row, NoneApplies, FirstApplies}
+use Rattle.refusals.specs.Refusals.{Row, RowApplies, NoneApplies, FirstApplies}
 use Rattle.refusals.specs.Offsets.{offsetGood, contextOf}
 use Rattle.collecting.specs.CalendarTerms.{CalendarTerms, entriesIn, reportFor, earlyRows}
 use Rattle.engine.specs.Answers.{Outcome, verdict, report, refusal, outcomeOf}
 use Rattle.engine.specs.Matching.{MatchCall, earlyMatchRows, matchRows, Matched}
 use Rattle.engine.specs.Reporting.{ReportCall, reportRows, Reported}
+use Rattle.engine.specs.Sentences.{MatchApplies, ReportApplies}
 use Rattle.engine.specs.declared.Answer.{Answer}
 
 -- ---- Demand 1: an answer or one numbered refusal, and what memory then holds
@@ -52,7 +53,10 @@ pub record OutputLeft (m : ReportCall) (a : Answer) (left : List ℕ) : Type 0 w
   pub length-is : (n : ℕ) → IsReport a n → n ≡ length (reportBytes (reportFor (m .terms)))
   pub written-when : (n : ℕ) → IsReport a n → left ≡ reportBytes (reportFor (m .terms)) ++ drop n (m .output)
 
+-- the rows are the sentences of the refusal table, in its order
 pub record Demand1 : Type 0 where
+  pub match-rows : (m : MatchCall) (k i : ℕ) → RowApplies (matchRows m) k i ↔ MatchApplies m k i
+  pub report-rows : (m : ReportCall) (k i : ℕ) → RowApplies (reportRows m) k i ↔ ReportApplies m k i
   pub of-match : (m : MatchCall) (a : Answer) (left : List ℕ) → Matched m a left
       → Decided (matchRows m) IsVerdict a × WorkLeft (earlyMatchRows m) (m .calendar) (m .work) left
   pub of-report : (m : ReportCall) (a : Answer) (left out-left : List ℕ) → Reported m a left out-left

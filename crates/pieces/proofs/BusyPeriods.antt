@@ -1,19 +1,22 @@
 -- The periods of an instance, of an event and of a calendar: which stand in the lists.
-use Prim.Native.Nat.{ℕ, zero, suc, _<_}
+use Prim.Native.Nat.{ℕ, zero, suc, _≤_, _<_}
 use mathlib.Core.Path.{_≡_, refl, sym, subst}
 use mathlib.Core.Bool.{Bool, true, false}
 use mathlib.Core.Logic.{_⊎_, inl, inr}
-use mathlib.Core.List.{List, [], _∷_, _++_, List·Memᴰ, List·Memᴰ·head, List·Memᴰ·not-nil, List·Memᴰ·cases-cons, Memᴰ·append-left, Memᴰ·append-right, List·Memᴰ·append-cases}
+use mathlib.Core.List.{List, [], _∷_, _++_, List·Memᴰ, List·Memᴰ·head, List·Memᴰ·tail, List·Memᴰ·eq-of-singleton, List·Memᴰ·not-nil, List·Memᴰ·cases-cons, Memᴰ·append-left, Memᴰ·append-right, List·Memᴰ·append-cases}
 use native.Mathlib.Omega.{arith}
 use lib.Dec.{ltb}
 use borrow.Author.Tests.{ltb-true, ltb-false}
 use Rattle.ascii.proofs.Bools.{clash}
+use Rattle.time.specs.Limits.{lastSecond}
 use Rattle.periods.specs.BusyTypes.{BusyPeriod}
 use Rattle.events.specs.Events.{Entry, event, block}
 use Rattle.events.specs.declared.Event.{Event}
 use Rattle.events.specs.declared.Block.{Block}
+use Rattle.events.specs.Sizes.{EventSmall}
 use Rattle.recurrence.specs.Instances.{startOf, endOf, occurs, instancesAtMost}
-use Rattle.pieces.specs.BusyPeriods.{busyPeriod, listBelow, instancePeriod, eventPeriods, entryPeriods, busyPeriods}
+use Rattle.recurrence.proofs.Instances.{starts-few, takes-place-iff}
+use Rattle.pieces.specs.BusyPeriods.{busyPeriod, listBelow, instancePeriod, eventPeriods, entryPeriods, busyPeriods, IsBusyPeriod, of-instance, of-block}
 
 -- ---- an instance
 
@@ -81,3 +84,42 @@ instance-listed e k l h =
 pub block-listed : (k : Block) (ps : List BusyPeriod) {p : BusyPeriod} → List·Memᴰ p ps → List·Memᴰ p (entryPeriods (block k ps))
 unfolding entryPeriods
 block-listed k ps m = m
+
+-- ---- for the reader: what stands in the list of all
+
+-- of an entry more
+period-more : {p : BusyPeriod} (y : Entry) (es : List Entry) → IsBusyPeriod es p → IsBusyPeriod (y ∷ es) p
+period-more y es (of-instance e d k s q) = of-instance e (List·Memᴰ·tail d) k s q
+period-more y es (of-block k ps d m) = of-block k ps (List·Memᴰ·tail d) m
+
+instance-is : (e : Event) (k : ℕ) {p : BusyPeriod} → List·Memᴰ p (instancePeriod e k) → (es : List Entry) → List·Memᴰ (event e) es → IsBusyPeriod es p
+instance-is e k {p} m es d = go (occurs e k) refl
+  where
+    go : (y : Bool) → occurs e k ≡ y → IsBusyPeriod es p
+    go true q =
+        of-instance e d k (takes-place-iff e k .0 q)
+        (List·Memᴰ·eq-of-singleton (subst (λ (l : List BusyPeriod). List·Memᴰ p l) (occurs-period e k q) m))
+    go false q = absurd (List·Memᴰ·not-nil (subst (λ (l : List BusyPeriod). List·Memᴰ p l) (fails-period e k q) m))
+
+entry-is : (y : Entry) {p : BusyPeriod} → List·Memᴰ p (entryPeriods y) → (es : List Entry) → List·Memᴰ y es → IsBusyPeriod es p
+unfolding entryPeriods eventPeriods
+entry-is (event e) m es d = let i = listed-below (instancePeriod e) instancesAtMost m in instance-is e (i .number) (i .there) es d
+entry-is (block k ps) m es d = of-block k ps d m
+
+pub listed-is : (es : List Entry) {p : BusyPeriod} → List·Memᴰ p (busyPeriods es) → IsBusyPeriod es p
+unfolding busyPeriods
+listed-is [] m = absurd (List·Memᴰ·not-nil m)
+listed-is (y ∷ es) {p} m = go (List·Memᴰ·append-cases (entryPeriods y) m) (listed-is es)
+  where
+    go : List·Memᴰ p (entryPeriods y) ⊎ List·Memᴰ p (busyPeriods es) → (List·Memᴰ p (busyPeriods es) → IsBusyPeriod es p) → IsBusyPeriod (y ∷ es) p
+    go (inl d) r = entry-is y d (y ∷ es) (List·Memᴰ·head refl)
+    go (inr d) r = period-more y es (r d)
+
+-- none that starts within the limits is left out of the list
+pub is-listed : (es : List Entry) {p : BusyPeriod} → ((e : Event) → List·Memᴰ (event e) es → EventSmall e) → p .period .start ≤ lastSecond
+    → IsBusyPeriod es p → List·Memᴰ p (busyPeriods es)
+is-listed es {p} small l (of-instance e d k s q) =
+    let early : startOf e k ≤ lastSecond = subst (λ (w : BusyPeriod). w .period .start ≤ lastSecond) q l in
+    subst (λ (w : BusyPeriod). List·Memᴰ w (busyPeriods es)) (sym q)
+    (entry-listed (event e) es d (instance-listed e k (starts-few k (small e d) early) (takes-place-iff e k .1 s)))
+is-listed es small l (of-block k ps d m) = entry-listed (block k ps) es d (block-listed k ps m)

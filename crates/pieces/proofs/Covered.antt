@@ -4,7 +4,7 @@ use Prim.Native.Nat.{ℕ, suc, _+_, _≤_, _<_}
 use mathlib.Core.Path.{_≡_, refl, sym, ap, _∙_, subst}
 use mathlib.Core.Bool.{Bool, true, false, cond, _&&_, _||_, or-assoc}
 use mathlib.Core.Logic.{_↔_, _⊎_, inl, inr}
-use mathlib.Core.List.{List, [], _∷_, _++_, List·Memᴰ, List·Memᴰ·head, List·Memᴰ·tail, List·Memᴰ·not-nil, List·Memᴰ·cases-cons, List·Memᴰ·append-cases, List·Memᴰ·eq-of-singleton}
+use mathlib.Core.List.{List, [], _∷_, _++_, List·Memᴰ, List·Memᴰ·head, List·Memᴰ·tail, List·Memᴰ·not-nil, List·Memᴰ·cases-cons}
 use native.Mathlib.Omega.{arith}
 use lib.ListN.{length}
 use Rattle.time.specs.Limits.{lastSecond}
@@ -15,14 +15,12 @@ use Rattle.periods.specs.Periods.{secondIn, covers}
 use Rattle.periods.proofs.Periods.{secondIn-ends, secondIn-true}
 use Rattle.periods.specs.BusyTypes.{reportPlace, isBusy, sameBusy, BusyPeriod}
 use Rattle.periods.proofs.BusyTypes.{sameBusy-iff}
-use Rattle.events.specs.Events.{Entry, event, block}
+use Rattle.events.specs.Events.{Entry, event}
 use Rattle.events.specs.Sizes.{EventSmall}
 use Rattle.events.specs.declared.Event.{Event}
-use Rattle.recurrence.specs.Instances.{occurs, instancesAtMost}
-use Rattle.recurrence.proofs.Instances.{starts-few, takes-place-iff}
-use Rattle.pieces.specs.BusyPeriods.{instancePeriod, eventPeriods, entryPeriods, busyPeriods}
-use Rattle.pieces.specs.Covered.{ofType, coveredBy, covered, Covers, by-instance, by-period}
-use Rattle.pieces.proofs.BusyPeriods.{occurs-period, fails-period, listed-below, entry-listed, instance-listed, block-listed}
+use Rattle.pieces.specs.BusyPeriods.{busyPeriods}
+use Rattle.pieces.specs.Covered.{ofType, coveredBy, covered, Covers}
+use Rattle.pieces.proofs.BusyPeriods.{listed-is, is-listed}
 
 -- ---- lists after each other
 
@@ -117,56 +115,17 @@ module _ (b : BusyType) (x : ℕ) where
       go (inl d) k = ap (λ (t : Bool). t || coveredBy b ps x) (subst (λ (w : BusyPeriod). hits b w x ≡ true) d (hits-holds p e f g))
       go (inr d) k = or-right (hits b q x) (k d)
 
--- ---- an entry
-
-module _ (b : BusyType) (x : ℕ) where
-  instance-covers : (e : Event) (k : ℕ) {p : BusyPeriod} → List·Memᴰ p (instancePeriod e k) → p .busy ≡ b → p .period .start ≤ x → x < p .period .end
-      → (es : List Entry) → List·Memᴰ (event e) es → Covers es b x
-  instance-covers e k {p} m t f g es d = go (occurs e k) refl
-    where
-      go : (y : Bool) → occurs e k ≡ y → Covers es b x
-      go true q =
-          let z = List·Memᴰ·eq-of-singleton (subst (λ (l : List BusyPeriod). List·Memᴰ p l) (occurs-period e k q) m) in
-          by-instance e d (sym (ap (λ (w : BusyPeriod). w .busy) z) ∙ t) k (takes-place-iff e k .0 q) (subst (λ (w : BusyPeriod). w .period .start ≤ x) z f)
-          (subst (λ (w : BusyPeriod). x < w .period .end) z g)
-      go false q = absurd (List·Memᴰ·not-nil (subst (λ (l : List BusyPeriod). List·Memᴰ p l) (fails-period e k q) m))
-
-  event-covers : (e : Event) {p : BusyPeriod} → List·Memᴰ p (eventPeriods e) → p .busy ≡ b → p .period .start ≤ x → x < p .period .end
-      → (es : List Entry) → List·Memᴰ (event e) es → Covers es b x
-  unfolding eventPeriods
-  event-covers e m t f g es d = let i = listed-below (instancePeriod e) instancesAtMost m in instance-covers e (i .number) (i .there) t f g es d
-
-  entry-covers : (y : Entry) {p : BusyPeriod} → List·Memᴰ p (entryPeriods y) → p .busy ≡ b → p .period .start ≤ x → x < p .period .end
-      → (es : List Entry) → List·Memᴰ y es → Covers es b x
-  unfolding entryPeriods
-  entry-covers (event e) m t f g es d = event-covers e m t f g es d
-  entry-covers (block k ps) {p} m t f g es d = by-period k ps d p m t f g
-
-  covers-more : (y : Entry) (es : List Entry) → Covers es b x → Covers (y ∷ es) b x
-  covers-more y es (by-instance e d t k s f g) = by-instance e (List·Memᴰ·tail d) t k s f g
-  covers-more y es (by-period k ps d p m t f g) = by-period k ps (List·Memᴰ·tail d) p m t f g
-
-  entries-cover : (es : List Entry) {p : BusyPeriod} → List·Memᴰ p (busyPeriods es) → p .busy ≡ b → p .period .start ≤ x → x < p .period .end → Covers es b x
-  unfolding busyPeriods
-  entries-cover [] m t f g = absurd (List·Memᴰ·not-nil m)
-  entries-cover (y ∷ es) {p} m t f g = go (List·Memᴰ·append-cases (entryPeriods y) m) (λ d. entries-cover es d t f g)
-    where
-      go : List·Memᴰ p (entryPeriods y) ⊎ List·Memᴰ p (busyPeriods es) → (List·Memᴰ p (busyPeriods es) → Covers es b x) → Covers (y ∷ es) b x
-      go (inl d) r = entry-covers y d t f g (y ∷ es) (List·Memᴰ·head refl)
-      go (inr d) r = covers-more y es (r d)
+-- ---- for the reader
 
 module _ (b : BusyType) (es : List Entry) (x : ℕ) where
-  covers-covered : x ≤ lastSecond → ((e : Event) → List·Memᴰ (event e) es → EventSmall e) → Covers es b x → covered b es x ≡ true
-  unfolding covered
-  covers-covered l small (by-instance e d t k s f g) =
-      listed-covered b x (busyPeriods es) (entry-listed (event e) es d (instance-listed e k (starts-few k (small e d) (omega arith)) (takes-place-iff e k .1 s))) t f g
-  covers-covered l small (by-period k ps d p m t f g) =
-      listed-covered b x (busyPeriods es) (entry-listed (block k ps) es d (block-listed k ps m)) t f g
-
   pub covered-iff : x ≤ lastSecond → ((e : Event) → List·Memᴰ (event e) es → EventSmall e) → (covered b es x ≡ true) ↔ Covers es b x
   unfolding covered
-  covered-iff l small =
-      (λ h. let i = covered-listed b x (busyPeriods es) h in entries-cover b x es (i .listed) (i .type) (i .from) (i .to), covers-covered l small)
+  covered-iff l small = (
+    λ h.
+        let i = covered-listed b x (busyPeriods es) h in
+        record { which = i .which; there = listed-is es (i .listed); type = i .type; from = i .from; to = i .to },
+    λ c. listed-covered b x (busyPeriods es) (is-listed es small (omega (arith, c .from)) (c .there)) (c .type) (c .from) (c .to),
+  )
 
 -- ---- how many
 

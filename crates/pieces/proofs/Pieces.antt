@@ -2,12 +2,13 @@
 use Prim.Native.Nat.{ℕ, zero, suc, _+_, _≤_, _<_, min, max}
 use mathlib.Core.Path.{_≡_, refl, sym, ap, _∙_, subst}
 use mathlib.Core.Bool.{Bool, true, false, not, _&&_, _||_, and-false, or-false}
-use mathlib.Core.Logic.{_⊎_, inl, inr}
-use mathlib.Core.List.{List, [], _∷_, _++_, append-assoc, append-nil, List·Memᴰ, List·Memᴰ·head, List·Memᴰ·tail, List·Memᴰ·not-nil, List·Memᴰ·append-cases, List·Memᴰ·eq-of-singleton}
+use mathlib.Core.Logic.{_↔_, _⊎_, inl, inr}
+use mathlib.Core.List.{List, [], _∷_, _++_, append-assoc, append-nil, List·Memᴰ, List·Memᴰ·head, List·Memᴰ·tail, List·Memᴰ·not-nil, List·Memᴰ·cases-cons, List·Memᴰ·append-cases, List·Memᴰ·eq-of-singleton, Memᴰ·append-left, Memᴰ·append-right}
 use native.Mathlib.Omega.{arith}
 use lib.Dec.{ltb}
 use lib.ListN.{length}
 use borrow.Author.Tests.{ltb-true, lt-ltb, eqb-true, not-false}
+use Rattle.time.specs.Limits.{lastSecond}
 use Rattle.ascii.proofs.Bools.{and-left, and-right, and-both, clash, not-so}
 use Rattle.periods.specs.declared.Period.{Period}
 use Rattle.periods.specs.declared.BusyType.{BusyType}
@@ -15,6 +16,7 @@ use Rattle.periods.specs.Periods.{period, secondIn}
 use Rattle.periods.proofs.Periods.{secondIn-ends, secondIn-true}
 use Rattle.periods.specs.BusyTypes.{reportPlace, isBusy, sameBusy, BusyPeriod}
 use Rattle.events.specs.Events.{Entry, event}
+use Rattle.events.specs.Sizes.{EventSmall}
 use Rattle.events.specs.declared.Event.{Event}
 use Rattle.recurrence.specs.Instances.{startOf, endOf, occurs, isZeroLength, instancesAtMost}
 use Rattle.recurrence.specs.TimeRange.{instanceIn}
@@ -22,8 +24,8 @@ use Rattle.recurrence.proofs.Instances.{zero-length-end}
 use Rattle.recurrence.proofs.TimeRange.{covering-in}
 use Rattle.pieces.specs.BusyPeriods.{busyPeriod, listBelow, instancePeriod, eventPeriods, entryPeriods, busyPeriods}
 use Rattle.pieces.specs.Covered.{ofType, coveredBy, covered}
-use Rattle.pieces.specs.Pieces.{clipped, isPiece, pieceOf, piecesOf, busyPieces}
-use Rattle.pieces.proofs.BusyPeriods.{chosen, left-out, occurs-period, fails-period}
+use Rattle.pieces.specs.Pieces.{clipped, isPiece, pieceOf, piecesOf, busyPieces, PieceIs}
+use Rattle.pieces.proofs.BusyPeriods.{chosen, left-out, occurs-period, fails-period, listed-is, is-listed}
 use Rattle.pieces.proofs.Covered.{covers-none, coveredBy-append, hits, hits-first, types-count}
 
 -- two Bools that follow from each other are one
@@ -271,3 +273,68 @@ no-event-pieces e {p} {z} q l h = go (ltb p 3) refl h
     go : (t : Bool) → ltb p 3 ≡ t → (t && not z) ≡ false → (a b : ℕ) → piecesOf a b (eventPeriods e) ≡ []
     go true u v = empty-event e (sym l ∙ not-false z v)
     go false u v = free-event e (ap (λ (i : ℕ). ltb i 3) (sym q) ∙ u)
+
+-- ---- for the reader: which pieces there are
+
+-- a busy period that covers a second of the range has a piece, and no other has
+module _ (a e : ℕ) where
+  piece-second : (q : BusyPeriod) → isPiece a e q ≡ true
+      → (isBusy (q .busy) ≡ true) × (a ≤ max a (q .period .start)) × (max a (q .period .start) < min e (q .period .end))
+  unfolding isPiece clipped
+  piece-second q h =
+      (and-left (isBusy (q .busy)) _ h, omega arith, ltb-true (max a (q .period .start)) (min e (q .period .end)) (and-right (isBusy (q .busy)) _ h))
+
+  second-piece : (q : BusyPeriod) (x : ℕ) → isBusy (q .busy) ≡ true → a ≤ x → x < e → q .period .start ≤ x → x < q .period .end → isPiece a e q ≡ true
+  unfolding isPiece clipped
+  second-piece q x u f g h k = and-both u (lt-ltb (max a (q .period .start)) (min e (q .period .end)) (omega arith))
+
+  -- a piece is the part of some period of the list
+  piece-from : (ps : List BusyPeriod) {p : BusyPeriod} → List·Memᴰ p (piecesOf a e ps) → (q : BusyPeriod) × List·Memᴰ q ps × (isPiece a e q ≡ true) × (p ≡ pieceIn a e q)
+  unfolding piecesOf
+  piece-from [] m = absurd (List·Memᴰ·not-nil m)
+  piece-from (q ∷ ps) {p} m = go (List·Memᴰ·append-cases (pieceOf a e q) m) (isPiece a e q) refl (piece-from ps)
+    where
+      go : List·Memᴰ p (pieceOf a e q) ⊎ List·Memᴰ p (piecesOf a e ps) → (t : Bool) → isPiece a e q ≡ t
+          → (List·Memᴰ p (piecesOf a e ps) → (r : BusyPeriod) × List·Memᴰ r ps × (isPiece a e r ≡ true) × (p ≡ pieceIn a e r))
+          → (r : BusyPeriod) × List·Memᴰ r (q ∷ ps) × (isPiece a e r ≡ true) × (p ≡ pieceIn a e r)
+      go (inl d) true h below =
+          (q, List·Memᴰ·head refl, h, List·Memᴰ·eq-of-singleton (subst (λ (l : List BusyPeriod). List·Memᴰ p l) (is-piece a e q h) d))
+      go (inl d) false h below = absurd (List·Memᴰ·not-nil (subst (λ (l : List BusyPeriod). List·Memᴰ p l) (is-none a e q h) d))
+      go (inr d) t h below = let r = below d in (r .0, List·Memᴰ·tail (r .1), r .2, r .3)
+
+  piece-listed : (ps : List BusyPeriod) {q : BusyPeriod} → List·Memᴰ q ps → isPiece a e q ≡ true → List·Memᴰ (pieceIn a e q) (piecesOf a e ps)
+  unfolding piecesOf
+  piece-listed [] m h = absurd (List·Memᴰ·not-nil m)
+  piece-listed (r ∷ ps) {q} m h = go (List·Memᴰ·cases-cons m) (λ d. piece-listed ps d h)
+    where
+      go : (q ≡ r) ⊎ List·Memᴰ q ps → (List·Memᴰ q ps → List·Memᴰ (pieceIn a e q) (piecesOf a e ps)) → List·Memᴰ (pieceIn a e q) (pieceOf a e r ++ piecesOf a e ps)
+      go (inl s) below =
+          Memᴰ·append-left (piecesOf a e ps)
+          (subst (λ (z : BusyPeriod). List·Memᴰ (pieceIn a e q) (pieceOf a e z)) s
+          (subst (λ (l : List BusyPeriod). List·Memᴰ (pieceIn a e q) l) (sym (is-piece a e q h)) (List·Memᴰ·head refl)))
+      go (inr d) below = Memᴰ·append-right (pieceOf a e r) (below d)
+
+  -- p is one of the pieces exactly when it is what lies in the range of an instance or a period
+  pub piece-iff : (es : List Entry) → e ≤ lastSecond → ((y : Event) → List·Memᴰ (event y) es → EventSmall y) → (p : BusyPeriod)
+      → List·Memᴰ p (busyPieces a e es) ↔ PieceIs es a e p
+  unfolding busyPieces
+  piece-iff es l small p = (
+    λ m.
+        let r = piece-from (busyPeriods es) m in
+        let s = piece-second (r .0) (r .2) in
+        record {
+          whole = r .0;
+          there = listed-is es (r .1);
+          busy-time = s .0;
+          second = max a (r .0 .period .start);
+          in-range = (s .1, omega (arith, s .2));
+          covered = (omega arith, omega (arith, s .2));
+          part = r .3;
+        },
+    λ i.
+        let r = i .in-range in
+        let c = i .covered in
+        let early : i .whole .period .start ≤ lastSecond = omega (arith, r .1, c .0) in
+        subst (λ (w : BusyPeriod). List·Memᴰ w (piecesOf a e (busyPeriods es))) (sym (i .part))
+        (piece-listed (busyPeriods es) (is-listed es small early (i .there)) (second-piece (i .whole) (i .second) (i .busy-time) (r .0) (r .1) (c .0) (c .1))),
+  )

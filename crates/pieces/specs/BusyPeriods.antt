@@ -1,13 +1,15 @@
 -- The busy periods of a calendar (document 01, Busy type): every instance that stands of each event, and every FREEBUSY period, each with its type, in file order.
 use Prim.Native.Nat.{ℕ, zero, suc}
+use mathlib.Core.Path.{_≡_}
 use mathlib.Core.Bool.{true, false}
-use mathlib.Core.List.{List, [], _∷_, _++_}
+use mathlib.Core.List.{List, [], _∷_, _++_, List·Memᴰ}
 use Rattle.periods.specs.declared.BusyType.{BusyType}
 use Rattle.periods.specs.Periods.{period}
 use Rattle.events.specs.Events.{Entry, event, block}
 use Rattle.periods.specs.BusyTypes.{BusyPeriod}
 use Rattle.events.specs.declared.Event.{Event}
-use Rattle.recurrence.specs.Instances.{startOf, endOf, occurs, instancesAtMost}
+use Rattle.events.specs.declared.Block.{Block}
+use Rattle.recurrence.specs.Instances.{startOf, endOf, occurs, TakesPlace, instancesAtMost}
 
 abbrev pub busyPeriod : BusyType → ℕ → ℕ → BusyPeriod
 busyPeriod b s t = record { busy = b; period = period s t }
@@ -32,3 +34,8 @@ entryPeriods (block k ps) = ps
 unfoldable pub busyPeriods : List Entry → List BusyPeriod
 busyPeriods [] = []
 busyPeriods (x ∷ xs) = entryPeriods x ++ busyPeriods xs
+
+-- the same for the reader: p is an instance that takes place, or a FREEBUSY period
+pub data IsBusyPeriod (es : List Entry) (p : BusyPeriod) : Type 0 where
+  of-instance : (e : Event) → List·Memᴰ (event e) es → (k : ℕ) → TakesPlace e k → p ≡ busyPeriod (e .busy) (startOf e k) (endOf e k) → IsBusyPeriod es p
+  of-block : (k : Block) (ps : List BusyPeriod) → List·Memᴰ (block k ps) es → List·Memᴰ p ps → IsBusyPeriod es p

@@ -2,16 +2,13 @@
 use Prim.Native.Nat.{ℕ, _≤_, _<_}
 use mathlib.Core.Path.{_≡_}
 use mathlib.Core.Bool.{Bool, true, false}
-use mathlib.Core.List.{List, [], _∷_, List·Memᴰ}
+use mathlib.Core.List.{List, [], _∷_}
 use Rattle.periods.specs.declared.Period.{Period}
 use Rattle.periods.specs.declared.BusyType.{BusyType}
 use Rattle.periods.specs.Periods.{covers}
 use Rattle.periods.specs.BusyTypes.{sameBusy, BusyPeriod}
-use Rattle.events.specs.Events.{Entry, event, block}
-use Rattle.events.specs.declared.Event.{Event}
-use Rattle.events.specs.declared.Block.{Block}
-use Rattle.recurrence.specs.Instances.{startOf, endOf, TakesPlace}
-use Rattle.pieces.specs.BusyPeriods.{busyPeriods}
+use Rattle.events.specs.Events.{Entry}
+use Rattle.pieces.specs.BusyPeriods.{busyPeriods, IsBusyPeriod}
 
 -- the periods of one type
 unfoldable pub ofType : BusyType → List BusyPeriod → List Period
@@ -27,7 +24,9 @@ unfoldable pub covered : BusyType → List Entry → ℕ → Bool
 covered b es x = coveredBy b (busyPeriods es) x
 
 -- the same for the reader: some instance that takes place, or some FREEBUSY period, of that type covers the second
-pub data Covers (es : List Entry) (b : BusyType) (x : ℕ) : Type 0 where
-  by-instance : (e : Event) → List·Memᴰ (event e) es → e .busy ≡ b → (k : ℕ) → TakesPlace e k → startOf e k ≤ x → x < endOf e k → Covers es b x
-  by-period : (k : Block) (ps : List BusyPeriod) → List·Memᴰ (block k ps) es → (p : BusyPeriod) → List·Memᴰ p ps → p .busy ≡ b → p .period .start ≤ x
-      → x < p .period .end → Covers es b x
+pub record Covers (es : List Entry) (b : BusyType) (x : ℕ) : Type 0 where
+  pub which : BusyPeriod
+  pub there : IsBusyPeriod es which
+  pub type : which .busy ≡ b
+  pub from : which .period .start ≤ x
+  pub to : x < which .period .end
