@@ -160,7 +160,7 @@ unfoldable pub contentsOf : Context → List ℕ → Meaning
 contentsOf c u =
     byValues (valueFault c (componentsOf u)) (byRules (ruleFault c (componentsOf u)) (entriesOf c (componentsOf u)))
 
--- from the unfolded bytes and the context: the lowest of refusals 6 to 10 that applies, or what the calendar holds
+-- from the unfolded bytes and the context: the first of refusals 6 to 10 that applies, or what the calendar holds
 unfoldable pub meaningOf : Context → List ℕ → Meaning
 meaningOf c u = byLines 6 (lineCheck u) (byLines 7 (nestingOf (fileLines u)) (contentsOf c u))
 
@@ -169,7 +169,7 @@ unfoldable pub faultOf : Meaning → Fault
 faultOf (fault n i) = Fault.At n i
 faultOf (calendar es) = Fault.None
 
--- the lowest of refusals 6 and 7 that applies
+-- the first of refusals 6 and 7 that applies
 unfoldable pub structureFault : List ℕ → Fault
 structureFault u = faultOf (byLines 6 (lineCheck u) (byLines 7 (nestingOf (fileLines u)) (calendar [])))
 

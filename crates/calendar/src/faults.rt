@@ -1,5 +1,5 @@
 // The refusal that a calendar earns, by what was found of its structure, its values and its rules.
-// The lowest is told: structure first, then values, then rules.
+// The first is told: structure first, then values, then rules.
 use crate::Fault;
 use crate::RuleCheck;
 use crate::ValueCheck;

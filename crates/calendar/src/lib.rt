@@ -16,7 +16,7 @@ pub enum RuleCheck {
     Broken(usize),
 }
 
-// The lowest refusal of 6 to 10 that applies, with its line, or none.
+// The first refusal of 6 to 10 that applies, with its line, or none.
 pub enum Fault {
     None,
     At(u8, usize),

@@ -15,7 +15,7 @@ ghost use Rattle.collecting.specs.Collecting.{Collects};
 ghost use Rattle.collecting.specs.CollectStages.{callRead, Refuses, Typed, ContentsTabled, CalendarTabled, CalendarCollected};
 ghost use Rattle.structure.specs.Rows.{FileRows};
 
-// The lowest refusal or none, and the periods of each busy type.
+// The first refusal or none, and the periods of each busy type.
 pub struct Collected {
     pub fault: Fault,
     pub busy: Table,
@@ -173,7 +173,7 @@ fn collect_calendar(work: &mut [u8], cal: &[u8], c: Context, start: u64, end: u6
     collect_unfolded(&work[..n], c, start, end)
 }
 
-// The lowest of refusals 1 to 3 and 6 to 11, or the period tables; the work buffer holds the unfolded calendar afterwards, except on refusals 1 to 3.
+// The first of refusals 1 to 3 and 6 to 11, or the period tables; the work buffer holds the unfolded calendar afterwards, except on refusals 1 to 3.
 pub fn collect(
     cal: &[u8],
     start: u64,

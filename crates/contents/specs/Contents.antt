@@ -1,4 +1,4 @@
--- What reading the components right below VCALENDAR tells: the lowest of refusals 8 to 10, or the pieces and the rows of all events and blocks.
+-- What reading the components right below VCALENDAR tells: the first of refusals 8 to 10, or the pieces and the rows of all events and blocks.
 use Prim.Native.Nat.{ℕ}
 use mathlib.Core.Path.{_≡_}
 use mathlib.Core.Bool.{true, false}

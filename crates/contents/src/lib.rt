@@ -40,7 +40,7 @@ pub enum EntryRead {
 
 // What reading all of them tells.
 pub struct ContentsRead {
-    // The lowest of refusals 8 to 10.
+    // The first of refusals 8 to 10.
     pub fault: Fault,
     // How many pieces stand; no more than 513 are stored.
     pub count: usize,
