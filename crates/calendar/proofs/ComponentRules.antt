@@ -13,7 +13,7 @@ use Rattle.values.specs.Times.{timeOf}
 use Rattle.values.specs.Period.{allPeriods, periodItems}
 use Rattle.values.specs.declared.times.Context.{Context}
 use Rattle.values.specs.declared.times.TimeRead.{TimeRead}
-use Rattle.property.specs.Properties.{timesOr, freeBusyProperty, propertyOf, timeIn, startBy, endBy, unlessZoned, busyOf, typeValue, valueAs, beforePeriods, withPeriods, propertyValueOf}
+use Rattle.property.specs.Properties.{propertyOf, timeIn, startBy, endBy, unlessZoned, busyOf, typeValue, valueAs, beforePeriods, withPeriods, propertyValueOf}
 use Rattle.property.specs.declared.Scope.{Scope}
 use Rattle.property.specs.declared.Property.{Property}
 use Rattle.property.specs.declared.PropertyValue.{PropertyValue}
@@ -92,7 +92,7 @@ type-line x = go (hasTwice (ascii "FBTYPE") x || hasList (ascii "FBTYPE") x)
     go false = record { no-duration = refl; no-rule = refl; no-status = refl; no-transparency = refl }
 
 block-line : (c : Context) (x : ContentLine) → BlockLine (propertyValueOf c Scope.FreeBusy x)
-unfolding propertyValueOf beforePeriods propertyOf timesOr freeBusyProperty valueAs
+unfolding propertyValueOf beforePeriods propertyOf valueAs
 block-line c x =
     periods-line (x .value) (beforePeriods c Scope.FreeBusy x)
     (go (sameName (x .name) (ascii "DTSTART")) (sameName (x .name) (ascii "DTEND")) (sameName (x .name) (ascii "FREEBUSY")))

@@ -1,7 +1,7 @@
 -- The lines that the component rules count are the lines with that name, where no value is bad or unsupported.
 use Prim.Native.Nat.{ℕ}
 use mathlib.Core.Path.{_≡_, refl, sym, ap, _∙_, subst}
-use mathlib.Core.Bool.{Bool, true, false, cond, _||_}
+use mathlib.Core.Bool.{Bool, true, false, cond, _||_, _||_}
 use mathlib.Core.List.{List, [], _∷_, map, List·Memᴰ, List·Memᴰ·head, List·Memᴰ·tail}
 use native.Mathlib.Omega.{arith}
 use Rattle.ascii.specs.Bytes.{upper}
@@ -18,7 +18,7 @@ use Rattle.values.specs.Times.{timeOf}
 use Rattle.values.specs.declared.times.Context.{Context}
 use Rattle.values.specs.declared.times.TimeRead.{TimeRead}
 use Rattle.values.specs.declared.rule.RuleRead.{RuleRead}
-use Rattle.property.specs.Properties.{isUnsupported, timesOr, eventProperty, freeBusyProperty, propertyOf, timeIn, startBy, endBy, unlessZoned, durationBy, ruleValue, busyOf, typeValue, valueAs, beforePeriods, withPeriods, propertyValueOf}
+use Rattle.property.specs.Properties.{propertyOf, timeIn, startBy, endBy, unlessZoned, durationBy, ruleValue, busyOf, typeValue, valueAs, beforePeriods, withPeriods, propertyValueOf}
 use Rattle.property.specs.declared.Scope.{Scope}
 use Rattle.property.specs.declared.Property.{Property}
 use Rattle.property.specs.declared.PropertyValue.{PropertyValue}
@@ -151,6 +151,13 @@ agree n u v p e f =
       transparencies = word-name n u (ascii "TRANSP") v p refl e f;
     }
 
+-- one of four tests is the four tests one by one
+four-tests : (a b c d : Bool) (p q : Property) → cond (a || b || c || d) p q ≡ cond a p (cond b p (cond c p (cond d p q)))
+four-tests true b c d p q = refl
+four-tests false true c d p q = refl
+four-tests false false true d p q = refl
+four-tests false false false d p q = refl
+
 -- the property of a name, by its comparisons
 abbrev picked : Bool → Bool → Bool → Bool → Bool → Bool → Bool → Property
 picked s e d r t p u =
@@ -176,11 +183,21 @@ module _ (c : Context) (x : ContentLine) where
       record { starts = sym es; ends = sym ee; durations = sym ed; rules = sym er; statuses = sym et; transparencies = sym ep }
 
   event-agree : Good (propertyValueOf c Scope.Event x) → Agree (x .name) (propertyValueOf c Scope.Event x)
-  unfolding propertyValueOf beforePeriods propertyOf timesOr eventProperty
+  unfolding propertyValueOf beforePeriods propertyOf
   event-agree h =
-      event-agree-by (sameName (x .name) (ascii "DTSTART")) (sameName (x .name) (ascii "DTEND")) (sameName (x .name) (ascii "DURATION"))
-      (sameName (x .name) (ascii "RRULE")) (sameName (x .name) (ascii "STATUS")) (sameName (x .name) (ascii "TRANSP")) (isUnsupported (x .name)) refl refl refl
-      refl refl refl h
+      let n = x .name in
+      let s = sameName n (ascii "DTSTART") in
+      let e = sameName n (ascii "DTEND") in
+      let d = sameName n (ascii "DURATION") in
+      let r = sameName n (ascii "RRULE") in
+      let t = sameName n (ascii "STATUS") in
+      let p = sameName n (ascii "TRANSP") in
+      let u = sameName n (ascii "RDATE") || sameName n (ascii "EXDATE") || sameName n (ascii "EXRULE") || sameName n (ascii "RECURRENCE-ID") in
+      let one =
+      four-tests (sameName n (ascii "RDATE")) (sameName n (ascii "EXDATE")) (sameName n (ascii "EXRULE")) (sameName n (ascii "RECURRENCE-ID")) Property.Unsupported Property.Unread in
+      subst (λ (q : Property). Good (valueOfLine c Scope.Event x q) → Agree n (valueOfLine c Scope.Event x q))
+      (ap (λ (q : Property). cond s Property.Start (cond e Property.End (cond d Property.Duration (cond r Property.Rule (cond t Property.Status (cond p Property.Transparency q)))))) one)
+      (event-agree-by s e d r t p u refl refl refl refl refl refl) h
 
 -- the same in a VFREEBUSY, of DTSTART and DTEND
 record AgreeTimes (n : List ℕ) (v : PropertyValue) : Type 0 where
@@ -202,7 +219,7 @@ module _ (c : Context) (x : ContentLine) where
   block-agree-by false false false es ee ep h = record { starts = sym es; ends = sym ee }
 
   block-agree : Good (propertyValueOf c Scope.FreeBusy x) → AgreeTimes (x .name) (propertyValueOf c Scope.FreeBusy x)
-  unfolding propertyValueOf beforePeriods propertyOf timesOr freeBusyProperty
+  unfolding propertyValueOf beforePeriods propertyOf
   block-agree h =
       block-agree-by (sameName (x .name) (ascii "DTSTART")) (sameName (x .name) (ascii "DTEND")) (sameName (x .name) (ascii "FREEBUSY")) refl refl refl h
 

@@ -24,7 +24,7 @@ use Rattle.query_check.specs.WellFormed.{nameGood, hasChildComponent, hasProper
 use Rattle.delimiters.specs.Delimiters.{delimiterOf}
 use Rattle.delimiters.specs.Innermost.{isCalendar, isEvent, mayBegin}
 use Rattle.values.specs.Times.{atSecond, timeBy, readTime, formOf, timeOf}
-use Rattle.property.specs.Properties.{isUnsupported, timesOr, eventProperty, propertyOf, timeIn, startBy, unlessZoned, valueAs, propertyValueOf, beforePeriods, withPeriods}
+use Rattle.property.specs.Properties.{propertyOf, timeIn, startBy, unlessZoned, valueAs, propertyValueOf, beforePeriods, withPeriods}
 use Rattle.nesting.specs.Components.{delimitedFrom, itemsOf, treeOf, componentsIn, propertiesIn, itemsBelow}
 use Rattle.nesting.specs.Nesting.{afterBegin, afterEnd, afterProperty, walk, outcome, nestingOf}
 use Rattle.nesting.specs.Files.{treeIn}
@@ -120,5 +120,5 @@ table =
     ∷ []
 
 pub edges : AllHold table
-unfolding matchOutcome unlessRefused firstRefusal matchRows earlyMatchRows offsetRow offsetGood sizeRows queryRows queryGood sectionsGood sectionsOf behindRecords countFits byteAt placeWithin behindTextSection behindTexts behindText recordsGood rangesGood everyBelow componentsGood componentGood nameGood componentAt isName textOf textFrom textPlace isNameByte isLetter parentGood sameName upper propertiesGood parametersGood misplacedIn rangeMisplaced componentsMisplaced someBelow componentMisplaced propertiesMisplaced calendarRows structureRows contentsRows lineRow lineCheck lineCheckFrom cut unfolded isFold isBreak isBlank isWellFormed scan isEnding step isDigit isControl nestingOf outcome walk fileLines contentLines delimiterOf lineOf nameOf before firstOutside headOf parameterTexts splitParts valueOf after afterEnd afterBegin isCalendar unsupportedRow valueFault componentsOf componentsIn itemsBelow treeOf itemsOf delimitedFrom badValueRow ruleRow ruleFault verdictOf verdictBy queryHolds componentTest componentHolds someComponent treeIn rangeHolds propertiesHold childrenHold hasChildComponent hasProperty someComponentNamed afterProperty mayBegin faultIn propertiesIn faultOr propertyValueOf beforePeriods withPeriods valueAs propertyOf componentScope scopeOf isEvent timesOr unlessZoned hasParameter parametersNamed startBy timeIn timeOf readTime formOf hasTwice hasList someList timeBy readDateTime clockAt clockOf dateAt three yearAt joined pairAt digitPair checkedDay isDay monthDays lengthIn monthLengths timeAt checkedTime atSecond utcSecond since epoch dayNumber daysBeforeYear endingBy repeatBy eventMade eventWith eventFrom eventBy noProperties timeGiven durationGiven ruleGiven statusGiven transparencyGiven withProperty withSpan withBusy withProperties propertyValuesIn eventOf isBroken brokenOr isUnsupported eventProperty isLeap yearDays beforeIn daysBeforeMonth
+unfolding matchOutcome unlessRefused firstRefusal matchRows earlyMatchRows offsetRow offsetGood sizeRows queryRows queryGood sectionsGood sectionsOf behindRecords countFits byteAt placeWithin behindTextSection behindTexts behindText recordsGood rangesGood everyBelow componentsGood componentGood nameGood componentAt isName textOf textFrom textPlace isNameByte isLetter parentGood sameName upper propertiesGood parametersGood misplacedIn rangeMisplaced componentsMisplaced someBelow componentMisplaced propertiesMisplaced calendarRows structureRows contentsRows lineRow lineCheck lineCheckFrom cut unfolded isFold isBreak isBlank isWellFormed scan isEnding step isDigit isControl nestingOf outcome walk fileLines contentLines delimiterOf lineOf nameOf before firstOutside headOf parameterTexts splitParts valueOf after afterEnd afterBegin isCalendar unsupportedRow valueFault componentsOf componentsIn itemsBelow treeOf itemsOf delimitedFrom badValueRow ruleRow ruleFault verdictOf verdictBy queryHolds componentTest componentHolds someComponent treeIn rangeHolds propertiesHold childrenHold hasChildComponent hasProperty someComponentNamed afterProperty mayBegin faultIn propertiesIn faultOr propertyValueOf beforePeriods withPeriods valueAs propertyOf componentScope scopeOf isEvent unlessZoned hasParameter parametersNamed startBy timeIn timeOf readTime formOf hasTwice hasList someList timeBy readDateTime clockAt clockOf dateAt three yearAt joined pairAt digitPair checkedDay isDay monthDays lengthIn monthLengths timeAt checkedTime atSecond utcSecond since epoch dayNumber daysBeforeYear endingBy repeatBy eventMade eventWith eventFrom eventBy noProperties timeGiven durationGiven ruleGiven statusGiven transparencyGiven withProperty withSpan withBusy withProperties propertyValuesIn eventOf isBroken brokenOr isLeap yearDays beforeIn daysBeforeMonth
 edges = (refl, (refl, (refl, (refl, (refl, (refl, (refl, (refl, (refl, (refl, (refl, (refl, (refl, (refl, (refl, (refl, (refl, tt)))))))))))))))))

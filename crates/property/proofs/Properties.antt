@@ -40,37 +40,22 @@ use Rattle.values.proofs.PeriodLaws.{readDuration-small}
 use Rattle.property.specs.declared.Scope.{Scope}
 use Rattle.property.specs.declared.Property.{Property}
 use Rattle.property.specs.declared.PropertyValue.{PropertyValue}
-use Rattle.property.specs.Properties.{isUnsupported, timesOr, eventProperty, freeBusyProperty, propertyOf, valueAs, beforePeriods, withPeriods, propertyValueOf, isStart, timeIn, startBy, endBy, unlessZoned, durationBy, ruleValue, busyOf, typeValue, givesPeriods, PropertyValueSmall, busyNamed}
+use Rattle.property.specs.Properties.{PropertyWord, picked, wordsIn, propertyOf, valueAs, beforePeriods, withPeriods, propertyValueOf, isStart, timeIn, startBy, endBy, unlessZoned, durationBy, ruleValue, busyOf, typeValue, givesPeriods, PropertyValueSmall, busyNamed}
 use Rattle.property.proofs.Property.{the-type}
 
 -- ---- which property a name is, by its length: only the words that are as long can be meant
 
--- ---- a table of words
-
--- a word, and the property that it names
-pub record Entry : Type 0 where
-  pub word : List ℕ
-  pub means : Property
-
-abbrev pub entry : List ℕ → Property → Entry
-entry w p = record { word = w; means = p }
-
--- the property of the first word that is the name
-abbrev pub picked : List ℕ → List Entry → Property
-picked n [] = Property.Unread
-picked n (e ∷ es) = cond (sameName n (e .word)) (e .means) (picked n es)
-
 -- the words of so many bytes
-abbrev keptIf : Bool → Entry → List Entry → List Entry
+abbrev keptIf : Bool → PropertyWord → List PropertyWord → List PropertyWord
 keptIf true e es = e ∷ es
 keptIf false e es = es
 
-abbrev pub ofLength : ℕ → List Entry → List Entry
+abbrev pub ofLength : ℕ → List PropertyWord → List PropertyWord
 ofLength n [] = []
 ofLength n (e ∷ es) = keptIf (eqb n (length (e .word))) e (ofLength n es)
 
 -- the words of another length than the name's need no test
-length-picked : (m : List ℕ) (es : List Entry) → picked m es ≡ picked m (ofLength (length m) es)
+length-picked : (m : List ℕ) (es : List PropertyWord) → picked m es ≡ picked m (ofLength (length m) es)
 length-picked m [] = refl
 length-picked m (e ∷ es) = go (eqb (length m) (length (e .word))) refl (length-picked m es)
   where
@@ -80,42 +65,10 @@ length-picked m (e ∷ es) = go (eqb (length m) (length (e .word))) refl (length
     go false q h =
         ap (λ (t : Bool). cond t (e .means) (picked m es)) (sameName-length m (e .word) (eqb-false _ _ q)) ∙ h
 
--- ---- the words of each component, as the definition tries them
-
-abbrev pub wordsIn : Scope → List Entry
-wordsIn Scope.Event =
-    entry (ascii "DTSTART") Property.Start
-    ∷ entry (ascii "DTEND") Property.End
-    ∷ entry (ascii "DURATION") Property.Duration
-    ∷ entry (ascii "RRULE") Property.Rule
-    ∷ entry (ascii "STATUS") Property.Status
-    ∷ entry (ascii "TRANSP") Property.Transparency
-    ∷ entry (ascii "RDATE") Property.Unsupported
-    ∷ entry (ascii "EXDATE") Property.Unsupported
-    ∷ entry (ascii "EXRULE") Property.Unsupported
-    ∷ entry (ascii "RECURRENCE-ID") Property.Unsupported
-    ∷ []
-wordsIn Scope.FreeBusy =
-    entry (ascii "DTSTART") Property.Start ∷ entry (ascii "DTEND") Property.End ∷ entry (ascii "FREEBUSY") Property.Periods ∷ []
-wordsIn Scope.Other = []
-
--- one of four tests is the four tests one by one
-four-tests : (a b c d : Bool) (p q : Property) → cond (a || b || c || d) p q ≡ cond a p (cond b p (cond c p (cond d p q)))
-four-tests true b c d p q = refl
-four-tests false true c d p q = refl
-four-tests false false true d p q = refl
-four-tests false false false d p q = refl
-
-propertyOf-picked : (s : Scope) (n : List ℕ) → propertyOf s n ≡ picked n (wordsIn s)
-unfolding propertyOf timesOr eventProperty freeBusyProperty isUnsupported
-propertyOf-picked Scope.Event n =
-    rw (four-tests (sameName n (ascii "RDATE")) (sameName n (ascii "EXDATE")) (sameName n (ascii "EXRULE")) (sameName n (ascii "RECURRENCE-ID")) Property.Unsupported Property.Unread)
-propertyOf-picked Scope.FreeBusy n = refl
-propertyOf-picked Scope.Other n = refl
-
 -- the law: the words of n bytes decide of a name of n bytes
 pub by-length : (s : Scope) (m : List ℕ) (n : ℕ) → length m ≡ n → propertyOf s m ≡ picked m (ofLength n (wordsIn s))
-by-length s m n h = propertyOf-picked s m ∙ length-picked m (wordsIn s) ∙ ap (λ (k : ℕ). picked m (ofLength k (wordsIn s))) h
+unfolding propertyOf
+by-length s m n h = length-picked m (wordsIn s) ∙ ap (λ (k : ℕ). picked m (ofLength k (wordsIn s))) h
 
 -- no word of a VEVENT is as long as that
 pub event-unread : (m : List ℕ) (n : ℕ) → length m ≡ n → (n ≡ 5 → ⊥) → (n ≡ 6 → ⊥) → (n ≡ 7 → ⊥) → (n ≡ 8 → ⊥) → (n ≡ 13 → ⊥)
@@ -281,7 +234,7 @@ module _ (c : Context) (l : List ℕ) where
         go false z = z
 
   pub other-name : sameName (nameOf l) (ascii "FREEBUSY") ≡ false → false ≡ givesPeriods (propertyValueOf c Scope.FreeBusy (lineOf l))
-  unfolding propertyValueOf beforePeriods propertyOf timesOr freeBusyProperty lineOf
+  unfolding propertyValueOf beforePeriods propertyOf lineOf
   other-name h = go (sameName (nameOf l) (ascii "DTSTART")) (sameName (nameOf l) (ascii "DTEND")) (sameName (nameOf l) (ascii "FREEBUSY")) h
     where
       go : (x y z : Bool) → z ≡ false
@@ -327,11 +280,11 @@ no-periods Property.Unsupported c s x v h = refl
 no-periods Property.Unread c s x v h = refl
 
 -- no word of a table that has no such word means it
-abbrev noneMeans : List Entry → Type 0
+abbrev noneMeans : List PropertyWord → Type 0
 noneMeans [] = Unit {0}
 noneMeans (e ∷ es) = (isPeriods (e .means) ≡ false) × noneMeans es
 
-picked-none : (m : List ℕ) (es : List Entry) → noneMeans es → isPeriods (picked m es) ≡ false
+picked-none : (m : List ℕ) (es : List PropertyWord) → noneMeans es → isPeriods (picked m es) ≡ false
 picked-none m [] h = refl
 picked-none m (e ∷ es) h = go (sameName m (e .word)) (picked-none m es (h .1))
   where
@@ -340,11 +293,10 @@ picked-none m (e ∷ es) h = go (sameName m (e .word)) (picked-none m es (h .1))
     go false k = k
 
 pub event-periods : (c : Context) (x : ContentLine) → givesPeriods (propertyValueOf c Scope.Event x) ≡ false
-unfolding propertyValueOf beforePeriods
+unfolding propertyValueOf beforePeriods propertyOf
 event-periods c x =
     no-periods (propertyOf Scope.Event (x .name)) c Scope.Event x (x .value)
-    (ap isPeriods (propertyOf-picked Scope.Event (x .name))
-    ∙ picked-none (x .name) (wordsIn Scope.Event) (refl, (refl, (refl, (refl, (refl, (refl, (refl, (refl, (refl, (refl, tt)))))))))))
+    (picked-none (x .name) (wordsIn Scope.Event) (refl, (refl, (refl, (refl, (refl, (refl, (refl, (refl, (refl, (refl, tt)))))))))))
 
 -- ---- how large what a line says can be
 

@@ -2,7 +2,7 @@
 -- Here, and nowhere else, it is decided which properties are read.
 use Prim.Native.Nat.{ℕ, _≤_}
 use mathlib.Core.Bool.{Bool, true, false, cond, _||_}
-use mathlib.Core.List.{List}
+use mathlib.Core.List.{List, [], _∷_}
 use Rattle.ascii.specs.Names.{sameName}
 use Rattle.ascii.specs.Words.{ascii}
 use Rattle.time.specs.Duration.{readDuration}
@@ -22,30 +22,39 @@ use Rattle.property.specs.declared.Status.{Status}
 use Rattle.periods.specs.declared.BusyType.{BusyType}
 use Rattle.property.specs.declared.PropertyValue.{PropertyValue}
 
--- the properties that a VEVENT may not have (refusal 8)
-unfoldable pub isUnsupported : List ℕ → Bool
-isUnsupported n =
-    sameName n (ascii "RDATE") || sameName n (ascii "EXDATE") || sameName n (ascii "EXRULE") || sameName n (ascii "RECURRENCE-ID")
+-- a word, and the property that it names
+pub record PropertyWord : Type 0 where
+  pub word : List ℕ
+  pub means : Property
 
--- DTSTART and DTEND are read in VEVENT and VFREEBUSY, anything else as `other` says
-unfoldable pub timesOr : List ℕ → Property → Property
-timesOr n other = cond (sameName n (ascii "DTSTART")) Property.Start (cond (sameName n (ascii "DTEND")) Property.End other)
+abbrev pub entry : List ℕ → Property → PropertyWord
+entry w p = record { word = w; means = p }
 
-unfoldable pub eventProperty : List ℕ → Property
-eventProperty n =
-    cond (sameName n (ascii "DURATION")) Property.Duration
-    (cond (sameName n (ascii "RRULE")) Property.Rule
-    (cond (sameName n (ascii "STATUS")) Property.Status
-    (cond (sameName n (ascii "TRANSP")) Property.Transparency (cond (isUnsupported n) Property.Unsupported Property.Unread))))
+-- what is read directly in a VEVENT and in a VFREEBUSY, and what a VEVENT may not have (refusal 8); in any other component nothing is
+abbrev pub wordsIn : Scope → List PropertyWord
+wordsIn Scope.Event =
+    entry (ascii "DTSTART") Property.Start
+    ∷ entry (ascii "DTEND") Property.End
+    ∷ entry (ascii "DURATION") Property.Duration
+    ∷ entry (ascii "RRULE") Property.Rule
+    ∷ entry (ascii "STATUS") Property.Status
+    ∷ entry (ascii "TRANSP") Property.Transparency
+    ∷ entry (ascii "RDATE") Property.Unsupported
+    ∷ entry (ascii "EXDATE") Property.Unsupported
+    ∷ entry (ascii "EXRULE") Property.Unsupported
+    ∷ entry (ascii "RECURRENCE-ID") Property.Unsupported
+    ∷ []
+wordsIn Scope.FreeBusy =
+    entry (ascii "DTSTART") Property.Start ∷ entry (ascii "DTEND") Property.End ∷ entry (ascii "FREEBUSY") Property.Periods ∷ []
+wordsIn Scope.Other = []
 
-unfoldable pub freeBusyProperty : List ℕ → Property
-freeBusyProperty n = cond (sameName n (ascii "FREEBUSY")) Property.Periods Property.Unread
+-- the property of the first word that is the name; of no word, none is read
+abbrev pub picked : List ℕ → List PropertyWord → Property
+picked n [] = Property.Unread
+picked n (e ∷ es) = cond (sameName n (e .word)) (e .means) (picked n es)
 
--- nothing else is read, and nothing outside these two or in components inside them
 unfoldable pub propertyOf : Scope → List ℕ → Property
-propertyOf Scope.Event n = timesOr n (eventProperty n)
-propertyOf Scope.FreeBusy n = timesOr n (freeBusyProperty n)
-propertyOf Scope.Other n = Property.Unread
+propertyOf s n = picked n (wordsIn s)
 
 -- in VFREEBUSY a time is UTC
 unfoldable pub timeIn : Scope → TimeRead → TimeRead

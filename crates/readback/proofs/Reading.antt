@@ -27,7 +27,7 @@ use Rattle.values.specs.declared.times.Context.{Context}
 use Rattle.values.specs.declared.times.Time.{Time}
 use Rattle.values.specs.declared.times.TimeRead.{TimeRead}
 use Rattle.values.proofs.PeriodLaws.{periodItems-written}
-use Rattle.property.specs.Properties.{timesOr, freeBusyProperty, propertyOf, timeIn, startBy, endBy, unlessZoned, busyNamed, busyOf, typeValue, valueAs, propertyValueOf, beforePeriods, withPeriods}
+use Rattle.property.specs.Properties.{propertyOf, timeIn, startBy, endBy, unlessZoned, busyNamed, busyOf, typeValue, valueAs, propertyValueOf, beforePeriods, withPeriods}
 use Rattle.property.specs.declared.Scope.{Scope}
 use Rattle.property.specs.declared.PropertyValue.{PropertyValue}
 use Rattle.nesting.specs.WellNested.{numberedFrom}
@@ -62,17 +62,17 @@ unfolding timeOf formOf hasTwice hasList hasParameter parametersNamed someList r
 time-read c n t h = rw (read-written t h, second-written t (c .shift) h)
 
 pub stamp-value : (c : Context) (v : List ℕ) → propertyValueOf c Scope.FreeBusy (plainLine (ascii "DTSTAMP") v) ≡ PropertyValue.Nothing
-unfolding propertyValueOf beforePeriods withPeriods propertyOf timesOr freeBusyProperty valueAs sameName upper
+unfolding propertyValueOf beforePeriods withPeriods propertyOf valueAs sameName upper
 stamp-value c v = refl
 
 pub start-value : (c : Context) (t : ℕ) → t ≤ lastSecond
     → propertyValueOf c Scope.FreeBusy (plainLine (ascii "DTSTART") (utcText t)) ≡ PropertyValue.Start (utcTime t)
-unfolding propertyValueOf beforePeriods withPeriods propertyOf timesOr valueAs sameName upper unlessZoned hasParameter parametersNamed timeIn utcOnly startBy
+unfolding propertyValueOf beforePeriods withPeriods propertyOf valueAs sameName upper unlessZoned hasParameter parametersNamed timeIn utcOnly startBy
 start-value c t h = ap (λ (r : TimeRead). withPeriods (utcText t) (startBy (utcOnly r))) (time-read c (ascii "DTSTART") t h)
 
 pub end-value : (c : Context) (t : ℕ) → t ≤ lastSecond
     → propertyValueOf c Scope.FreeBusy (plainLine (ascii "DTEND") (utcText t)) ≡ PropertyValue.End (utcTime t)
-unfolding propertyValueOf beforePeriods withPeriods propertyOf timesOr valueAs sameName upper unlessZoned hasParameter parametersNamed timeIn utcOnly endBy
+unfolding propertyValueOf beforePeriods withPeriods propertyOf valueAs sameName upper unlessZoned hasParameter parametersNamed timeIn utcOnly endBy
 end-value c t h = ap (λ (r : TimeRead). withPeriods (utcText t) (endBy (utcOnly r))) (time-read c (ascii "DTEND") t h)
 
 -- ---- a period
@@ -102,7 +102,7 @@ unfolding periodLine periodText
 value-read {t} g = periodItems-written (t .period .start) (t .period .end) (g .rising) (g .within-limits)
 
 period-value : (c : Context) {t : BusyPeriod} → GoodTyped t → propertyValueOf c Scope.FreeBusy (periodLine t) ≡ PropertyValue.HasPeriods (t .busy)
-unfolding propertyValueOf beforePeriods withPeriods propertyOf timesOr freeBusyProperty valueAs typeValue periodLine hasTwice hasList parametersNamed someList sameName upper allPeriods
+unfolding propertyValueOf beforePeriods withPeriods propertyOf valueAs typeValue periodLine hasTwice hasList parametersNamed someList sameName upper allPeriods
 period-value c {t} g =
     ap (λ (ps : List PeriodRead). cond (allPeriods ps) (PropertyValue.HasPeriods (busyOf (periodLine t))) PropertyValue.Bad) (value-read g)
     ∙ ap PropertyValue.HasPeriods (busy-read t)
