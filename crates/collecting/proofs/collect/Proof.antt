@@ -1,4 +1,4 @@
--- Range, stamp, offset and sizes are the first rows, and the rest is left to the calendar.
+-- `collecting::collect` meets its contract: range, stamp, offset and sizes are the first rows, and the rest is left to the calendar.
 use mathlib.Core.Path.{_≡_, sym, _∙_}
 use denote.Ref.{now}
 use mir.Syntax.{w64}
@@ -39,36 +39,53 @@ enum-told-2 : tie.Need-enum-told-2
 enum-told-2 c = search needs
 
 -- range, stamp and offset were good
-call-passes : (c : tie.After-known-told) → callRead (c .before .before .before .before .before .before .args .start) (c .before .before .before .before .before .before .args .end) (c .before .before .before .before .before .before .args .offset) (c .before .before .before .before .before .before .args .stamp) ≡ OffsetRead.Of (c .before .shift .given .0 .0)
+call-passes : (c : tie.After-known-told)
+    → let called = c .before .before .before .before .before .before .args in callRead (called .start) (called .end) (called .offset) (called .stamp) ≡ OffsetRead.Of (c .before .shift .given .0 .0)
 call-passes c =
-    call-given _ _ _
-    (toZ-ofZ w64 (c .before .before .before .before .before .before .args .offset) (c .before .before .before .before .before .before .fits .offset))
-    (c .before .before .before .read-call .ensures)
-    (c .before .shift .given .1)
+    let called = c .before .before .before .before .before .before in
+    let read = c .before .before .before .read-call .ensures in
+    let good = c .before .shift .given .1 in
+    call-given _ _ _ (toZ-ofZ w64 (called .args .offset) (called .fits .offset)) read good
 
 -- and so were the sizes
-sizes-pass : (c : tie.After-enum-told2) → sizeFault (now (c .before .before .before .before .before .before .before .before .before .before .args .cal)) (now (c .before .before .before .before .before .before .before .before .before .before .args .work)) ≡ Fault.None
+sizes-pass : (c : tie.After-enum-told2)
+    → let called = c .before .before .before .before .before .before .before .before .before .before .args in sizeFault (now (called .cal)) (now (called .work)) ≡ Fault.None
 sizes-pass c = sym (c .before .before .check-sizes .ensures) ∙ c .enum-told2 .given .1
 
 collect-calendar-requires : tie.Need-collect-calendar-requires
-collect-calendar-requires c κs = let h = call-bounds _ _ _ _ (call-passes (c .before .before .before .before .before)) in (sizes-room _ _ (sizes-pass (c .before)), (sizes-small _ _ (sizes-pass (c .before)), (h .0, (h .1, h .2))))
+collect-calendar-requires c κs =
+    let bounds = call-bounds _ _ _ _ (call-passes (c .before .before .before .before .before)) in
+    let sizes = sizes-pass (c .before) in
+    (sizes-room _ _ sizes, (sizes-small _ _ sizes, (bounds .0, (bounds .1, bounds .2))))
 
 returns : tie.Need-returns
 returns c =
+    let called = c .before .before .before .before .before .before in
+    let read = c .before .before .before .read-call .ensures in
+    let bad = c .before .enum-told .given .1 in
     collect-refused-1 _ _ _ _ _ _
-    (call-given _ _ _ (toZ-ofZ w64 (c .before .before .before .before .before .before .args .offset) (c .before .before .before .before .before .before .fits .offset)) (c .before .before .before .read-call .ensures) (c .before .enum-told .given .1)) (c .refused .ensures)
+    (call-given _ _ _ (toZ-ofZ w64 (called .args .offset) (called .fits .offset)) read bad)
+    (c .refused .ensures)
 
 same-length : tie.Need-same-length
 same-length c = search needs
 
 returns-2 : tie.Need-returns-2
-returns-2 c = collect-refused-sizes _ _ _ _ _ _ (call-passes (c .before .before .before .before .before .before)) (sym (c .before .before .before .before .check-sizes .ensures) ∙ c .before .before .n .given .1) (c .refused2 .ensures)
+returns-2 c =
+    let good = call-passes (c .before .before .before .before .before .before) in
+    let checked = c .before .before .before .before .check-sizes .ensures in
+    let fault = c .before .before .n .given .1 in
+    collect-refused-sizes _ _ _ _ _ _ good (sym checked ∙ fault) (c .refused2 .ensures)
 
 same-length-2 : tie.Need-same-length-2
 same-length-2 c = search needs
 
 returns-3 : tie.Need-returns-3
-returns-3 c = collect-sizes-passed _ _ _ _ _ _ (call-passes (c .before .before .before .before .before .before .before .before)) (sizes-pass (c .before .before .before .before)) (c .before .before .collect-calendar .ensures)
+returns-3 c =
+    let good = call-passes (c .before .before .before .before .before .before .before .before) in
+    let sizes = sizes-pass (c .before .before .before .before) in
+    let collected = c .before .before .collect-calendar .ensures in
+    collect-sizes-passed _ _ _ _ _ _ good sizes collected
 
 pub collect-spec : {M : Type 1} → statement M
 collect-spec =

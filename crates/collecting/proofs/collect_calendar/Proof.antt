@@ -1,4 +1,4 @@
--- The tables are those of the part of the buffer that unfolding wrote.
+-- `collecting::collect_calendar` meets its contract: the tables are those of the part of the buffer that unfolding wrote.
 use Rattle.text.proofs.Unfolding.{unfolded-room}
 use Rattle.refusals.proofs.Stages.{unfolded-long, unfolded-small}
 use Rattle.collecting.proofs.CollectStages.{calendar-collected}
@@ -17,7 +17,10 @@ slice-aggregate-collect-unfolded : tie.Need-slice-aggregate-collect-unfolded
 slice-aggregate-collect-unfolded c = unfolded-long (c .before .before .before .unfold-into .ensures)
 
 collect-unfolded-requires : tie.Need-collect-unfolded-requires
-collect-unfolded-requires c κs = (omega (arith, unfolded-small (c .before .before .before .unfold-into .ensures) (c .before .before .before .before .before .before .before .pre .1 .0), unfolded-long (c .before .before .before .unfold-into .ensures)), c .before .before .before .before .before .before .before .pre .1 .1)
+collect-unfolded-requires c κs =
+    let required = c .before .before .before .before .before .before .before .pre in
+    let unfolded = c .before .before .before .unfold-into .ensures in
+    (omega (arith, unfolded-small unfolded (required .1 .0), unfolded-long unfolded), required .1 .1)
 
 same-length : tie.Need-same-length
 same-length c = search needs

@@ -1,4 +1,4 @@
--- The memory is as long as the stage asks.
+-- `collecting::collect_contents` meets its contract: the memory is as long as the stage asks.
 use native.Mathlib.Omega.{arith}
 use borrow.Author.Needs.{needs}
 use Rattle.collecting.proofs.collect_contents.Statement.{statement}
@@ -11,7 +11,9 @@ slice-aggregate-collect-stored-2 : tie.Need-slice-aggregate-collect-stored-2
 slice-aggregate-collect-stored-2 c = search needs
 
 collect-stored-requires : tie.Need-collect-stored-requires
-collect-stored-requires c κs = (omega arith, (omega arith, (c .before .before .before .before .before .pre .0, (c .before .before .before .before .before .pre .1 .0, c .before .before .before .before .before .pre .1 .1))))
+collect-stored-requires c κs =
+    let required = c .before .before .before .before .before .pre in
+    (omega arith, (omega arith, (required .0, (required .1 .0, required .1 .1))))
 
 returns : tie.Need-returns
 returns c = search needs

@@ -1,4 +1,4 @@
--- What reading the structure answers is refusal 6 or 7, or the rows by which the contents are read.
+-- `collecting::collect_indexed` meets its contract: what reading the structure answers is refusal 6 or 7, or the rows by which the contents are read.
 use Rattle.contents.proofs.Contents.{structure-known}
 use Rattle.collecting.proofs.CollectStages.{structure-refuses, structure-passes}
 use borrow.Author.Needs.{needs}
@@ -27,7 +27,12 @@ slice-aggregate-collect-contents : tie.Need-slice-aggregate-collect-contents
 slice-aggregate-collect-contents c = search needs
 
 collect-contents-requires : tie.Need-collect-contents-requires
-collect-contents-requires c κs = (c .before .before .before .before .before .before .before .before .before .before .before .before .before .pre .1 .1 .0, (structure-known (c .before .before .before .before .before .before .before .before .read-structure .ensures) (c .before .before .before .before .structure-fault .ensures) (c .before .before .enum-told .given .1), c .before .before .before .before .before .before .before .before .before .before .before .before .before .pre .1 .1 .1))
+collect-contents-requires c κs =
+    let required = c .before .before .before .before .before .before .before .before .before .before .before .before .before .pre in
+    let read = c .before .before .before .before .before .before .before .before .read-structure .ensures in
+    let tested = c .before .before .before .before .structure-fault .ensures in
+    let passed = c .before .before .enum-told .given .1 in
+    (required .1 .1 .0, (structure-known read tested passed, required .1 .1 .1))
 
 same-length : tie.Need-same-length
 same-length c = search needs

@@ -1,4 +1,4 @@
--- At most 513 pieces are stored: with 513 there are more than 512, with fewer they are all.
+-- `collecting::collect_stored` meets its contract, for at most 513 pieces are stored: with 513 there are more than 512, with fewer they are all.
 use Rattle.collecting.proofs.CollectStages.{contents-refuse, contents-many, contents-few}
 use borrow.Author.Needs.{needs}
 use Rattle.collecting.proofs.collect_stored.Statement.{statement}
@@ -26,7 +26,11 @@ same-length-2 : tie.Need-same-length-2
 same-length-2 c = search needs
 
 returns : tie.Need-returns
-returns c = contents-many (c .before .before .before .before .before .before .before .before .read-contents .ensures) (c .before .before .enum-told .given .1) (c .before .if1 .taken) (c .refused2 .ensures)
+returns c =
+    let read = c .before .before .before .before .before .before .before .before .read-contents .ensures in
+    let passed = c .before .before .enum-told .given .1 in
+    let many = c .before .if1 .taken in
+    contents-many read passed many (c .refused2 .ensures)
 
 tables-of-requires : tie.Need-tables-of-requires
 tables-of-requires c κs = search needs
@@ -48,12 +52,11 @@ same-length-6 c = search needs
 
 returns-3 : tie.Need-returns-3
 returns-3 c =
-    contents-few
-    (c .before .before .before .before .before .before .before .before .before .read-contents .ensures)
-    (c .before .before .before .enum-told .given .1)
-    (c .before .before .if1 .left)
-    (c .before .before .before .before .before .before .before .before .before .before .before .before .before .before .before .before .before .pre .0)
-    (c .before .before .before .before .before .before .before .before .before .before .before .before .before .before .before .before .before .pre .1 .1 .1 .1 .0) (c .tables-of .ensures)
+    let required = c .before .before .before .before .before .before .before .before .before .before .before .before .before .before .before .before .before .pre in
+    let read = c .before .before .before .before .before .before .before .before .before .read-contents .ensures in
+    let passed = c .before .before .before .enum-told .given .1 in
+    let few = c .before .before .if1 .left in
+    contents-few read passed few (required .0) (required .1 .1 .1 .1 .0) (c .tables-of .ensures)
 
 pub collect-stored-spec : {M : Type 1} → statement M
 collect-stored-spec =

@@ -1,4 +1,4 @@
--- Range and stamp are tested at once, and then the offset is read.
+-- `collecting::read_call` meets its contract: range and stamp are tested at once, and then the offset is read.
 use mir.Syntax.{w64}
 use mir.ValLaws.{toZ-ofZ}
 use Rattle.time.specs.Limits.{rangeGood}

@@ -1,4 +1,4 @@
--- Each of the three tables is empty.
+-- `collecting::refused` meets its contract: each of the three tables is empty.
 use Rattle.collecting.proofs.CollectStages.{refuses}
 use borrow.Author.Needs.{needs}
 use Rattle.collecting.proofs.refused.Statement.{statement}

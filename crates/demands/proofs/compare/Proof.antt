@@ -1,4 +1,4 @@
--- Each call keeps its promise, and the theorem on two calls speaks of both.
+-- `demands::compare` meets its contract: each call keeps its promise, and the theorem on two calls speaks of both.
 use mir.Syntax.{w64}
 use mir.ValLaws.{toZ-ofZ}
 use Rattle.engine.proofs.ReportingLaws.{reported-at}
@@ -26,7 +26,13 @@ same-length-4 : tie.Need-same-length-4
 same-length-4 c = search needs
 
 returns : tie.Need-returns
-returns c = compared (reported-at (toZ-ofZ w64 (c .before .before .before .before .before .before .before .before .before .before .before .before .before .before .before .before .before .before .before .before .args .offset) (c .before .before .before .before .before .before .before .before .before .before .before .before .before .before .before .before .before .before .before .before .fits .offset)) (c .before .before .before .before .before .before .before .before .before .before .before .report .ensures)) (reported-at (toZ-ofZ w64 (c .before .before .before .before .before .before .before .before .before .before .before .before .before .before .before .before .before .before .before .before .args .offset-other) (c .before .before .before .before .before .before .before .before .before .before .before .before .before .before .before .before .before .before .before .before .fits .offset-other)) (c .before .before .before .before .report2 .ensures))
+returns c =
+    let called = c .before .before .before .before .before .before .before .before .before .before .before .before .before .before .before .before .before .before .before .before in
+    let first = c .before .before .before .before .before .before .before .before .before .before .before .report .ensures in
+    let second = c .before .before .before .before .report2 .ensures in
+    compared
+    (reported-at (toZ-ofZ w64 (called .args .offset) (called .fits .offset)) first)
+    (reported-at (toZ-ofZ w64 (called .args .offset-other) (called .fits .offset-other)) second)
 
 pub compare-spec : {M : Type 1} → statement M
 compare-spec =

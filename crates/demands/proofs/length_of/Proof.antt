@@ -1,4 +1,4 @@
--- Each arm is a clause of the definition.
+-- `demands::length_of` meets its contract: each arm is a clause of the definition.
 use mathlib.Core.Path.{sym, ap}
 use Rattle.demands.specs.PairedCalls.{lengthOf}
 use borrow.Author.Needs.{needs}

@@ -1,4 +1,4 @@
--- Each call keeps its promise, the second on the bytes of the first, and the theorems of a report read back speak of both.
+-- `demands::read_back` meets its contract: each call keeps its promise, the second on the bytes of the first, and the theorems of a report read back speak of both.
 use mir.Syntax.{w64}
 use mir.ValLaws.{toZ-ofZ}
 use Rattle.engine.proofs.ReportingLaws.{reported-at}
@@ -45,9 +45,13 @@ same-length-4 c = search needs
 
 returns : tie.Need-returns
 returns c =
-    let first = reported-at (toZ-ofZ w64 (c .before .before .before .before .before .before .before .before .before .before .before .before .before .before .before .before .before .before .before .before .before .before .before .args .offset) (c .before .before .before .before .before .before .before .before .before .before .before .before .before .before .before .before .before .before .before .before .before .before .before .fits .offset)) (c .before .before .before .before .before .before .before .before .before .before .before .before .before .before .before .report .ensures) in
-    let again = reported-at (toZ-ofZ w64 (c .before .before .before .before .before .before .before .before .before .before .before .before .before .before .before .before .before .before .before .before .before .before .before .args .offset-again) (c .before .before .before .before .before .before .before .before .before .before .before .before .before .before .before .before .before .before .before .before .before .before .before .fits .offset-again)) (c .before .before .before .before .report2 .ensures) in
-    read-back-calls first (c .before .before .before .before .before .before .before .before .before .before .length-of .ensures) (c .before .before .before .before .before .before .before .before .heads-match .ensures) again
+    let headed = c .before .before .before .before .before .before .before .before in
+    let measured = headed .before .before in
+    let reported = measured .before .before .before .before .before in
+    let called = reported .before .before .before .before .before .before .before .before in
+    let first = reported-at (toZ-ofZ w64 (called .args .offset) (called .fits .offset)) (reported .report .ensures) in
+    let again = reported-at (toZ-ofZ w64 (called .args .offset-again) (called .fits .offset-again)) (c .before .before .before .before .report2 .ensures) in
+    read-back-calls first (measured .length-of .ensures) (headed .heads-match .ensures) again
 
 pub read-back-spec : {M : Type 1} → statement M
 read-back-spec =

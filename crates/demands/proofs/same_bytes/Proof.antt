@@ -1,4 +1,4 @@
--- Bytes of one length of which one begins with the other are the same.
+-- `demands::same_bytes` meets its contract: bytes of one length of which one begins with the other are the same.
 use Rattle.demands.proofs.PairedCalls.{same-by}
 use borrow.Author.Needs.{needs}
 use Rattle.demands.proofs.same_bytes.Statement.{statement}

@@ -1,4 +1,4 @@
--- What is past the end of a slice is left out on both sides.
+-- `demands::same_first` meets its contract: what is past the end of a slice is left out on both sides.
 use Rattle.demands.proofs.PairedCalls.{min-long, same-first}
 use borrow.Author.Needs.{needs}
 use Rattle.demands.proofs.same_first.Statement.{statement}

@@ -1,4 +1,4 @@
--- The lengths are those of the answers, and the bytes are compared up to them.
+-- `demands::same_reports` meets its contract: the lengths are those of the answers, and the bytes are compared up to them.
 use Rattle.demands.proofs.PairedCalls.{same-answers}
 use borrow.Author.Needs.{needs}
 use Rattle.demands.proofs.same_reports.Statement.{statement}

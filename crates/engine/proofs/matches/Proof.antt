@@ -1,4 +1,4 @@
--- Offset and sizes are the first rows, and the rest is left to the query.
+-- `engine::matches` meets its contract: offset and sizes are the first rows, and the rest is left to the query.
 use mathlib.Core.Path.{_≡_, sym, _∙_}
 use denote.Ref.{now}
 use mir.Syntax.{w64}
@@ -34,17 +34,26 @@ enum-told-2 c = search needs
 
 -- the offset was good
 offset-good : (c : tie.After-known-told) → offsetRead (c .before .before .before .before .before .before .before .args .offset) ≡ OffsetRead.Of (c .before .shift .given .0 .0)
-offset-good c = offset-given (toZ-ofZ w64 (c .before .before .before .before .before .before .before .args .offset) (c .before .before .before .before .before .before .before .fits .offset)) (c .before .before .before .read-offset .ensures) (c .before .shift .given .1)
+offset-good c =
+    let called = c .before .before .before .before .before .before .before in
+    let read = c .before .before .before .read-offset .ensures in
+    let good = c .before .shift .given .1 in
+    offset-given (toZ-ofZ w64 (called .args .offset) (called .fits .offset)) read good
 
 -- and so were the sizes
-sizes-pass : (c : tie.After-enum-told2) → sizeFault (now (c .before .before .before .before .before .before .before .before .before .before .before .args .cal)) (now (c .before .before .before .before .before .before .before .before .before .before .before .args .work)) ≡ Fault.None
+sizes-pass : (c : tie.After-enum-told2)
+    → let called = c .before .before .before .before .before .before .before .before .before .before .before .args in sizeFault (now (called .cal)) (now (called .work)) ≡ Fault.None
 sizes-pass c = sym (c .before .before .check-sizes .ensures) ∙ c .enum-told2 .given .1
 
 match-query-requires : tie.Need-match-query-requires
 match-query-requires c κs = (sizes-room _ _ (sizes-pass (c .before)), (sizes-small _ _ (sizes-pass (c .before)), shift-bound _ (offset-good (c .before .before .before .before .before))))
 
 returns : tie.Need-returns
-returns c = match-refused-1 _ _ _ _ (offset-given (toZ-ofZ w64 (c .before .before .before .before .before .before .args .offset) (c .before .before .before .before .before .before .fits .offset)) (c .before .before .read-offset .ensures) (c .enum-told .given .1))
+returns c =
+    let called = c .before .before .before .before .before .before in
+    let read = c .before .before .read-offset .ensures in
+    let bad = c .enum-told .given .1 in
+    match-refused-1 _ _ _ _ (offset-given (toZ-ofZ w64 (called .args .offset) (called .fits .offset)) read bad)
 
 same-length : tie.Need-same-length
 same-length c = search needs
@@ -56,7 +65,11 @@ same-length-2 : tie.Need-same-length-2
 same-length-2 c = search needs
 
 returns-3 : tie.Need-returns-3
-returns-3 c = match-sizes-passed _ _ _ _ (offset-good (c .before .before .before .before .before .before .before .before)) (sizes-pass (c .before .before .before .before)) (c .before .before .match-query .ensures)
+returns-3 c =
+    let good = offset-good (c .before .before .before .before .before .before .before .before) in
+    let sizes = sizes-pass (c .before .before .before .before) in
+    let answered = c .before .before .match-query .ensures in
+    match-sizes-passed _ _ _ _ good sizes answered
 
 pub matches-spec : {M : Type 1} → statement M
 matches-spec =

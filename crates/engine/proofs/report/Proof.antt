@@ -1,4 +1,4 @@
--- A refusal of the tables is handed on; otherwise the answer is by the refusal and the length of the writing.
+-- `engine::report` meets its contract: a refusal of the tables is handed on; otherwise the answer is by the refusal and the length of the writing.
 use mathlib.Core.Path.{_≡_, sym}
 use mir.Syntax.{w64}
 use mir.ValLaws.{toZ-ofZ}
@@ -17,7 +17,10 @@ enum-told : tie.Need-enum-told
 enum-told c = search needs
 
 write-report-requires : tie.Need-write-report-requires
-write-report-requires c κs = let k = c .before .before .before .before .before .collect .ensures in (told-writable k (c .before .enum-told .given .1), (k .busy-sound, k .tentative-sound, k .unavailable-sound))
+write-report-requires c κs =
+    let kept = c .before .before .before .before .before .collect .ensures in
+    let passed = c .before .enum-told .given .1 in
+    (told-writable kept passed, (kept .busy-sound, kept .tentative-sound, kept .unavailable-sound))
 
 answer-by-requires : tie.Need-answer-by-requires
 answer-by-requires c κs = search needs
@@ -26,7 +29,11 @@ same-length : tie.Need-same-length
 same-length c = search needs
 
 returns : tie.Need-returns
-returns c = reported-at (toZ-ofZ w64 (c .before .before .before .before .before .before .before .before .before .before .args .offset) (c .before .before .before .before .before .before .before .before .before .before .fits .offset)) (refused-answer (tables-refused (c .before .before .before .before .before .collect .ensures) (c .before .f .given .1)))
+returns c =
+    let called = c .before .before .before .before .before .before .before .before .before .before in
+    let kept = c .before .before .before .before .before .collect .ensures in
+    let fault = c .before .f .given .1 in
+    reported-at (toZ-ofZ w64 (called .args .offset) (called .fits .offset)) (refused-answer (tables-refused kept fault))
 
 same-length-2 : tie.Need-same-length-2
 same-length-2 c = search needs
@@ -35,7 +42,14 @@ same-length-3 : tie.Need-same-length-3
 same-length-3 c = search needs
 
 returns-2 : tie.Need-returns-2
-returns-2 c = reported-at (toZ-ofZ w64 (c .before .before .before .before .before .before .before .before .before .before .before .before .before .before .args .offset) (c .before .before .before .before .before .before .before .before .before .before .before .before .before .before .fits .offset)) (written-answer (c .answer-by .ensures) (tables-written (c .before .before .before .before .before .before .before .before .before .collect .ensures) (c .before .before .before .before .before .enum-told .given .1) (c .before .before .before .write-report .ensures)))
+returns-2 c =
+    let called = c .before .before .before .before .before .before .before .before .before .before .before .before .before .before in
+    let kept = c .before .before .before .before .before .before .before .before .before .collect .ensures in
+    let passed = c .before .before .before .before .before .enum-told .given .1 in
+    let written = c .before .before .before .write-report .ensures in
+    reported-at
+    (toZ-ofZ w64 (called .args .offset) (called .fits .offset))
+    (written-answer (c .answer-by .ensures) (tables-written kept passed written))
 
 pub report-spec : {M : Type 1} → statement M
 report-spec =

@@ -1,4 +1,4 @@
--- A refusal of the tables is handed on; otherwise refusal and length are those of the writing, and the tables go with them.
+-- `engine::report_tables` meets its contract: a refusal of the tables is handed on; otherwise refusal and length are those of the writing, and the tables go with them.
 use mir.Syntax.{w64}
 use mir.ValLaws.{toZ-ofZ}
 use Rattle.engine.proofs.ReportingLaws.{told-writable, tables-refused, tables-written, tables-at}
@@ -16,13 +16,20 @@ enum-told : tie.Need-enum-told
 enum-told c = search needs
 
 write-report-requires : tie.Need-write-report-requires
-write-report-requires c κs = let k = c .before .before .before .before .before .before .before .before .collect .ensures in (told-writable k (c .before .enum-told .given .1), (k .busy-sound, k .tentative-sound, k .unavailable-sound))
+write-report-requires c κs =
+    let kept = c .before .before .before .before .before .before .before .before .collect .ensures in
+    let passed = c .before .enum-told .given .1 in
+    (told-writable kept passed, (kept .busy-sound, kept .tentative-sound, kept .unavailable-sound))
 
 same-length : tie.Need-same-length
 same-length c = search needs
 
 returns : tie.Need-returns
-returns c = tables-at (toZ-ofZ w64 (c .before .before .before .before .before .before .before .before .before .before .before .before .before .args .offset) (c .before .before .before .before .before .before .before .before .before .before .before .before .before .fits .offset)) (tables-refused (c .before .before .before .before .before .before .before .before .collect .ensures) (c .before .f .given .1))
+returns c =
+    let called = c .before .before .before .before .before .before .before .before .before .before .before .before .before in
+    let kept = c .before .before .before .before .before .before .before .before .collect .ensures in
+    let fault = c .before .f .given .1 in
+    tables-at (toZ-ofZ w64 (called .args .offset) (called .fits .offset)) (tables-refused kept fault)
 
 same-length-2 : tie.Need-same-length-2
 same-length-2 c = search needs
@@ -31,7 +38,12 @@ same-length-3 : tie.Need-same-length-3
 same-length-3 c = search needs
 
 returns-2 : tie.Need-returns-2
-returns-2 c = tables-at (toZ-ofZ w64 (c .before .before .before .before .before .before .before .before .before .before .before .before .before .before .before .before .args .offset) (c .before .before .before .before .before .before .before .before .before .before .before .before .before .before .before .before .fits .offset)) (tables-written (c .before .before .before .before .before .before .before .before .before .before .before .collect .ensures) (c .before .before .before .before .enum-told .given .1) (c .before .before .write-report .ensures))
+returns-2 c =
+    let called = c .before .before .before .before .before .before .before .before .before .before .before .before .before .before .before .before in
+    let kept = c .before .before .before .before .before .before .before .before .before .before .before .collect .ensures in
+    let passed = c .before .before .before .before .enum-told .given .1 in
+    let written = c .before .before .write-report .ensures in
+    tables-at (toZ-ofZ w64 (called .args .offset) (called .fits .offset)) (tables-written kept passed written)
 
 pub report-tables-spec : {M : Type 1} → statement M
 report-tables-spec =

@@ -1,4 +1,4 @@
--- The answer is that of the part of the buffer that unfolding wrote.
+-- `engine::matching::match_calendar` meets its contract: the answer is that of the part of the buffer that unfolding wrote.
 use Rattle.text.proofs.Unfolding.{unfolded-room}
 use Rattle.refusals.proofs.Stages.{unfolded-long, unfolded-small}
 use Rattle.engine.proofs.MatchStages.{match-calendar-read}
@@ -17,7 +17,10 @@ slice-aggregate-match-unfolded : tie.Need-slice-aggregate-match-unfolded
 slice-aggregate-match-unfolded c = unfolded-long (c .before .before .before .unfold-into .ensures)
 
 match-unfolded-requires : tie.Need-match-unfolded-requires
-match-unfolded-requires c κs = (omega (arith, unfolded-small (c .before .before .before .unfold-into .ensures) (c .before .before .before .before .before .before .before .before .pre .1 .0), unfolded-long (c .before .before .before .unfold-into .ensures)), c .before .before .before .before .before .before .before .before .pre .1 .1)
+match-unfolded-requires c κs =
+    let required = c .before .before .before .before .before .before .before .before .pre in
+    let unfolded = c .before .before .before .unfold-into .ensures in
+    (omega (arith, unfolded-small unfolded (required .1 .0), unfolded-long unfolded), required .1 .1)
 
 same-length : tie.Need-same-length
 same-length c = search needs

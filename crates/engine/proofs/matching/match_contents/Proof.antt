@@ -1,4 +1,4 @@
--- What reading the contents answers is a refusal of 8 to 10, or the rows by which the filter is asked.
+-- `engine::matching::match_contents` meets its contract: what reading the contents answers is a refusal of 8 to 10, or the rows by which the filter is asked.
 use Rattle.engine.proofs.MatchStages.{contents-refusal, contents-verdict}
 use native.Mathlib.Omega.{arith}
 use borrow.Author.Needs.{needs}
@@ -12,7 +12,9 @@ slice-aggregate-read-contents-2 : tie.Need-slice-aggregate-read-contents-2
 slice-aggregate-read-contents-2 c = search needs
 
 read-contents-requires : tie.Need-read-contents-requires
-read-contents-requires c κs = (omega arith, (omega arith, (c .before .before .before .before .before .before .pre .1 .1 .1, (c .before .before .before .before .before .before .pre .0, (omega arith, omega arith)))))
+read-contents-requires c κs =
+    let required = c .before .before .before .before .before .before .pre in
+    (omega arith, (omega arith, (required .1 .1 .1, (required .0, (omega arith, omega arith)))))
 
 enum-known-f : tie.Need-enum-known-f
 enum-known-f c = search needs
@@ -24,7 +26,11 @@ slice-aggregate-query-holds : tie.Need-slice-aggregate-query-holds
 slice-aggregate-query-holds c = search needs
 
 query-holds-requires : tie.Need-query-holds-requires
-query-holds-requires c κs = (c .before .before .before .before .before .before .before .before .before .before .before .before .pre .1 .0, (c .before .before .before .before .before .before .before .before .before .before .before .before .pre .1 .1 .0, (c .before .before .before .before .before .before .before .before .before .before .before .before .pre .1 .1 .1, (c .before .before .before .before .before .before .before .before .before .before .before .before .pre .0, c .before .before .before .before .before .read-contents .ensures .entries (c .before .enum-told .given .1)))))
+query-holds-requires c κs =
+    let required = c .before .before .before .before .before .before .before .before .before .before .before .before .pre in
+    let read = c .before .before .before .before .before .read-contents .ensures in
+    let passed = c .before .enum-told .given .1 in
+    (required .1 .0, (required .1 .1 .0, (required .1 .1 .1, (required .0, read .entries passed))))
 
 returns : tie.Need-returns
 returns c = contents-refusal (c .before .before .before .before .before .read-contents .ensures) _ _ (c .before .f .given .1)

@@ -1,4 +1,4 @@
--- What reading the structure answers is refusal 6 or 7, or the rows by which the contents are read.
+-- `engine::matching::match_indexed` meets its contract: what reading the structure answers is refusal 6 or 7, or the rows by which the contents are read.
 use Rattle.contents.proofs.Contents.{structure-known}
 use Rattle.engine.proofs.MatchStages.{structure-refusal-told, structure-passes}
 use borrow.Author.Needs.{needs}
@@ -24,19 +24,32 @@ slice-aggregate-match-contents : tie.Need-slice-aggregate-match-contents
 slice-aggregate-match-contents c = search needs
 
 match-contents-requires : tie.Need-match-contents-requires
-match-contents-requires c κs = (structure-known (c .before .before .before .before .before .before .before .before .read-structure .ensures) (c .before .before .before .before .structure-fault .ensures) (c .before .before .enum-told .given .1), c .before .before .before .before .before .before .before .before .before .before .before .before .before .before .pre .1 .1)
+match-contents-requires c κs =
+    let required = c .before .before .before .before .before .before .before .before .before .before .before .before .before .before .pre in
+    let read = c .before .before .before .before .before .before .before .before .read-structure .ensures in
+    let tested = c .before .before .before .before .structure-fault .ensures in
+    let passed = c .before .before .enum-told .given .1 in
+    (structure-known read tested passed, required .1 .1)
 
 same-length : tie.Need-same-length
 same-length c = search needs
 
 returns : tie.Need-returns
-returns c = structure-refusal-told (c .before .before .before .before .before .before .before .read-structure .ensures) (c .before .before .before .structure-fault .ensures) _ _ _ (c .before .k .given .1)
+returns c =
+    let read = c .before .before .before .before .before .before .before .read-structure .ensures in
+    let tested = c .before .before .before .structure-fault .ensures in
+    let fault = c .before .k .given .1 in
+    structure-refusal-told read tested _ _ _ fault
 
 same-length-2 : tie.Need-same-length-2
 same-length-2 c = search needs
 
 returns-2 : tie.Need-returns-2
-returns-2 c = structure-passes (c .before .before .before .before .before .before .before .before .before .read-structure .ensures) (c .before .before .before .before .before .structure-fault .ensures) _ _ _ _ (c .before .before .before .enum-told .given .1) (c .match-contents .ensures)
+returns-2 c =
+    let read = c .before .before .before .before .before .before .before .before .before .read-structure .ensures in
+    let tested = c .before .before .before .before .before .structure-fault .ensures in
+    let passed = c .before .before .before .enum-told .given .1 in
+    structure-passes read tested _ _ _ _ passed (c .match-contents .ensures)
 
 pub match-indexed-spec : {M : Type 1} → statement M
 match-indexed-spec =

@@ -1,4 +1,4 @@
--- Each answer of the reader is one way through the rows of the query.
+-- `engine::matching::match_query` meets its contract: each answer of the reader is one way through the rows of the query.
 use mathlib.Core.Path.{_≡_, sym, _∙_}
 use denote.Ref.{now}
 use Rattle.query_check.specs.WellFormed.{queryRead}
@@ -26,7 +26,10 @@ whole-query-read : (c : tie.After-known-told) → queryRead (now (c .before .bef
 whole-query-read c = sym (c .before .before .before .read-query .ensures) ∙ c .before .q .given .1
 
 match-calendar-requires : tie.Need-match-calendar-requires
-match-calendar-requires c κs = (c .before .before .before .before .before .before .before .before .pre .0, (c .before .before .before .before .before .before .before .before .pre .1 .0, (read-fits _ _ (whole-query-read (c .before)), (read-records _ _ (whole-query-read (c .before)), c .before .before .before .before .before .before .before .before .pre .1 .1))))
+match-calendar-requires c κs =
+    let required = c .before .before .before .before .before .before .before .before .pre in
+    let read = whole-query-read (c .before) in
+    (required .0, (required .1 .0, (read-fits _ _ read, (read-records _ _ read, required .1 .1))))
 
 returns : tie.Need-returns
 returns c = match-refused-4 _ _ _ _ (sym (c .before .before .read-query .ensures) ∙ c .enum-told .given .1)

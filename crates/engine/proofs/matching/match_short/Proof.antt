@@ -1,4 +1,4 @@
--- The index is long enough.
+-- `engine::matching::match_short` meets its contract: the index is long enough for a calendar of 8192 bytes.
 use native.Mathlib.Omega.{arith}
 use borrow.Author.Needs.{needs}
 use Rattle.engine.proofs.matching.match_short.Statement.{statement}
