@@ -385,7 +385,8 @@ pub record SecondIs (m : CalendarTerms) (b : BusyType) (t : ℕ) (c : Bool) : Ty
   pub is-covered : coveredIn (m .calendar) (m .offset) b t ≡ c
 
 -- two calls that differ in a covered second have not the same report
-pub reports-differ : (x y : ReportCall) → NoneApplies (reportRows x) → NoneApplies (reportRows y) → (b : BusyType) → isBusy b ≡ true → (t : ℕ) → SecondIs (x .terms) b t true → SecondIs (y .terms) b t false
+pub reports-differ : (x y : ReportCall) → NoneApplies (reportRows x) → NoneApplies (reportRows y) → (b : BusyType) → isBusy b ≡ true → (t : ℕ)
+    → SecondIs (x .terms) b t true → SecondIs (y .terms) b t false
     → reportBytes (reportFor (x .terms)) ≡ reportBytes (reportFor (y .terms))
     → ⊥
 reports-differ x y f g b u t h k e =
