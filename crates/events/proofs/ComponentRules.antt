@@ -15,6 +15,7 @@ use Rattle.time.specs.declared.duration.Duration.{Duration}
 use Rattle.values.specs.declared.times.Time.{Time}
 use Rattle.values.specs.declared.rule.Limit.{Limit}
 use Rattle.values.specs.declared.rule.Rule.{Rule}
+use Rattle.property.specs.declared.Status.{Status}
 use Rattle.property.specs.declared.PropertyValue.{PropertyValue}
 use Rattle.events.specs.ComponentProperties.{noProperties, timeGiven, durationGiven, ruleGiven, statusGiven, transparencyGiven, withSpan, withBusy, withProperty, withProperties}
 use Rattle.events.specs.ComponentRules.{propertyName, countIf, linesNamed, EndFits, DurationFits, UntilFits, EventRules, BlockRules, BlockLines}
@@ -33,6 +34,8 @@ use Rattle.events.specs.declared.ComponentProperties.{ComponentPropertie
 use Rattle.events.specs.declared.TimeGiven.{TimeGiven}
 use Rattle.events.specs.declared.DurationGiven.{DurationGiven}
 use Rattle.events.specs.declared.RuleGiven.{RuleGiven}
+use Rattle.events.specs.declared.StatusGiven.{StatusGiven}
+use Rattle.events.specs.declared.TransparencyGiven.{TransparencyGiven}
 use Rattle.events.proofs.EntryRows.{kind-back}
 
 -- ---- how many lines: none stands twice exactly where there is at most one of each, those read before counted in
@@ -212,7 +215,7 @@ module _ {A O : Type 0} (k : Kept A O) where
   line-counts (s ∷ ss) a (List·Memᴰ·head e) = omega (arith, many-more a s ss (sym e))
   line-counts (s ∷ ss) a (List·Memᴰ·tail m) = omega (arith, many-less s ss, line-counts ss a m)
 
--- the four properties that the rules look into
+-- the six properties of an event
 
 start-same : (a b : Time) → TimeGiven.Given a ≡ TimeGiven.Given b → a ≡ b
 start-same a b e = cc
@@ -338,6 +341,69 @@ repeats-kept =
       step = repeats-step;
     }
 
+status-same : (a b : Status) → StatusGiven.Given a ≡ StatusGiven.Given b → a ≡ b
+status-same a b e = cc
+
+status-step : (g : ComponentProperties) (s : PropertyValue)
+    → ((sameBytes (propertyName s) (ascii "STATUS") ≡ false) × (withProperty g s .busy .status ≡ g .busy .status)) ⊎ ((a : Status) × (s ≡ PropertyValue.HasStatus a))
+unfolding withProperty withSpan withBusy propertyName
+status-step g PropertyValue.Nothing = inl (refl, refl)
+status-step g PropertyValue.Unsupported = inl (refl, refl)
+status-step g PropertyValue.Bad = inl (refl, refl)
+status-step g (PropertyValue.Start t) = inl (refl, refl)
+status-step g (PropertyValue.End t) = inl (refl, refl)
+status-step g (PropertyValue.Lasts d) = inl (refl, refl)
+status-step g (PropertyValue.Repeats r) = inl (refl, refl)
+status-step g (PropertyValue.HasStatus x) = inr (x, refl)
+status-step g (PropertyValue.Transparent x) = inl (refl, refl)
+status-step g (PropertyValue.HasPeriods b) = inl (refl, refl)
+
+status-kept : Kept Status StatusGiven
+unfolding withProperty withBusy propertyName
+status-kept =
+    record {
+      name = ascii "STATUS";
+      con = λ a. PropertyValue.HasStatus a;
+      given = λ a. StatusGiven.Given a;
+      field = λ g. g .busy .status;
+      same = status-same;
+      named = λ a. refl;
+      sets = λ g a. refl;
+      step = status-step;
+    }
+
+transparency-same : (a b : Bool) → TransparencyGiven.Given a ≡ TransparencyGiven.Given b → a ≡ b
+transparency-same a b e = cc
+
+transparency-step : (g : ComponentProperties) (s : PropertyValue)
+    → ((sameBytes (propertyName s) (ascii "TRANSP") ≡ false) × (withProperty g s .busy .transparency ≡ g .busy .transparency))
+    ⊎ ((a : Bool) × (s ≡ PropertyValue.Transparent a))
+unfolding withProperty withSpan withBusy propertyName
+transparency-step g PropertyValue.Nothing = inl (refl, refl)
+transparency-step g PropertyValue.Unsupported = inl (refl, refl)
+transparency-step g PropertyValue.Bad = inl (refl, refl)
+transparency-step g (PropertyValue.Start t) = inl (refl, refl)
+transparency-step g (PropertyValue.End t) = inl (refl, refl)
+transparency-step g (PropertyValue.Lasts d) = inl (refl, refl)
+transparency-step g (PropertyValue.Repeats r) = inl (refl, refl)
+transparency-step g (PropertyValue.HasStatus x) = inl (refl, refl)
+transparency-step g (PropertyValue.Transparent x) = inr (x, refl)
+transparency-step g (PropertyValue.HasPeriods b) = inl (refl, refl)
+
+transparency-kept : Kept Bool TransparencyGiven
+unfolding withProperty withBusy propertyName
+transparency-kept =
+    record {
+      name = ascii "TRANSP";
+      con = λ a. PropertyValue.Transparent a;
+      given = λ a. TransparencyGiven.Given a;
+      field = λ g. g .busy .transparency;
+      same = transparency-same;
+      named = λ a. refl;
+      sets = λ g a. refl;
+      step = transparency-step;
+    }
+
 -- ---- kinds, and the tests of DTEND, DURATION and UNTIL
 
 kind-number : (a b : Kind) → kindNumber a ≡ kindNumber b → a ≡ b
@@ -360,14 +426,14 @@ unfolding isDate kindNumber
 is-date s e = eq-eqb _ _ (ap kindNumber e)
 
 -- what was read is not broken
-ending-broken : {A : Type 0} {x : Ending} → EndingRead.Broken ≡ EndingRead.Of x → A
+pub ending-broken : {A : Type 0} {x : Ending} → EndingRead.Broken ≡ EndingRead.Of x → A
 ending-broken e = let z : _≡_ {A = ℕ} 0 1 = cc in absurd (omega arith)
 
 repeat-broken : {A : Type 0} {x : Repeat} → RepeatRead.Broken ≡ RepeatRead.Of x → A
 repeat-broken e = let z : _≡_ {A = ℕ} 0 1 = cc in absurd (omega arith)
 
 module _ (s : Time) where
-  end-fits-of : (e : Time) (x : Ending) → statedEnd s e ≡ EndingRead.Of x → EndFits s e
+  pub end-fits-of : (e : Time) (x : Ending) → statedEnd s e ≡ EndingRead.Of x → EndFits s e
   unfolding statedEnd
   end-fits-of e x h = go (sameKind e s && ltb (s .second) (e .second)) refl h
     where
@@ -380,11 +446,11 @@ module _ (s : Time) where
           }
       go false p h = ending-broken h
 
-  end-of-fits : (e : Time) → EndFits s e → statedEnd s e ≡ EndingRead.Of (Ending.End (e .second))
+  pub end-of-fits : (e : Time) → EndFits s e → statedEnd s e ≡ EndingRead.Of (Ending.End (e .second))
   unfolding statedEnd
   end-of-fits e f = rw (is-same-kind e s (f .same-kind), lt-ltb _ _ (f .later))
 
-  duration-fits-of : (d : Duration) (x : Ending) → statedDuration s d ≡ EndingRead.Of x → DurationFits s d
+  pub duration-fits-of : (d : Duration) (x : Ending) → statedDuration s d ≡ EndingRead.Of x → DurationFits s d
   unfolding statedDuration
   duration-fits-of d x h = record { no-time-on-date = λ k. go k (d .timed) h }
     where
@@ -392,7 +458,7 @@ module _ (s : Time) where
       go k true h = ending-broken (rw (is-date s k) at h)
       go k false h = refl
 
-  duration-of-fits : (d : Duration) → DurationFits s d → statedDuration s d ≡ EndingRead.Of (Ending.Lasts d)
+  pub duration-of-fits : (d : Duration) → DurationFits s d → statedDuration s d ≡ EndingRead.Of (Ending.Lasts d)
   unfolding statedDuration
   duration-of-fits d f = go (isDate s) refl
     where
@@ -400,7 +466,7 @@ module _ (s : Time) where
       go true e = rw (f .no-time-on-date (date-is s e))
       go false e = refl
 
-  until-fits-of : (t : Time) (x : Repeat) → limitBy s (Limit.Until t) ≡ RepeatRead.Of x → UntilFits s t
+  pub until-fits-of : (t : Time) (x : Repeat) → limitBy s (Limit.Until t) ≡ RepeatRead.Of x → UntilFits s t
   unfolding limitBy
   until-fits-of t x h = go (sameKind t s && leb (s .second) (t .second)) refl h
     where
@@ -413,25 +479,25 @@ module _ (s : Time) where
           }
       go false p h = repeat-broken h
 
-  until-of-fits : (t : Time) → UntilFits s t → limitBy s (Limit.Until t) ≡ RepeatRead.Of (Repeat.Until (t .second))
+  pub until-of-fits : (t : Time) → UntilFits s t → limitBy s (Limit.Until t) ≡ RepeatRead.Of (Repeat.Until (t .second))
   unfolding limitBy
   until-of-fits t f = rw (is-same-kind t s (f .same-kind), le-leb _ _ (f .not-before))
 
 -- ---- a VEVENT
 
 -- what the lines of a component say together
-abbrev together : List PropertyValue → ComponentProperties
+abbrev pub together : List PropertyValue → ComponentProperties
 together ss = withProperties noProperties ss
 
 -- what must stand in g for an event to be read
-record Made (g : ComponentProperties) : Type 0 where
-  not-twice : g .repeated ≡ false
-  start : Time
-  start-given : g .span .start ≡ TimeGiven.Given start
-  ending : Ending
-  ending-read : endingBy start (g .span .end) (g .span .lasts) ≡ EndingRead.Of ending
-  repeat : Repeat
-  repeat-read : repeatBy start (g .repeats) ≡ RepeatRead.Of repeat
+pub record Made (g : ComponentProperties) : Type 0 where
+  pub not-twice : g .repeated ≡ false
+  pub start : Time
+  pub start-given : g .span .start ≡ TimeGiven.Given start
+  pub ending : Ending
+  pub ending-read : endingBy start (g .span .end) (g .span .lasts) ≡ EndingRead.Of ending
+  pub repeat : Repeat
+  pub repeat-read : repeatBy start (g .repeats) ≡ RepeatRead.Of repeat
 
 module _ (g : ComponentProperties) (x : Event) where
   event-broken : {A : Type 0} → EventRead.Broken ≡ EventRead.Of x → A
@@ -450,7 +516,7 @@ module _ (g : ComponentProperties) (x : Event) where
   made-from n TimeGiven.Absent f h = event-broken h
   made-from n (TimeGiven.Given s) f h = made-with s n f (endingBy s (g .span .end) (g .span .lasts)) (repeatBy s (g .repeats)) refl refl h
 
-  made : eventBy g ≡ EventRead.Of x → Made g
+  pub made : eventBy g ≡ EventRead.Of x → Made g
   unfolding eventBy
   made h = go (g .repeated) refl h
     where
@@ -458,7 +524,7 @@ module _ (g : ComponentProperties) (x : Event) where
       go true e h = event-broken h
       go false e h = made-from e (g .span .start) refl h
 
-made-event : (g : ComponentProperties) (m : Made g) → eventBy g ≡ EventRead.Of (eventMade (m .start) g (m .ending) (m .repeat))
+pub made-event : (g : ComponentProperties) (m : Made g) → eventBy g ≡ EventRead.Of (eventMade (m .start) g (m .ending) (m .repeat))
 unfolding eventBy eventFrom eventWith
 made-event g m =
     ap (λ (b : Bool). cond b EventRead.Broken (eventFrom (g .span .start) g)) (m .not-twice)
@@ -510,7 +576,7 @@ module _ (s : Time) where
 -- the lines of a component, from none read
 module _ (ss : List PropertyValue) where
   -- at most one line of each property, where none stands twice, and the other way round
-  few-lines : together ss .repeated ≡ false
+  pub few-lines : together ss .repeated ≡ false
       → (linesNamed (ascii "DTSTART") ss ≤ 1)
       × (linesNamed (ascii "DTEND") ss ≤ 1)
       × (linesNamed (ascii "DURATION") ss ≤ 1)
@@ -525,16 +591,20 @@ module _ (ss : List PropertyValue) where
   unfolding noProperties timeGiven durationGiven ruleGiven statusGiven transparencyGiven
   lines-few a b c d e f = counted ss noProperties (refl, a, b, c, d, e, f)
 
-  -- the laws of what is kept, at each of the four properties
+  -- the laws of what is kept, at each of the six properties
   start-said : (t : Time) → together ss .span .start ≡ TimeGiven.Given t → List·Memᴰ (PropertyValue.Start t) ss
   unfolding noProperties start-kept
   start-said t q = ⊎-elim (λ h. let z : _≡_ {A = ℕ} 0 1 = cc in absurd (omega arith)) (λ m. m) (said start-kept ss noProperties t q)
 
-  start-holds : (t : Time) → List·Memᴰ (PropertyValue.Start t) ss → linesNamed (ascii "DTSTART") ss ≤ 1 → together ss .span .start ≡ TimeGiven.Given t
+  pub start-holds : (t : Time) → List·Memᴰ (PropertyValue.Start t) ss → linesNamed (ascii "DTSTART") ss ≤ 1 → together ss .span .start ≡ TimeGiven.Given t
   unfolding start-kept
   start-holds t m h = kept start-kept ss noProperties t m h
 
-  start-line : 1 ≤ linesNamed (ascii "DTSTART") ss → (t : Time) × List·Memᴰ (PropertyValue.Start t) ss
+  pub start-none : linesNamed (ascii "DTSTART") ss ≡ 0 → together ss .span .start ≡ TimeGiven.Absent
+  unfolding noProperties start-kept
+  start-none h = stays start-kept ss noProperties (omega arith)
+
+  pub start-line : 1 ≤ linesNamed (ascii "DTSTART") ss → (t : Time) × List·Memᴰ (PropertyValue.Start t) ss
   unfolding start-kept
   start-line h = some-line start-kept noProperties ss h
 
@@ -546,11 +616,15 @@ module _ (ss : List PropertyValue) where
   unfolding noProperties end-kept
   end-said t q = ⊎-elim (λ h. let z : _≡_ {A = ℕ} 0 1 = cc in absurd (omega arith)) (λ m. m) (said end-kept ss noProperties t q)
 
-  end-holds : (t : Time) → List·Memᴰ (PropertyValue.End t) ss → linesNamed (ascii "DTEND") ss ≤ 1 → together ss .span .end ≡ TimeGiven.Given t
+  pub end-holds : (t : Time) → List·Memᴰ (PropertyValue.End t) ss → linesNamed (ascii "DTEND") ss ≤ 1 → together ss .span .end ≡ TimeGiven.Given t
   unfolding end-kept
   end-holds t m h = kept end-kept ss noProperties t m h
 
-  end-line : 1 ≤ linesNamed (ascii "DTEND") ss → (t : Time) × List·Memᴰ (PropertyValue.End t) ss
+  pub end-none : linesNamed (ascii "DTEND") ss ≡ 0 → together ss .span .end ≡ TimeGiven.Absent
+  unfolding noProperties end-kept
+  end-none h = stays end-kept ss noProperties (omega arith)
+
+  pub end-line : 1 ≤ linesNamed (ascii "DTEND") ss → (t : Time) × List·Memᴰ (PropertyValue.End t) ss
   unfolding end-kept
   end-line h = some-line end-kept noProperties ss h
 
@@ -562,11 +636,15 @@ module _ (ss : List PropertyValue) where
   unfolding noProperties lasts-kept
   lasts-said d q = ⊎-elim (λ h. let z : _≡_ {A = ℕ} 0 1 = cc in absurd (omega arith)) (λ m. m) (said lasts-kept ss noProperties d q)
 
-  lasts-holds : (d : Duration) → List·Memᴰ (PropertyValue.Lasts d) ss → linesNamed (ascii "DURATION") ss ≤ 1 → together ss .span .lasts ≡ DurationGiven.Given d
+  pub lasts-holds : (d : Duration) → List·Memᴰ (PropertyValue.Lasts d) ss → linesNamed (ascii "DURATION") ss ≤ 1 → together ss .span .lasts ≡ DurationGiven.Given d
   unfolding lasts-kept
   lasts-holds d m h = kept lasts-kept ss noProperties d m h
 
-  lasts-line : 1 ≤ linesNamed (ascii "DURATION") ss → (d : Duration) × List·Memᴰ (PropertyValue.Lasts d) ss
+  pub lasts-none : linesNamed (ascii "DURATION") ss ≡ 0 → together ss .span .lasts ≡ DurationGiven.Absent
+  unfolding noProperties lasts-kept
+  lasts-none h = stays lasts-kept ss noProperties (omega arith)
+
+  pub lasts-line : 1 ≤ linesNamed (ascii "DURATION") ss → (d : Duration) × List·Memᴰ (PropertyValue.Lasts d) ss
   unfolding lasts-kept
   lasts-line h = some-line lasts-kept noProperties ss h
 
@@ -578,17 +656,41 @@ module _ (ss : List PropertyValue) where
   unfolding noProperties repeats-kept
   repeats-said r q = ⊎-elim (λ h. let z : _≡_ {A = ℕ} 0 1 = cc in absurd (omega arith)) (λ m. m) (said repeats-kept ss noProperties r q)
 
-  repeats-holds : (r : Rule) → List·Memᴰ (PropertyValue.Repeats r) ss → linesNamed (ascii "RRULE") ss ≤ 1 → together ss .repeats ≡ RuleGiven.Given r
+  pub repeats-holds : (r : Rule) → List·Memᴰ (PropertyValue.Repeats r) ss → linesNamed (ascii "RRULE") ss ≤ 1 → together ss .repeats ≡ RuleGiven.Given r
   unfolding repeats-kept
   repeats-holds r m h = kept repeats-kept ss noProperties r m h
 
-  repeats-line : 1 ≤ linesNamed (ascii "RRULE") ss → (r : Rule) × List·Memᴰ (PropertyValue.Repeats r) ss
+  pub repeats-none : linesNamed (ascii "RRULE") ss ≡ 0 → together ss .repeats ≡ RuleGiven.Absent
+  unfolding noProperties repeats-kept
+  repeats-none h = stays repeats-kept ss noProperties (omega arith)
+
+  pub repeats-line : 1 ≤ linesNamed (ascii "RRULE") ss → (r : Rule) × List·Memᴰ (PropertyValue.Repeats r) ss
   unfolding repeats-kept
   repeats-line h = some-line repeats-kept noProperties ss h
 
   repeats-counts : (r : Rule) → List·Memᴰ (PropertyValue.Repeats r) ss → 1 ≤ linesNamed (ascii "RRULE") ss
   unfolding repeats-kept
   repeats-counts r m = line-counts repeats-kept ss r m
+
+  pub status-holds : (v : Status) → List·Memᴰ (PropertyValue.HasStatus v) ss → linesNamed (ascii "STATUS") ss ≤ 1 → together ss .busy .status ≡ StatusGiven.Given v
+  unfolding status-kept
+  status-holds v m h = kept status-kept ss noProperties v m h
+
+  pub status-none : linesNamed (ascii "STATUS") ss ≡ 0 → together ss .busy .status ≡ StatusGiven.Absent
+  unfolding noProperties status-kept
+  status-none h = stays status-kept ss noProperties (omega arith)
+
+  pub status-line : 1 ≤ linesNamed (ascii "STATUS") ss → (v : Status) × List·Memᴰ (PropertyValue.HasStatus v) ss
+  unfolding status-kept
+  status-line h = some-line status-kept noProperties ss h
+
+  pub transparency-said : (v : Bool) → together ss .busy .transparency ≡ TransparencyGiven.Given v → List·Memᴰ (PropertyValue.Transparent v) ss
+  unfolding noProperties transparency-kept
+  transparency-said v q = ⊎-elim (λ h. let z : _≡_ {A = ℕ} 0 1 = cc in absurd (omega arith)) (λ m. m) (said transparency-kept ss noProperties v q)
+
+  pub transparency-holds : (v : Bool) → List·Memᴰ (PropertyValue.Transparent v) ss → linesNamed (ascii "TRANSP") ss ≤ 1 → together ss .busy .transparency ≡ TransparencyGiven.Given v
+  unfolding transparency-kept
+  transparency-holds v m h = kept transparency-kept ss noProperties v m h
 
   module _ (m : Made (together ss)) where
     few : (linesNamed (ascii "DTSTART") ss ≤ 1)
@@ -600,7 +702,7 @@ module _ (ss : List PropertyValue) where
     few = few-lines (m .not-twice)
 
     -- a DTSTART line says the start
-    the-start : (s : Time) → List·Memᴰ (PropertyValue.Start s) ss → m .start ≡ s
+    pub the-start : (s : Time) → List·Memᴰ (PropertyValue.Start s) ss → m .start ≡ s
     the-start s k = start-same (m .start) s (sym (m .start-given) ∙ start-holds s k (few .0))
 
     made-not-both : (a b : ℕ) → linesNamed (ascii "DTEND") ss ≡ a → linesNamed (ascii "DURATION") ss ≡ b → a ≤ 1 → b ≤ 1 → a + b ≤ 1
@@ -691,7 +793,7 @@ event-broken-iff ss = (
 block-broken : {A : Type 0} {x : Block} → BlockRead.Broken ≡ BlockRead.Of x → A
 block-broken e = let z : _≡_ {A = ℕ} 0 1 = cc in absurd (omega arith)
 
-between-later : (s e : ℕ) (x : Block) → blockBetween s e ≡ BlockRead.Of x → s < e
+pub between-later : (s e : ℕ) (x : Block) → blockBetween s e ≡ BlockRead.Of x → s < e
 unfolding blockBetween
 between-later s e x h = go (ltb s e) refl h
   where
@@ -699,7 +801,7 @@ between-later s e x h = go (ltb s e) refl h
     go true p h = ltb-true s e p
     go false p h = block-broken h
 
-later-between : (s e : ℕ) → s < e → blockBetween s e ≡ BlockRead.Of (record { start = Bound.At s; end = Bound.At e })
+pub later-between : (s e : ℕ) → s < e → blockBetween s e ≡ BlockRead.Of (record { start = Bound.At s; end = Bound.At e })
 unfolding blockBetween
 later-between s e h = rw (lt-ltb s e h)
 
@@ -716,7 +818,7 @@ unfolding blockFrom
 from-later s e x h = between-later (s .second) (e .second) x h
 
 -- what must stand in g for a block to be read
-block-by : (g : ComponentProperties) (x : Block) → blockBy g ≡ BlockRead.Of x
+pub block-by : (g : ComponentProperties) (x : Block) → blockBy g ≡ BlockRead.Of x
     → (g .repeated ≡ false) × (blockFrom (g .span .start) (g .span .end) ≡ BlockRead.Of x)
 unfolding blockBy
 block-by g x h = go (g .repeated) refl h

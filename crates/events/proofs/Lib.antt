@@ -1,3 +1,4 @@
+pub mod ComponentEvents
 pub mod ComponentPropertiesLaws
 pub mod ComponentRules
 pub mod EntryRows
