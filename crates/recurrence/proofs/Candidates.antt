@@ -88,6 +88,7 @@ before-candidate e a g b j p =
 pub first-is-candidate : {e : Event} {a : ℕ} → EventSmall e → a ≤ lastSecond → FirstCandidate e a (candidateOf e a)
 first-is-candidate {e} {a} h p =
     record {
+      candidate = refl;
       none-before = before-candidate e a (omega (arith, step-long h));
       few = omega (arith, first-few (e .start) (stepOf e) (spanOf e) a (step-long h) p);
     }

@@ -7,7 +7,7 @@ use Rattle.events.specs.declared.Event.{Event}
 use Rattle.recurrence.specs.Instances.{stepOf, startOf, isInstance, instancesAtMost, lengthBy, isZeroLength}
 use Rattle.recurrence.specs.TimeRange.{instanceIn}
 
--- the least k with a < s + span + k * d
+-- the least k with a < s + span + k * d (laws `from-first` and `before-first`)
 unfoldable pub firstAt : ℕ → ℕ → ℕ → ℕ → ℕ
 firstAt s d span a = cond (ltb a (s + span)) 0 ((a - (s + span)) / d + 1)
 
@@ -33,8 +33,9 @@ NoneBefore e a k = (b j : ℕ) → j < k → instanceIn e a b j ≡ false
 abbrev pub NoneFrom : Event → ℕ → ℕ → Type 0
 NoneFrom e b k = (a j : ℕ) → k ≤ j → instanceIn e a b j ≡ false
 
--- where it starts
+-- where it starts: at the number that the division finds
 pub record FirstCandidate (e : Event) (a k : ℕ) : Type 0 where
+  pub candidate : k ≡ candidateOf e a
   pub none-before : NoneBefore e a k
   pub few : k < instancesAtMost
 
