@@ -12,12 +12,13 @@ use lib.Seq.{length-take-le, take-take, getD-take}
 use borrow.Author.Tests.{eqb-true, ltb-true, ltb-false}
 use Rattle.ascii.specs.Bytes.{isNameByte, isLetter, isDigit, upper}
 use Rattle.ascii.specs.Names.{isName, sameName}
-use Rattle.ascii.proofs.Bools.{and-left, and-right, and-both}
+use Rattle.ascii.proofs.Bools.{and-left, and-right, and-both, not-so}
 use Rattle.ascii.proofs.Names.{sameName-first, every-of-name}
+use Rattle.text.proofs.Unfolding.{getD-inside}
 use Rattle.line.specs.Grammar.{Parameter, ContentLine, contentLine, parameter, isQuotable, isUnquoted, ParameterValue, ParameterValues, Parameters, LineGrammar, quoted, unquoted, one, comma, none, semicolon, colon}
 use Rattle.line.specs.Scanner.{isWellFormed}
 use Rattle.line.specs.Splitting.{quotedAfter, cutsAt, firstOutside, before, after, splitParts, quotesOff}
-use Rattle.line.specs.Reading.{headOf, valueOf, nameOf, parameterTexts, valuesOf, parameterName, parameterOf, lineOf, Plain}
+use Rattle.line.specs.Reading.{headOf, valueOf, nameOf, parameterTexts, valuesOf, parameterName, parameterOf, lineOf, isPlainAt, Plain}
 use Rattle.line.proofs.Splitting.{firstOutside-cut, firstOutside-keep, firstOutside-end, firstOutside-le, nextPlace-first, closed, closed-append, closed-class, closed-quoted, parts-closed, parts-one, before-closed, before-alone, after-closed, quotesOff-quoted, quotesOff-class}
 use Rattle.line.proofs.ReadingParameters.{parameters-end, parameters-all}
 use Rattle.line.proofs.Grammar.{grammar-wellFormed, wellFormed-grammar}
@@ -255,7 +256,7 @@ firstOutside-at g sep q (b ∷ s) h = go (cutsAt sep q b) refl (firstOutside-at 
     go false e i k = i (omega arith)
 
 -- it is the line's own: no semicolon ended the name, so the name is all that stands before it
-pub plain-line : (l : List ℕ) (n : ℕ) → n ≡ length (nameOf l) → n < length l → getD l n 0 ≡ 58 → Plain l n
+plain-line : (l : List ℕ) (n : ℕ) → n ≡ length (nameOf l) → n < length l → getD l n 0 ≡ 58 → Plain l n
 unfolding nameOf headOf valueOf before after
 plain-line l n e m c = go (ltb j (length h)) refl
   where
@@ -294,3 +295,15 @@ plain-line l n e m c = go (ltb j (length h)) refl
               ∙ parameters-end h _ (subst (λ (a : ℕ). length h ≤ a) (sym (nextPlace-first true 59 h)) i);
           value-behind = ap (λ (a : ℕ). drop (a + 1) l) n-first;
         }
+
+-- there is no byte behind a name that is the whole line
+pub plain-past : (l : List ℕ) (n : ℕ) → length l ≤ n → false ≡ isPlainAt l n
+unfolding isPlainAt
+plain-past l n h = sym (not-so _ (λ e. omega (arith, getD-inside (λ b. eqb b 58) refl l n e)))
+
+-- what the test tells: the line has no parameters, and its value is what is left
+pub plain-at : (l : List ℕ) (n : ℕ) {r : Bool} → n ≡ length (nameOf l) → r ≡ isPlainAt l n → r ≡ true → Plain l n
+unfolding isPlainAt
+plain-at l n e q h =
+    let y : eqb (getD l n 0) 58 ≡ true = sym q ∙ h in
+    plain-line l n e (getD-inside (λ b. eqb b 58) refl l n y) (eqb-true _ _ y)

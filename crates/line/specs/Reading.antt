@@ -4,8 +4,8 @@ use Prim.Native.Nat.{ℕ, _+_, _<_}
 use mathlib.Core.Path.{_≡_}
 use mathlib.Core.Bool.{Bool, true, false, cond, _&&_, _||_}
 use mathlib.Core.List.{List, [], _∷_, _++_, map}
-use lib.Dec.{ltb}
-use lib.ListN.{length, drop}
+use lib.Dec.{eqb, ltb}
+use lib.ListN.{length, drop, getD}
 use Rattle.ascii.specs.Names.{sameName}
 use Rattle.line.specs.Grammar.{Parameter, ContentLine, parameter, contentLine}
 use Rattle.line.specs.Splitting.{before, after, splitParts, quotesOff}
@@ -54,7 +54,11 @@ parameterOf t = parameter (parameterName t) (valuesOf t)
 unfoldable pub lineOf : List ℕ → ContentLine
 lineOf l = contentLine (nameOf l) (map parameterOf (parameterTexts l)) (valueOf l)
 
--- the line's colon stands right behind its name, which is n bytes long
+-- is there a colon right behind the name, which is n bytes long? (past the end `getD` gives 0)
+unfoldable pub isPlainAt : List ℕ → ℕ → Bool
+isPlainAt l n = eqb (getD l n 0) 58
+
+-- the line's colon stands right behind its name, which is n bytes long (law `plain-at`)
 pub record Plain (l : List ℕ) (n : ℕ) : Type 0 where
   pub inside : n < length l
   pub no-parameters : lineOf l .parameters ≡ []

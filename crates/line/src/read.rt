@@ -1,14 +1,13 @@
 // The name, the parameters and the value of a line, read in place.
 // A part that is handed back is a part of the caller's own slice.
 use crate::split;
-ghost use mathlib.Core.Bool.{true};
 ghost use mathlib.Core.Path.{_≡_};
 ghost use mathlib.Core.List.{[]};
 ghost use Prim.Native.Nat.{_<_};
 ghost use lib.ListN.{length, getD};
 ghost use Rattle.ascii.specs.Names.{sameName};
 ghost use Rattle.line.specs.Reading.{headOf, valueOf, nameOf, parameterTexts, parameterName, isNamed, valuesOf};
-ghost use Rattle.line.specs.Reading.{parameterOf, lineOf, Plain, usageOf, countedWith, hasParameter, firstValue};
+ghost use Rattle.line.specs.Reading.{parameterOf, lineOf, isPlainAt, usageOf, countedWith, hasParameter, firstValue};
 
 // How often a parameter of a name stands on a line, and whether one of them has more than one value.
 pub struct Usage {
@@ -44,7 +43,7 @@ pub fn is_called(line: &[u8], n: usize, name: &[u8]) -> bool
 // Does the colon stand right behind the name, which is n bytes long? Then the line has no parameters, and its value is what is left.
 pub fn is_plain(line: &[u8], n: usize) -> bool
     requires { ⌜ n ≡ length (nameOf (now line)) ⌝ }
-    ensures { λ r. ⌜ (r ≡ true → Plain (now (line .entry)) n) ⌝ }
+    ensures { λ r. ⌜ r ≡ isPlainAt (now (line .entry)) n ⌝ }
 {
     if line.len() <= n {
         return false;

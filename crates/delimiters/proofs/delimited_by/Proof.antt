@@ -2,6 +2,7 @@
 -- else the count of parameters and the test of the value are the rule's own tests.
 use Rattle.ascii.specs.Names.{isName}
 use Rattle.line.specs.Reading.{Plain}
+use Rattle.line.proofs.Reading.{plain-at}
 use Rattle.delimiters.proofs.Delimiters.{delimited-yes, delimited-no, plain-yes, plain-no}
 use mathlib.Core.Path.{ap, _∙_}
 use native.Mathlib.Omega.{arith}
@@ -10,7 +11,7 @@ use Rattle.delimiters.proofs.delimited_by.Statement.{statement}
 use Rattle.delimiters.proofs.delimited_by.Tie as tie
 
 plain-there : (c : tie.Then1) → Plain (c .before .before .before .args .line .now) (c .before .before .before .args .n)
-plain-there c = c .before .is-plain .ensures (c .if1 .taken)
+plain-there c = plain-at (c .before .before .before .args .line .now) _ (c .before .before .before .pre) (c .before .is-plain .ensures) (c .if1 .taken)
 
 is-plain-requires : tie.Need-is-plain-requires
 is-plain-requires c κs = search needs

@@ -5,7 +5,7 @@ use mathlib.Core.Path.{sym, ap, _∙_}
 use Rattle.property.proofs.Properties.{unread-line}
 use native.Mathlib.Omega.{arith}
 use Rattle.line.specs.Reading.{lineOf}
-use Rattle.line.proofs.Reading.{name-take, name-fits}
+use Rattle.line.proofs.Reading.{name-take, name-fits, plain-at}
 use Rattle.property.specs.Properties.{propertyOf, beforePeriods}
 use borrow.Author.Needs.{needs}
 use Rattle.property.proofs.property_value.Statement.{statement}
@@ -24,10 +24,15 @@ is-plain-requires : tie.Need-is-plain-requires
 is-plain-requires c κs = search needs
 
 value-in-requires : tie.Need-value-in-requires
-value-in-requires c κs = search needs
+value-in-requires c κs =
+    let start = c .before .before .before .before .before in
+    plain-at (now (start .args .line)) _ (start .pre .1) (c .is-plain .ensures)
 
 value-as-requires : tie.Need-value-as-requires
-value-as-requires c κs = (c .before .before .before .before .before .before .pre .0, (c .value-in .ensures, λ h. c .before .is-plain .ensures h .no-parameters))
+value-as-requires c κs =
+    let start = c .before .before .before .before .before .before in
+    let plain = plain-at (now (start .args .line)) _ (start .pre .1) (c .before .is-plain .ensures) in
+    (start .pre .0, (c .value-in .ensures, λ h. plain h .no-parameters))
 
 returns : tie.Need-returns
 returns c =
