@@ -11,14 +11,13 @@ use borrow.Author.Tests.{leb-true, le-leb, lt-leb, ltb-true}
 use Rattle.ascii.proofs.Bools.{and-left, and-right}
 use Rattle.time.specs.declared.date_time.Kind.{Kind}
 use Rattle.time.specs.declared.limits.Second.{Second}
-use Rattle.time.specs.Days.{daysBeforeYear}
 use Rattle.time.specs.Limits.{epoch, lastSecond, since, utcSecond, rangeGood}
-use Rattle.time.proofs.DaysLaws.{daysBeforeYear-direct}
+use Rattle.time.proofs.DaysLaws.{epoch-day}
 
--- 1970 begins at the epoch
-pub epoch-year : 86400 * daysBeforeYear 1970 ≡ epoch
+-- the epoch as the number that the code has
+pub epoch-number : epoch ≡ 62167219200
 unfolding epoch
-epoch-year = ap (λ (n : ℕ). 86400 * n) (daysBeforeYear-direct 1970)
+epoch-number = ap (λ (n : ℕ). 86400 * n) epoch-day
 
 -- before the start, past the limit, within
 pub since-before : (start clock : ℕ) → clock < start → Second.Outside ≡ since start clock
@@ -59,17 +58,17 @@ start Kind.Date shift = epoch + shift
 -- UTC = clock - offset, within the limits
 pub utcSecond-in : (kind : Kind) (clock shift t : ℕ) → utcSecond kind clock shift ≡ Second.At t
     → (t ≤ lastSecond) × (t + start kind shift ≡ clock + 50400)
-unfolding utcSecond epoch
+unfolding utcSecond
 utcSecond-in Kind.Utc clock shift t e = omega (arith, since-in epoch clock t e)
-utcSecond-in Kind.Floating clock shift t e = omega (arith, since-in (epoch - 50400 + shift) clock t e)
-utcSecond-in Kind.Date clock shift t e = omega (arith, since-in (epoch - 50400 + shift) clock t e)
+utcSecond-in Kind.Floating clock shift t e = omega (arith, epoch-number, since-in (epoch - 50400 + shift) clock t e)
+utcSecond-in Kind.Date clock shift t e = omega (arith, epoch-number, since-in (epoch - 50400 + shift) clock t e)
 
 pub utcSecond-of : (kind : Kind) (clock shift t : ℕ) → t ≤ lastSecond → t + start kind shift ≡ clock + 50400
     → utcSecond kind clock shift ≡ Second.At t
-unfolding utcSecond epoch
+unfolding utcSecond
 utcSecond-of Kind.Utc clock shift t h e = since-of epoch clock t h (omega arith)
-utcSecond-of Kind.Floating clock shift t h e = since-of (epoch - 50400 + shift) clock t h (omega arith)
-utcSecond-of Kind.Date clock shift t h e = since-of (epoch - 50400 + shift) clock t h (omega arith)
+utcSecond-of Kind.Floating clock shift t h e = since-of (epoch - 50400 + shift) clock t h (omega (arith, epoch-number))
+utcSecond-of Kind.Date clock shift t h e = since-of (epoch - 50400 + shift) clock t h (omega (arith, epoch-number))
 
 pub utcSecond-iff : (kind : Kind) (clock shift t : ℕ)
     → (utcSecond kind clock shift ≡ Second.At t) ↔ ((t ≤ lastSecond) × (t + start kind shift ≡ clock + 50400))
@@ -80,8 +79,22 @@ pub second-written : (t shift : ℕ) → t ≤ lastSecond → utcSecond Kind.Utc
 second-written t shift h = utcSecond-of Kind.Utc (t + epoch) shift t h (omega arith)
 
 -- of equal kinds, the same second
-pub utcSecond-kind : (k l : Kind) (clock shift : ℕ) → k ≡ l → utcSecond l clock shift ≡ utcSecond k clock shift
+utcSecond-kind : (k l : Kind) (clock shift : ℕ) → k ≡ l → utcSecond l clock shift ≡ utcSecond k clock shift
 utcSecond-kind k l clock shift e = rw e
+
+-- the arms of the code, with the epoch as a number
+module _ (k : Kind) (clock shift : ℕ) where
+  pub second-utc : k ≡ Kind.Utc → since 62167219200 clock ≡ utcSecond k clock shift
+  unfolding utcSecond
+  second-utc e = ap (λ (n : ℕ). since n clock) (sym epoch-number) ∙ utcSecond-kind k Kind.Utc clock shift e
+
+  pub second-floating : k ≡ Kind.Floating → since (62167219200 - 50400 + shift) clock ≡ utcSecond k clock shift
+  unfolding utcSecond
+  second-floating e = ap (λ (n : ℕ). since (n - 50400 + shift) clock) (sym epoch-number) ∙ utcSecond-kind k Kind.Floating clock shift e
+
+  pub second-date : k ≡ Kind.Date → since (62167219200 - 50400 + shift) clock ≡ utcSecond k clock shift
+  unfolding utcSecond
+  second-date e = ap (λ (n : ℕ). since (n - 50400 + shift) clock) (sym epoch-number) ∙ utcSecond-kind k Kind.Date clock shift e
 
 -- ---- a good range
 

@@ -24,6 +24,7 @@ use Rattle.time.specs.DateTime.{digitPair, pairAt, joined, yearAt, check
 use Rattle.time.specs.Limits.{epoch, lastSecond}
 use Rattle.time.proofs.Below.{below}
 use Rattle.time.proofs.DaysLaws.{sum-direct, epoch-day, monthDays-small}
+use Rattle.time.proofs.LimitsLaws.{epoch-number}
 use Rattle.time.proofs.DateTime.{clockAt-of, readDateTime-utc}
 use Rattle.time.proofs.Stores.{sets-append}
 
@@ -236,8 +237,7 @@ clock-read d s n e f =
     ∙ readDateTime-utc (dateText d ++ timeText s) 90 refl refl refl
 
 clock-sum : (t : ℕ) → (t / 86400 + 719528) * 86400 + t % 86400 ≡ t + epoch
-unfolding epoch
-clock-sum t = omega arith
+clock-sum t = omega (arith, epoch-number)
 
 -- what is written of a second reads as its clock
 pub read-written : (t : ℕ) → t ≤ lastSecond → readDateTime (utcText t) ≡ DateTime.At Kind.Utc (t + epoch)

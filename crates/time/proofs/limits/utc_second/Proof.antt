@@ -1,7 +1,5 @@
 -- `time::limits::utc_second` meets its contract: in each kind's arm the definition is its clause for that kind.
-use Rattle.time.specs.declared.date_time.Kind.{Kind}
-use Rattle.time.specs.Limits.{utcSecond, epoch}
-use Rattle.time.proofs.LimitsLaws.{utcSecond-kind}
+use Rattle.time.proofs.LimitsLaws.{second-utc, second-floating, second-date}
 use mathlib.Core.Path.{_∙_}
 use borrow.Author.Needs.{needs}
 use Rattle.time.proofs.limits.utc_second.Statement.{statement}
@@ -38,16 +36,13 @@ since-requires-3 : tie.Need-since-requires-3
 since-requires-3 c κs = search needs
 
 returns : tie.Need-returns
-unfolding utcSecond epoch
-returns c = c .since .ensures ∙ utcSecond-kind _ Kind.Utc (c .before .before .before .args .clock) (c .before .before .before .args .shift) (c .before .enum-told .given .1)
+returns c = c .since .ensures ∙ second-utc _ (c .before .before .before .args .clock) (c .before .before .before .args .shift) (c .before .enum-told .given .1)
 
 returns-2 : tie.Need-returns-2
-unfolding utcSecond epoch
-returns-2 c = c .since2 .ensures ∙ utcSecond-kind _ Kind.Floating (c .before .before .before .args .clock) (c .before .before .before .args .shift) (c .before .enum-told2 .given .1)
+returns-2 c = c .since2 .ensures ∙ second-floating _ (c .before .before .before .args .clock) (c .before .before .before .args .shift) (c .before .enum-told2 .given .1)
 
 returns-3 : tie.Need-returns-3
-unfolding utcSecond epoch
-returns-3 c = c .since3 .ensures ∙ utcSecond-kind _ Kind.Date (c .before .before .before .args .clock) (c .before .before .before .args .shift) (c .before .enum-told3 .given .1)
+returns-3 c = c .since3 .ensures ∙ second-date _ (c .before .before .before .args .clock) (c .before .before .before .args .shift) (c .before .enum-told3 .given .1)
 
 pub utc-second-spec : {M : Type 1} → statement M
 utc-second-spec =
