@@ -417,13 +417,15 @@ is-same-kind : (a b : Time) → a .kind ≡ b .kind → sameKind a b ≡ true
 unfolding sameKind
 is-same-kind a b e = eq-eqb _ _ (ap kindNumber e)
 
-date-is : (s : Time) → isDate s ≡ true → s .kind ≡ Kind.Date
-unfolding isDate kindNumber
-date-is s e = kind-number (s .kind) Kind.Date (eqb-true _ _ e)
+date-is : (k : Kind) → isDate k ≡ true → k ≡ Kind.Date
+unfolding isDate
+date-is Kind.Utc e = clash e refl
+date-is Kind.Floating e = clash e refl
+date-is Kind.Date e = refl
 
-is-date : (s : Time) → s .kind ≡ Kind.Date → isDate s ≡ true
-unfolding isDate kindNumber
-is-date s e = eq-eqb _ _ (ap kindNumber e)
+is-date : (k : Kind) → k ≡ Kind.Date → isDate k ≡ true
+unfolding isDate
+is-date k e = ap isDate e
 
 -- what was read is not broken
 pub ending-broken : {A : Type 0} {x : Ending} → EndingRead.Broken ≡ EndingRead.Of x → A
@@ -454,16 +456,16 @@ module _ (s : Time) where
   unfolding statedDuration
   duration-fits-of d x h = record { no-time-on-date = λ k. go k (d .timed) h }
     where
-      go : s .kind ≡ Kind.Date → (b : Bool) → cond (isDate s && b) EndingRead.Broken (EndingRead.Of (Ending.Lasts d)) ≡ EndingRead.Of x → b ≡ false
-      go k true h = ending-broken (rw (is-date s k) at h)
+      go : s .kind ≡ Kind.Date → (b : Bool) → cond (isDate (s .kind) && b) EndingRead.Broken (EndingRead.Of (Ending.Lasts d)) ≡ EndingRead.Of x → b ≡ false
+      go k true h = ending-broken (rw (is-date (s .kind) k) at h)
       go k false h = refl
 
   pub duration-of-fits : (d : Duration) → DurationFits s d → statedDuration s d ≡ EndingRead.Of (Ending.Lasts d)
   unfolding statedDuration
-  duration-of-fits d f = go (isDate s) refl
+  duration-of-fits d f = go (isDate (s .kind)) refl
     where
-      go : (b : Bool) → isDate s ≡ b → cond (b && d .timed) EndingRead.Broken (EndingRead.Of (Ending.Lasts d)) ≡ EndingRead.Of (Ending.Lasts d)
-      go true e = rw (f .no-time-on-date (date-is s e))
+      go : (b : Bool) → isDate (s .kind) ≡ b → cond (b && d .timed) EndingRead.Broken (EndingRead.Of (Ending.Lasts d)) ≡ EndingRead.Of (Ending.Lasts d)
+      go true e = rw (f .no-time-on-date (date-is (s .kind) e))
       go false e = refl
 
   pub until-fits-of : (t : Time) (x : Repeat) → limitBy s (Limit.Until t) ≡ RepeatRead.Of x → UntilFits s t

@@ -1,10 +1,11 @@
--- The ending and the limit by the test that the code makes: b says whether the kinds are the same.
-use mathlib.Core.Path.{_≡_, sym}
+-- The ending and the limit by the test that the code makes: b says whether the kinds are the same. And the number of DATE.
+use mathlib.Core.Path.{_≡_, refl, sym}
 use mathlib.Core.Bool.{Bool, true, false, _&&_}
-use lib.Dec.{ltb, leb}
+use lib.Dec.{eqb, ltb, leb}
+use Rattle.time.specs.declared.date_time.Kind.{Kind}
 use Rattle.values.specs.declared.times.Time.{Time}
 use Rattle.values.specs.declared.rule.Limit.{Limit}
-use Rattle.events.specs.Events.{sameKind, statedEnd, limitBy}
+use Rattle.events.specs.Events.{kindNumber, sameKind, isDate, statedEnd, limitBy}
 use Rattle.events.specs.declared.Ending.{Ending}
 use Rattle.events.specs.declared.Repeat.{Repeat}
 use Rattle.events.specs.declared.EndingRead.{EndingRead}
@@ -27,3 +28,10 @@ module _ (s t : Time) {l : Limit} {b : Bool} (k : l ≡ Limit.Until t) (q : b �
   pub until-before : (b && leb (s .second) (t .second)) ≡ false → RepeatRead.Broken ≡ limitBy s l
   unfolding limitBy
   until-before h = rw (k, sym q, h)
+
+-- DATE is the kind of number 2, which the code tests
+pub date-number : (k : Kind) → eqb (kindNumber k) 2 ≡ isDate k
+unfolding kindNumber isDate
+date-number Kind.Utc = refl
+date-number Kind.Floating = refl
+date-number Kind.Date = refl

@@ -46,7 +46,7 @@ stated-end-small s e x h q = go (sameKind e s && ltb (s .second) (e .second)) re
 
 stated-duration-small : (s : Time) (d : Duration) (x : Ending) → DurationSmall d → statedDuration s d ≡ EndingRead.Of x → EndingSmall (s .second) x
 unfolding statedDuration
-stated-duration-small s d x h q = go (isDate s && d .timed) q
+stated-duration-small s d x h q = go (isDate (s .kind) && d .timed) q
   where
     go : (t : Bool) → cond t EndingRead.Broken (EndingRead.Of (Ending.Lasts d)) ≡ EndingRead.Of x → EndingSmall (s .second) x
     go true k = let z : _≡_ {A = ℕ} 0 1 = cc in absurd (omega arith)

@@ -35,8 +35,10 @@ kindNumber Kind.Date = 2
 unfoldable pub sameKind : Time → Time → Bool
 sameKind a b = eqb (kindNumber (a .kind)) (kindNumber (b .kind))
 
-unfoldable pub isDate : Time → Bool
-isDate t = eqb (kindNumber (t .kind)) 2
+unfoldable pub isDate : Kind → Bool
+isDate Kind.Utc = false
+isDate Kind.Floating = false
+isDate Kind.Date = true
 
 -- DTEND is of DTSTART's kind and later
 unfoldable pub statedEnd : Time → Time → EndingRead
@@ -44,7 +46,7 @@ statedEnd s e = cond (sameKind e s && ltb (s .second) (e .second)) (EndingRead.O
 
 -- an event on a DATE lasts whole days: its duration names no time
 unfoldable pub statedDuration : Time → Duration → EndingRead
-statedDuration s d = cond (isDate s && d .timed) EndingRead.Broken (EndingRead.Of (Ending.Lasts d))
+statedDuration s d = cond (isDate (s .kind) && d .timed) EndingRead.Broken (EndingRead.Of (Ending.Lasts d))
 
 -- one of three endings; not both DTEND and DURATION
 unfoldable pub endingBy : Time → TimeGiven → DurationGiven → EndingRead

@@ -45,7 +45,7 @@ fn same_kind(a: Time, b: Time) -> bool
 }
 
 fn is_date(t: Time) -> bool
-    ensures { λ r. ⌜ r ≡ isDate t ⌝ }
+    ensures { λ r. ⌜ r ≡ isDate (t .kind) ⌝ }
 {
     let kind = t.kind;
     kind_number(kind) == 2
