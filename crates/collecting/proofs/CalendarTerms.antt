@@ -18,7 +18,7 @@ use Rattle.table.proofs.Runs.{runs-rising, runs-same, runs-here}
 use Rattle.table.proofs.Inserting.{fewest}
 use Rattle.periods.proofs.Periods.{secondIn-true}
 use Rattle.report.specs.Bytes.{Report, GoodPeriods, Writable, periodCount}
-use Rattle.periods.specs.BusyTypes.{reportPlace, isBusy, sameBusy, BusyPeriod}
+use Rattle.periods.specs.BusyTypes.{isBusy, sameBusy, BusyPeriod}
 use Rattle.pieces.specs.BusyPeriods.{busyPeriods}
 use Rattle.pieces.specs.Covered.{ofType, coveredBy, covered}
 use Rattle.pieces.specs.Pieces.{busyPieces}
@@ -104,7 +104,7 @@ module _ (m : CalendarTerms) (g : rangeGood (m .start) (m .end) ≡ true) where
       (fewest (m .start) n qs (λ q d. rw w (type-lies b (piecesFor m) pieces-lie q d)))
 
   pub periods-few : periodCount (reportFor m) ≤ length (piecesFor m)
-  unfolding periodCount piecesFor busyPieces isBusy reportPlace
+  unfolding periodCount piecesFor busyPieces isBusy
   periods-few =
       omega (
         arith,

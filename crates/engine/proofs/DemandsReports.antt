@@ -16,7 +16,7 @@ use Rattle.time.proofs.LimitsLaws.{range-limit, range-width}
 use Rattle.periods.specs.declared.Period.{Period}
 use Rattle.periods.specs.declared.BusyType.{BusyType}
 use Rattle.periods.specs.Periods.{covers}
-use Rattle.periods.specs.BusyTypes.{isBusy, BusyPeriod, reportPlace, typed}
+use Rattle.periods.specs.BusyTypes.{isBusy, BusyPeriod, typed}
 use Rattle.table.specs.Runs.{Rising, Lies}
 use Rattle.table.proofs.Runs.{rising-lies, runs-only, runs-same}
 use Rattle.report.specs.Bytes.{Report, reportBytes, Writable, periodCount}
@@ -120,7 +120,7 @@ typed-inside {lo} {hi} b u (q ∷ ps) f p m =
 
 -- a period of a report lies in the range that its periods rise in
 periods-inside : {lo hi : ℕ} (r : Report) → ((b : BusyType) → Rising lo (r .periods b) hi) → (p : BusyPeriod) → List·Memᴰ p (reportPeriods r) → Inside lo hi p
-unfolding reportPeriods isBusy reportPlace
+unfolding reportPeriods isBusy
 periods-inside {lo} {hi} r f p m =
     let at : (b : BusyType) → isBusy b ≡ true → List·Memᴰ p (typed b (r .periods b)) → Inside lo hi p =
     λ b u d. typed-inside b u (r .periods b) (λ q k. rising-lies (f b) k) p d in

@@ -11,7 +11,7 @@ use borrow.Author.Tests.{ltb-false, not-false}
 use Rattle.ascii.proofs.Bools.{not-so, and-left, and-right}
 use Rattle.time.specs.Limits.{rangeGood}
 use Rattle.periods.specs.declared.BusyType.{BusyType}
-use Rattle.periods.specs.BusyTypes.{isBusy, reportPlace}
+use Rattle.periods.specs.BusyTypes.{isBusy}
 use Rattle.table.specs.declared.Table.{Table}
 use Rattle.report.specs.Bytes.{periodCount, Report, reportBytes, GoodPeriods, Writable}
 use Rattle.report.specs.Writing.{byType, reportOf}
@@ -104,7 +104,7 @@ module _ {m : CalendarTerms} {r : Collected} {left : List ℕ} (k : Collects m r
     busy-good b u = subst GoodPeriods (sym (periods-told b u)) (collect-writable m none-collected .periods-good b)
 
     told-good : (b : BusyType) → GoodPeriods (told .periods b)
-    unfolding reportOf byType isBusy reportPlace
+    unfolding reportOf byType isBusy
     told-good BusyType.Busy = busy-good BusyType.Busy refl
     told-good BusyType.Tentative = busy-good BusyType.Tentative refl
     told-good BusyType.Unavailable = busy-good BusyType.Unavailable refl

@@ -4,10 +4,11 @@ use mathlib.Core.Path.{_≡_, refl, sym, ap, _∙_}
 use mathlib.Core.Bool.{true}
 use mathlib.Core.List.{List, [], _∷_, _++_}
 use mathlib.Core.Logic.{_↔_}
+use lib.Dec.{ltb}
 use borrow.Author.Tests.{eqb-true, eq-eqb}
 use Rattle.periods.specs.declared.Period.{Period}
 use Rattle.periods.specs.declared.BusyType.{BusyType}
-use Rattle.periods.specs.BusyTypes.{reportPlace, sameBusy, BusyPeriod, typed, periodsOf}
+use Rattle.periods.specs.BusyTypes.{reportPlace, isBusy, sameBusy, BusyPeriod, typed, periodsOf}
 
 -- the busy type that stands at a place
 typeAt : ℕ → BusyType
@@ -28,6 +29,14 @@ pub sameBusy-iff : (a b : BusyType) → (sameBusy a b ≡ true) ↔ (a ≡ b)
 unfolding sameBusy
 sameBusy-iff a b =
     (λ e. sym (type-there a) ∙ ap typeAt (eqb-true (reportPlace a) (reportPlace b) e) ∙ type-there b, λ e. eq-eqb (reportPlace a) (reportPlace b) (ap reportPlace e))
+
+-- busy time has one of the places below 3, which the code tests
+pub busy-place : (b : BusyType) → ltb (reportPlace b) 3 ≡ isBusy b
+unfolding reportPlace isBusy
+busy-place BusyType.Busy = refl
+busy-place BusyType.Tentative = refl
+busy-place BusyType.Unavailable = refl
+busy-place BusyType.Free = refl
 
 -- a type given and left out again
 pub periodsOf-typed : (b : BusyType) (ps : List Period) → periodsOf (typed b ps) ≡ ps

@@ -1,8 +1,8 @@
 -- The busy types and their places (document 01, The report's bytes): BUSY first, then BUSY-TENTATIVE, then BUSY-UNAVAILABLE.
 use Prim.Native.Nat.{ℕ}
-use mathlib.Core.Bool.{Bool}
+use mathlib.Core.Bool.{Bool, true, false}
 use mathlib.Core.List.{List, [], _∷_}
-use lib.Dec.{eqb, ltb}
+use lib.Dec.{eqb}
 use Rattle.periods.specs.declared.Period.{Period}
 use Rattle.periods.specs.declared.BusyType.{BusyType}
 
@@ -15,7 +15,10 @@ reportPlace BusyType.Free = 3
 
 -- free time is no busy time
 unfoldable pub isBusy : BusyType → Bool
-isBusy b = ltb (reportPlace b) 3
+isBusy BusyType.Busy = true
+isBusy BusyType.Tentative = true
+isBusy BusyType.Unavailable = true
+isBusy BusyType.Free = false
 
 -- two busy types are one where they have one place
 unfoldable pub sameBusy : BusyType → BusyType → Bool

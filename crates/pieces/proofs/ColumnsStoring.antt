@@ -11,7 +11,8 @@ use borrow.Author.Tests.{ltb-true, ltb-false}
 use Rattle.ascii.proofs.Bools.{and-left, and-right, and-both}
 use Rattle.time.specs.Limits.{lastSecond}
 use Rattle.periods.specs.declared.BusyType.{BusyType}
-use Rattle.periods.specs.BusyTypes.{reportPlace, isBusy, BusyPeriod}
+use Rattle.periods.specs.BusyTypes.{reportPlace, BusyPeriod}
+use Rattle.periods.proofs.BusyTypes.{busy-place}
 use Rattle.events.specs.declared.Event.{Event}
 use Rattle.recurrence.specs.Instances.{startOf, endOf, occurs, instancesAtMost}
 use Rattle.recurrence.specs.TimeRange.{instanceIn}
@@ -27,11 +28,12 @@ use Rattle.pieces.proofs.Columns.{stored-none, stored-full, stored-piec
 
 module _ {place from to : ℕ} (busy : BusyType) (start end a b : ℕ) (e : place ≡ reportPlace busy) (f : from ≡ max a start) (t : to ≡ min b end) where
   tested : (ltb place 3 && ltb from to) ≡ isPiece a b (busyPeriod busy start end)
-  unfolding isPiece isBusy clipped
+  unfolding isPiece clipped
   tested =
       ap (λ (i : ℕ). ltb i 3 && ltb from to) e
       ∙ ap (λ (i : ℕ). ltb (reportPlace busy) 3 && ltb i to) f
       ∙ ap (λ (i : ℕ). ltb (reportPlace busy) 3 && ltb (max a start) i) t
+      ∙ ap (λ (y : Bool). y && ltb (max a start) (min b end)) (busy-place busy)
 
   clipped-numbers : (o : List ℕ) (i : ℕ) → sets o i (from ∷ to ∷ place ∷ []) ≡ sets o i (max a start ∷ min b end ∷ reportPlace busy ∷ [])
   clipped-numbers o i =

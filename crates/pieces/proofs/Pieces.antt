@@ -7,7 +7,7 @@ use mathlib.Core.List.{List, [], _∷_, _++_, append-assoc, append-nil, List·Me
 use native.Mathlib.Omega.{arith}
 use lib.Dec.{ltb}
 use lib.ListN.{length}
-use borrow.Author.Tests.{ltb-true, lt-ltb, eqb-true, not-false}
+use borrow.Author.Tests.{ltb-true, lt-ltb, not-false}
 use Rattle.time.specs.Limits.{lastSecond}
 use Rattle.ascii.proofs.Bools.{and-left, and-right, and-both, clash, not-so}
 use Rattle.periods.specs.declared.Period.{Period}
@@ -15,6 +15,7 @@ use Rattle.periods.specs.declared.BusyType.{BusyType}
 use Rattle.periods.specs.Periods.{period, secondIn}
 use Rattle.periods.proofs.Periods.{secondIn-ends, secondIn-true}
 use Rattle.periods.specs.BusyTypes.{reportPlace, isBusy, sameBusy, BusyPeriod}
+use Rattle.periods.proofs.BusyTypes.{sameBusy-iff, busy-place}
 use Rattle.events.specs.Events.{Entry, event}
 use Rattle.events.specs.Sizes.{EventSmall}
 use Rattle.events.specs.declared.Event.{Event}
@@ -80,8 +81,7 @@ clipped-secondIn a e x s t =
     secondIn-true _ _ x (omega (arith, k .0, m .0)) (omega (arith, k .1, m .1)))
 
 same-is-busy : (b c : BusyType) → isBusy b ≡ true → sameBusy b c ≡ true → isBusy c ≡ true
-unfolding isBusy sameBusy
-same-is-busy b c h e = ap (λ (n : ℕ). ltb n 3) (sym (eqb-true (reportPlace b) (reportPlace c) e)) ∙ h
+same-is-busy b c h e = ap isBusy (sym (sameBusy-iff b c .0 e)) ∙ h
 
 module _ (b : BusyType) (u : isBusy b ≡ true) (a e x : ℕ) where
   -- what is no piece covers no second of the range
@@ -267,12 +267,11 @@ no-pieces a b e h = ap (piecesOf a b) (append-nil (eventPeriods e)) ∙ empty-ev
 -- by the test that the code makes of its place in a report and of its length
 pub no-event-pieces : (e : Event) {p : ℕ} {z : Bool} → p ≡ reportPlace (e .busy) → z ≡ isZeroLength e → (ltb p 3 && not z) ≡ false
     → (a b : ℕ) → piecesOf a b (eventPeriods e) ≡ []
-unfolding isBusy
 no-event-pieces e {p} {z} q l h = go (ltb p 3) refl h
   where
     go : (t : Bool) → ltb p 3 ≡ t → (t && not z) ≡ false → (a b : ℕ) → piecesOf a b (eventPeriods e) ≡ []
     go true u v = empty-event e (sym l ∙ not-false z v)
-    go false u v = free-event e (ap (λ (i : ℕ). ltb i 3) (sym q) ∙ u)
+    go false u v = free-event e (sym (busy-place (e .busy)) ∙ ap (λ (i : ℕ). ltb i 3) (sym q) ∙ u)
 
 -- ---- for the reader: which pieces there are
 

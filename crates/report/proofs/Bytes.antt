@@ -12,7 +12,7 @@ use Rattle.text.specs.Lines.{joined}
 use Rattle.time.specs.Writing.{utcText, dateText, timeText}
 use Rattle.periods.specs.declared.Period.{Period}
 use Rattle.periods.specs.declared.BusyType.{BusyType}
-use Rattle.periods.specs.BusyTypes.{reportPlace, isBusy}
+use Rattle.periods.specs.BusyTypes.{isBusy}
 use Rattle.report.specs.Bytes.{Report, periodHead, periodText, periodLines, busyLines, reportLines, reportBytes, reportLength, periodCount}
 use Rattle.report.specs.Heads.{stampHead, startHead, endHead, timed, opening, closing}
 
@@ -86,7 +86,7 @@ report-short r h = rw (report-length r) (omega arith)
 
 -- a report of 190 bytes lists no period
 pub empty-periods : (r : Report) → length (reportBytes r) ≡ 190 → (b : BusyType) → isBusy b ≡ true → length (r .periods b) ≡ 0
-unfolding reportLength isBusy reportPlace
+unfolding reportLength isBusy
 empty-periods r e BusyType.Busy u = omega (arith, report-length r)
 empty-periods r e BusyType.Tentative u = omega (arith, report-length r)
 empty-periods r e BusyType.Unavailable u = omega (arith, report-length r)
@@ -97,5 +97,5 @@ empty-periods r e BusyType.Free u = clash u refl
 pub equal-bytes : (r s : Report) → r .start ≡ s .start → r .end ≡ s .end → r .stamp ≡ s .stamp
     → ((b : BusyType) → isBusy b ≡ true → r .periods b ≡ s .periods b)
     → reportBytes r ≡ reportBytes s
-unfolding reportBytes reportLines busyLines isBusy reportPlace
+unfolding reportBytes reportLines busyLines isBusy
 equal-bytes r s x y z p = rw (x, y, z, p BusyType.Busy refl, p BusyType.Tentative refl, p BusyType.Unavailable refl)

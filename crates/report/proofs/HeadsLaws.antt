@@ -20,7 +20,7 @@ use Rattle.time.specs.Writing.{utcText, dateText, timeText, isUtcByte}
 use Rattle.time.proofs.WritingLaws.{utcText-bytes}
 use Rattle.periods.specs.declared.Period.{Period}
 use Rattle.periods.specs.declared.BusyType.{BusyType}
-use Rattle.periods.specs.BusyTypes.{reportPlace, isBusy}
+use Rattle.periods.specs.BusyTypes.{isBusy}
 use Rattle.report.specs.Bytes.{Report, periodHead, periodText, periodLines, busyLines, reportBytes}
 use Rattle.report.specs.Heads.{begins, hasBytesAt, stampHead, startHead, endHead, timed, opening, closing, opensReport, closesReport, isBusyLine, allBusyLines, BusyLines, none, then, headsMatch}
 use Rattle.report.proofs.Bytes.{report-parts, parts-length, opening-length, closing-length}
@@ -188,7 +188,7 @@ isBusyLine-by l p q r = rw (p, q, r)
 -- a line of busy time is one of a busy type
 busy-line : (l : List ℕ) (ls : List (List ℕ)) (x y z : Bool) → begins l (periodHead BusyType.Busy) ≡ x → begins l (periodHead BusyType.Tentative) ≡ y
     → begins l (periodHead BusyType.Unavailable) ≡ z → (x || y || z) ≡ true → BusyLines ls → BusyLines (l ∷ ls)
-unfolding isBusy reportPlace
+unfolding isBusy
 busy-line l ls true y z p q r e k = then BusyType.Busy refl p k
 busy-line l ls false true z p q r e k = then BusyType.Tentative refl q k
 busy-line l ls false false z p q r e k = then BusyType.Unavailable refl (r ∙ e) k
@@ -198,7 +198,7 @@ or-true true = refl
 or-true false = refl
 
 line-busy : (l : List ℕ) (b : BusyType) → isBusy b ≡ true → begins l (periodHead b) ≡ true → isBusyLine l ≡ true
-unfolding isBusyLine isBusy reportPlace
+unfolding isBusyLine isBusy
 line-busy l BusyType.Busy h e = rw e
 line-busy l BusyType.Tentative h e = rw (e, or-true (begins l (periodHead BusyType.Busy)))
 line-busy l BusyType.Unavailable h e = rw (e, or-true (begins l (periodHead BusyType.Busy) || begins l (periodHead BusyType.Tentative)))
