@@ -13,9 +13,7 @@ use console::out::print_reason;
 use console::out::wrong;
 use console::query::query_at;
 use engine::Answer;
-use engine::ReportTables;
-use table::Table;
-ghost use Prim.Native.Nat.{_≤_};
+use engine::ReportSeconds;
 
 // The length of the name that is being read, and the counts.
 struct Tally {
@@ -61,23 +59,16 @@ fn print_counts(s: Tally) {
     print(b"\n");
 }
 
-fn print_busy(t: Table)
-    requires { ⌜ t .count ≤ 512 ⌝ }
-{
+fn print_busy(seconds: u64) {
     print(b"\t");
-    print_number(cli::sums::seconds_in(t));
+    print_number(seconds);
 }
 
 // Three columns.
-fn print_seconds(r: ReportTables)
-    requires { ⌜ (r .busy .count ≤ 512) × (r .tentative .count ≤ 512) × (r .unavailable .count ≤ 512) ⌝ }
-{
-    let busy = r.busy;
-    let tentative = r.tentative;
-    let unavailable = r.unavailable;
-    print_busy(busy);
-    print_busy(tentative);
-    print_busy(unavailable);
+fn print_seconds(r: ReportSeconds) {
+    print_busy(r.busy);
+    print_busy(r.tentative);
+    print_busy(r.unavailable);
 }
 
 // A column of words and one with a number.
@@ -135,7 +126,7 @@ fn save_beside(name: &[u8], report: &[u8], n: usize) {
 
 // The columns behind the verdict.
 fn print_report(name: &[u8], p: Plan, cal: &[u8], work: &mut [u8], out: &mut [u8]) -> Outcome {
-    let r = engine::report_tables(cal, p.start, p.end, p.offset, p.stamp, work, out);
+    let r = engine::report_seconds(cal, p.start, p.end, p.offset, p.stamp, work, out);
     let fault = r.fault;
     match fault {
         Fault::At(n, _) => {

@@ -1,4 +1,3 @@
 pub mod ArgumentsLaws
 pub mod HexLaws
 pub mod WordsLaws
-pub mod SumsLaws

@@ -1,4 +1,3 @@
 pub mod Arguments
 pub mod Hex
 pub mod Words
-pub mod Sums

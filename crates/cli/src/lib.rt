@@ -2,5 +2,4 @@
 // The programs print what these say, and nothing of their own.
 pub mod arguments;
 pub mod hex;
-pub mod sums;
 pub mod words;

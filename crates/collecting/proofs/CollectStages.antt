@@ -20,10 +20,11 @@ use Rattle.periods.specs.BusyTypes.{reportPlace, isBusy, BusyPeriod}
 use Rattle.periods.proofs.Periods.{secondIn-true}
 use Rattle.values.specs.declared.times.Context.{Context}
 use Rattle.table.specs.Runs.{runs, Lies}
-use Rattle.table.specs.Tables.{listed, Empty}
-use Rattle.table.specs.declared.Table.{Table}
+use Rattle.table.specs.Tables.{tableAt, listed}
+use Rattle.table.specs.Inserting.{insertedAll}
+use Rattle.table.proofs.Tables.{listed-kept}
 use Rattle.table.proofs.Runs.{runs-same}
-use Rattle.report.specs.Writing.{byType}
+use Rattle.report.specs.Writing.{packed}
 use Rattle.events.specs.Events.{Entry}
 use Rattle.calendar.specs.Meaning.{structureRefusal, entriesOf, componentsOf}
 use Rattle.calendar.specs.declared.Fault.{Fault}
@@ -44,11 +45,11 @@ use Rattle.nesting.specs.declared.Structure.{Structure}
 use Rattle.contents.specs.Contents.{ContentsAre}
 use Rattle.contents.specs.declared.ContentsRead.{ContentsRead}
 use Rattle.contents.proofs.Contents.{structure-found}
-use Rattle.tables.specs.Building.{Built}
-use Rattle.tables.proofs.Building.{built-stored}
+use Rattle.tables.specs.Building.{periodsAt, BuiltAt}
+use Rattle.tables.proofs.Building.{built-stored, periods-few}
 use Rattle.collecting.specs.declared.Collected.{Collected}
 use Rattle.collecting.specs.CalendarTerms.{stampGood, pieceRow}
-use Rattle.collecting.specs.CollectStages.{callRead, Refuses, Tabled, ContentsTabled, CalendarTabled, CalendarCollected, pieceRows, AllSound, Typed, unlessFault, fewestPeriods}
+use Rattle.collecting.specs.CollectStages.{callRead, noTables, periodsIn, Tabled, ContentsTabled, CalendarTabled, CalendarCollected, pieceRows, Typed, unlessFault, fewestPeriods}
 
 -- ---- range, stamp and offset
 
@@ -96,58 +97,63 @@ module _ (a e t : ℕ) where
 
 -- ---- a refusal
 
-none-listed : {x y z : Table} → Empty x → Empty y → Empty z → (b : BusyType) → byType x y z b ≡ []
-unfolding byType
-none-listed p q r BusyType.Busy = p .list
-none-listed p q r BusyType.Tentative = q .list
-none-listed p q r BusyType.Unavailable = r .list
-none-listed p q r BusyType.Free = refl
+none-listed : (f : Fault) (ss es : List ℕ) (b : BusyType) → periodsIn (noTables f) ss es b ≡ []
+unfolding noTables packed listed
+none-listed f ss es BusyType.Busy = refl
+none-listed f ss es BusyType.Tentative = refl
+none-listed f ss es BusyType.Unavailable = refl
+none-listed f ss es BusyType.Free = refl
 
-pub refuses : {x y z : Table} (f : Fault) → Empty x → Empty y → Empty z → Refuses f (record { fault = f; busy = x; tentative = y; unavailable = z })
-refuses f p q r =
-    record {
-      fault-is = refl;
-      no-periods = none-listed p q r;
-      sound = record { busy-sound = p .sound; tentative-sound = q .sound; unavailable-sound = r .sound };
-    }
+module _ {rows : List Row} {ps : BusyType → List Period} {r : Collected} {ss es : List ℕ} where
+  pub tabled-refused : {n i : ℕ} → firstRefusal rows ≡ Fault.At n i → r ≡ noTables (Fault.At n i) → Tabled rows ps r ss es
+  unfolding unlessFault noTables
+  tabled-refused {n} {i} e k =
+      rw (k)
+      (record {
+        fault-is = sym e;
+        periods-are = λ b u. none-listed (Fault.At n i) ss es b ∙ sym (ap (λ (f : Fault). unlessFault f (ps b)) e);
+        few = omega arith;
+      })
 
-module _ {rows : List Row} {ps : BusyType → List Period} {r : Collected} where
-  pub tabled-refused : {n i : ℕ} → firstRefusal rows ≡ Fault.At n i → Refuses (Fault.At n i) r → Tabled rows ps r
-  unfolding unlessFault
-  tabled-refused e k =
-      record {
-        fault-is = k .fault-is ∙ sym e;
-        periods-are = λ b u. k .no-periods b ∙ sym (ap (λ (f : Fault). unlessFault f (ps b)) e);
-        sound = k .sound;
-      }
-
-  pub tabled-passed : {more : List Row} → firstRefusal rows ≡ firstRefusal more → Tabled more ps r → Tabled rows ps r
+  pub tabled-passed : {more : List Row} → firstRefusal rows ≡ firstRefusal more → Tabled more ps r ss es → Tabled rows ps r ss es
   tabled-passed e t =
       record {
         fault-is = t .fault-is ∙ sym e;
         periods-are = λ b u. t .periods-are b u ∙ ap (λ (f : Fault). unlessFault f (ps b)) (sym e);
-        sound = t .sound;
+        few = t .few;
       }
 
 -- ---- no refusal
 
-module _ {c : List ℕ} {n : ℕ} {r : Collected} (t : Typed c n r) where
-  typed-sound : AllSound r
-  typed-sound =
-      record {
-        busy-sound = t .busy-built .sound;
-        tentative-sound = t .tentative-built .sound;
-        unavailable-sound = t .unavailable-built .sound;
-      }
+-- the tables of three types, each behind the one before, are the types' tables in the end
+module _ {c : List ℕ} {n x : ℕ} {ss es us vs : List ℕ} (long : length ss ≡ 512) (even : length es ≡ 512) (small : n ≤ 512) (p : BuiltAt c n 0 0 ss es x us vs) where
+  pub busy-fits : x + length (periodsAt 1 n c) ≤ length us
+  busy-fits = omega (arith, p .built .count, periods-few n c, p .starts-long)
 
-  -- what is known of the table of any type is known of the three
-  typed-listed : (ps : BusyType → List Period) → ((b : BusyType) (x : Table) → isBusy b ≡ true → Built c n (reportPlace b) x → listed x ≡ ps b)
-      → (b : BusyType) → isBusy b ≡ true → byType (r .busy) (r .tentative) (r .unavailable) b ≡ ps b
-  unfolding byType reportPlace isBusy
-  typed-listed ps f BusyType.Busy u = f BusyType.Busy _ u (t .busy-built)
-  typed-listed ps f BusyType.Tentative u = f BusyType.Tentative _ u (t .tentative-built)
-  typed-listed ps f BusyType.Unavailable u = f BusyType.Unavailable _ u (t .unavailable-built)
-  typed-listed ps f BusyType.Free u = clash u refl
+  module _ {y : ℕ} {ws xs : List ℕ} (q : BuiltAt c n 1 x us vs y ws xs) where
+    pub tentative-fits : x + y + length (periodsAt 2 n c) ≤ length ws
+    tentative-fits = omega (arith, p .built .count, q .built .count, periods-few n c, p .starts-long, q .starts-long)
+
+    pub typed : {z : ℕ} {ys zs : List ℕ} → BuiltAt c n 2 (x + y) ws xs z ys zs → Typed c n (record { fault = Fault.None; busy = x; tentative = y; unavailable = z }) ys zs
+    unfolding packed reportPlace isBusy
+    typed {z} {ys} {zs} r = record { fault-is = refl; built = made; few = omega (arith, p .built .count, q .built .count, r .built .count, periods-few n c) }
+      where
+        -- what stands before a row stays
+        first-kept : listed (tableAt 0 x ws xs) ≡ listed (tableAt 0 x us vs)
+        first-kept =
+            listed-kept 0 x x us vs ws xs (omega arith) (omega (arith, busy-fits)) (omega (arith, p .starts-long, p .ends-long))
+            (q .starts-long) (omega (arith, p .starts-long, p .ends-long, q .ends-long)) (q .starts-before) (q .ends-before)
+
+        then-kept : (k m : ℕ) → k + m ≤ x + y → listed (tableAt k m ys zs) ≡ listed (tableAt k m ws xs)
+        then-kept k m h =
+            listed-kept k m (x + y) ws xs ys zs h (omega (arith, tentative-fits)) (omega (arith, p .starts-long, p .ends-long, q .starts-long, q .ends-long))
+            (r .starts-long) (omega (arith, p .starts-long, p .ends-long, q .starts-long, q .ends-long, r .ends-long)) (r .starts-before) (r .ends-before)
+
+        made : (b : BusyType) → isBusy b ≡ true → packed x y z ys zs b ≡ insertedAll [] (periodsAt (reportPlace b) n c)
+        made BusyType.Busy u = then-kept 0 x (omega arith) ∙ first-kept ∙ p .built .list
+        made BusyType.Tentative u = then-kept x y (omega arith) ∙ q .built .list
+        made BusyType.Unavailable u = r .built .list
+        made BusyType.Free u = clash u refl
 
 -- no more are taken than there are
 take-least : (m : ℕ) (ps : List BusyPeriod) → length (take m ps) ≤ length ps
@@ -193,36 +199,34 @@ module _ (a e : ℕ) (es : List Entry) where
       unfolding pieceRow firstRefusal
       few-stored = row-passed (row 11 0 (ltb 512 (length (busyPieces a e es)))) [] (le-ltb 512 (length (busyPieces a e es)) (omega (arith, stored-count)))
 
-      tabled-stored : {r : Collected} → Room o → a < e → Typed o′ n r → Tabled (pieceRow (busyPieces a e es) ∷ []) (fewestPeriods a e es) r
+      tabled-stored : {r : Collected} {us vs : List ℕ} → Room o → a < e → Typed o′ n r us vs → Tabled (pieceRow (busyPieces a e es) ∷ []) (fewestPeriods a e es) r us vs
       unfolding unlessFault
       tabled-stored l w t =
           record {
             fault-is = t .fault-is ∙ sym few-stored;
             periods-are = λ b u.
-                typed-listed t (fewestPeriods a e es)
-                (λ y x v d.
-                built-stored y a (e - a) (busyPieces a e es) o stored-numbers (omega (arith, stored-count)) stored-count (pieces-lie w) d
-                ∙ pieces-runs y v w)
-                b u
+                t .built b u
+                ∙ built-stored b a (e - a) (busyPieces a e es) o stored-numbers (omega (arith, stored-count)) stored-count (pieces-lie w)
+                ∙ pieces-runs b u w
                 ∙ sym (ap (λ (f : Fault). unlessFault f (fewestPeriods a e es b)) few-stored);
-            sound = typed-sound t;
+            few = t .few;
           }
 
 -- ---- refusals 8 to 11, then the tables
 
-module _ {c : Context} {u rows : List ℕ} {a e : ℕ} {o o′ entries : List ℕ} {x : ContentsRead} (k : ContentsAre c u rows a e o o′ entries x) {r : Collected} where
-  pub contents-refuse : {n i : ℕ} → x .fault ≡ Fault.At n i → Refuses (Fault.At n i) r → ContentsTabled c u a e r
+module _ {c : Context} {u rows : List ℕ} {a e : ℕ} {o o′ entries : List ℕ} {x : ContentsRead} (k : ContentsAre c u rows a e o o′ entries x) {r : Collected} {us vs : List ℕ} where
+  pub contents-refuse : {n i : ℕ} → x .fault ≡ Fault.At n i → r ≡ noTables (Fault.At n i) → ContentsTabled c u a e r us vs
   contents-refuse q w = tabled-refused (contents-refused c u _ (sym (k .fault-is) ∙ q)) w
 
   module _ (q : x .fault ≡ Fault.None) where
-    contents-pass : Tabled (pieceRows c u a e) (fewestPeriods a e (entriesOf c (componentsOf u))) r → ContentsTabled c u a e r
+    contents-pass : Tabled (pieceRows c u a e) (fewestPeriods a e (entriesOf c (componentsOf u))) r us vs → ContentsTabled c u a e r us vs
     contents-pass t = tabled-passed (contents-passed c u _ (sym (k .fault-is) ∙ q)) t
 
-    pub contents-many : 512 < x .count → Refuses (Fault.At 11 0) r → ContentsTabled c u a e r
+    pub contents-many : 512 < x .count → r ≡ noTables (Fault.At 11 0) → ContentsTabled c u a e r us vs
     unfolding pieceRows
     contents-many m w = contents-pass (tabled-refused (stored-many a e _ (k .stored q) m) w)
 
-    pub contents-few : x .count ≤ 512 → Room o → a < e → Typed o′ (x .count) r → ContentsTabled c u a e r
+    pub contents-few : x .count ≤ 512 → Room o → a < e → Typed o′ (x .count) r us vs → ContentsTabled c u a e r us vs
     unfolding pieceRows
     contents-few m l w t = contents-pass (tabled-stored a e _ (k .stored q) m l w t)
 
@@ -230,19 +234,19 @@ module _ {c : Context} {u rows : List ℕ} {a e : ℕ} {o o′ entries : List �
 
 -- by what reading the structure answered
 module _ {u index rows : List ℕ} {x : Structure} (k : StructureRead u index rows x) {f : Fault} (q : f ≡ structureRefusal x) where
-  pub structure-refuses : (c : Context) (a e : ℕ) {r : Collected} {n i : ℕ} → f ≡ Fault.At n i → Refuses (Fault.At n i) r → CalendarTabled c u a e r
+  pub structure-refuses : (c : Context) (a e : ℕ) {r : Collected} {us vs : List ℕ} {n i : ℕ} → f ≡ Fault.At n i → r ≡ noTables (Fault.At n i) → CalendarTabled c u a e r us vs
   unfolding calendarRows
   structure-refuses c a e h w =
       tabled-refused (ap firstRefusal (append-assoc (structureRows u) (contentsRows c u) (pieceRows c u a e)) ∙ structure-refused u _ (structure-found k q ∙ h)) w
 
-  pub structure-passes : (c : Context) (a e : ℕ) {r : Collected} → f ≡ Fault.None → ContentsTabled c u a e r → CalendarTabled c u a e r
+  pub structure-passes : (c : Context) (a e : ℕ) {r : Collected} {us vs : List ℕ} → f ≡ Fault.None → ContentsTabled c u a e r us vs → CalendarTabled c u a e r us vs
   unfolding calendarRows
   structure-passes c a e h t =
       tabled-passed (ap firstRefusal (append-assoc (structureRows u) (contentsRows c u) (pieceRows c u a e)) ∙ structure-passed u _ (structure-found k q ∙ h)) t
 
 -- the unfolded calendar was left in the buffer
-pub calendar-collected : (c : Context) (cal work : List ℕ) (a e : ℕ) {left : List ℕ} {m : ℕ} {r : Collected} → Unfolded cal work left m
-    → CalendarTabled c (take m left) a e r → CalendarCollected c cal work a e r left
+pub calendar-collected : (c : Context) (cal work : List ℕ) (a e : ℕ) {left : List ℕ} {m : ℕ} {r : Collected} {us vs : List ℕ} → Unfolded cal work left m
+    → CalendarTabled c (take m left) a e r us vs → CalendarCollected c cal work a e r us vs left
 unfolding workBy
-calendar-collected c cal work a e {r = r} k t =
-    record { tabled = subst (λ (u : List ℕ). CalendarTabled c u a e r) (unfolded-front k) t; work-left = k .bytes }
+calendar-collected c cal work a e {r = r} {us} {vs} k t =
+    record { tabled = subst (λ (u : List ℕ). CalendarTabled c u a e r us vs) (unfolded-front k) t; work-left = k .bytes }

@@ -18,7 +18,7 @@ use Rattle.refusals.proofs.Offsets.{read-good}
 use Rattle.refusals.proofs.Refusals.{row-applies, row-passed, stage-passed, stage-refused}
 use Rattle.collecting.specs.CalendarTerms.{CalendarTerms, stampGood, entriesIn, coveredIn, piecesFor, reportFor, termsRow, earlyRows, lateRows, collectRows}
 use Rattle.collecting.specs.Collecting.{periodsBy, Collects}
-use Rattle.collecting.specs.CollectStages.{callRead, Refuses, Tabled, unlessFault, fewestPeriods, pieceRows, CalendarCollected}
+use Rattle.collecting.specs.CollectStages.{callRead, noTables, Tabled, unlessFault, fewestPeriods, pieceRows, CalendarCollected}
 use Rattle.collecting.specs.declared.Collected.{Collected}
 use Rattle.collecting.proofs.CollectStages.{tabled-refused, tabled-passed, read-call-good, read-call-bad}
 
@@ -37,26 +37,24 @@ module _ (cal : List ℕ) (a e : ℕ) (o : ℤ) (t : ℕ) (work : List ℕ) wher
   periods-same (Fault.At n i) b = refl
 
   -- by the rows that decide, and by those that are asked before the calendar is unfolded
-  collects : {rows : List Row} {r : Collected} {f : Fault} {left : List ℕ} → firstRefusal (collectRows call) ≡ firstRefusal rows
-      → Tabled rows (fewestPeriods a e entries) r → firstRefusal (earlyRows call) ≡ f → left ≡ workBy f cal work
-      → Collects call r left
+  collects : {rows : List Row} {r : Collected} {ss es : List ℕ} {f : Fault} {left : List ℕ} → firstRefusal (collectRows call) ≡ firstRefusal rows
+      → Tabled rows (fewestPeriods a e entries) r ss es → firstRefusal (earlyRows call) ≡ f → left ≡ workBy f cal work
+      → Collects call r ss es left
   collects q g h w =
       let p = tabled-passed q g in
       record {
         fault-is = p .fault-is;
         work-left-is = w ∙ ap (λ (y : Fault). workBy y cal work) (sym h);
         periods-are = λ b u. p .periods-are b u ∙ periods-same (firstRefusal (collectRows call)) b;
-        busy-sound = p .sound .busy-sound;
-        tentative-sound = p .sound .tentative-sound;
-        unavailable-sound = p .sound .unavailable-sound;
+        few = p .few;
       }
 
-  collect-early : {n i : ℕ} {r : Collected} → firstRefusal (earlyRows call) ≡ Fault.At n i → Refuses (Fault.At n i) r → Collects call r work
+  collect-early : {n i : ℕ} {r : Collected} {ss es : List ℕ} → firstRefusal (earlyRows call) ≡ Fault.At n i → r ≡ noTables (Fault.At n i) → Collects call r ss es work
   unfolding collectRows workBy
   collect-early q k =
       collects {rows = earlyRows call} (stage-refused (earlyRows call) (lateRows call) q ∙ sym q) (tabled-refused q k) q refl
 
-  pub collect-refused-1 : {r : Collected} → callRead a e o t ≡ OffsetRead.Bad → Refuses (Fault.At 1 0) r → Collects call r work
+  pub collect-refused-1 : {r : Collected} {ss es : List ℕ} → callRead a e o t ≡ OffsetRead.Bad → r ≡ noTables (Fault.At 1 0) → Collects call r ss es work
   unfolding earlyRows termsRow
   collect-refused-1 q k = collect-early (row-applies _ _ (ap not (read-call-bad a e t o q))) k
 
@@ -68,14 +66,14 @@ module _ (cal : List ℕ) (a e : ℕ) (o : ℤ) (t : ℕ) (work : List ℕ) wher
     unfolding earlyRows termsRow sizeFault
     early-left = row-passed _ _ (ap not call-passed)
 
-    pub collect-refused-sizes : {n i : ℕ} {r : Collected} → sizeFault cal work ≡ Fault.At n i → Refuses (Fault.At n i) r → Collects call r work
+    pub collect-refused-sizes : {n i : ℕ} {r : Collected} {ss es : List ℕ} → sizeFault cal work ≡ Fault.At n i → r ≡ noTables (Fault.At n i) → Collects call r ss es work
     collect-refused-sizes z k = collect-early (early-left ∙ z) k
 
-    pub collect-sizes-passed : {r : Collected} {left : List ℕ} → sizeFault cal work ≡ Fault.None → CalendarCollected (record { shift = s }) cal work a e r left
-        → Collects call r left
+    pub collect-sizes-passed : {r : Collected} {ss es left : List ℕ} → sizeFault cal work ≡ Fault.None → CalendarCollected (record { shift = s }) cal work a e r ss es left
+        → Collects call r ss es left
     unfolding contextOf collectRows lateRows pieceRows piecesFor entriesIn
-    collect-sizes-passed {r} {left} z g =
+    collect-sizes-passed {r} {ss} {es} {left} z g =
         let none = early-left ∙ z in
         let same : s ≡ shiftOf o = read-good o (read-call-good a e t o q .2) .1 in
-        let k = subst (λ (y : ℕ). CalendarCollected (record { shift = y }) cal work a e r left) same g in
+        let k = subst (λ (y : ℕ). CalendarCollected (record { shift = y }) cal work a e r ss es left) same g in
         collects (stage-passed (earlyRows call) (lateRows call) none) (k .tabled) none (k .work-left)

@@ -1,5 +1,5 @@
 -- The stages of collecting: what is read of the call, and the refusal and the tables of each stage with those that follow it.
-use Prim.Native.Nat.{ℕ, _-_}
+use Prim.Native.Nat.{ℕ, _+_, _-_, _≤_}
 use mathlib.Core.Path.{_≡_}
 use mathlib.Core.Bool.{true, cond, _&&_}
 use mathlib.Core.List.{List, [], _∷_, _++_}
@@ -10,9 +10,9 @@ use Rattle.periods.specs.declared.Period.{Period}
 use Rattle.values.specs.declared.times.Context.{Context}
 use Rattle.periods.specs.declared.BusyType.{BusyType}
 use Rattle.table.specs.Runs.{runs}
-use Rattle.table.specs.Tables.{Sound}
-use Rattle.report.specs.Writing.{byType}
-use Rattle.periods.specs.BusyTypes.{isBusy}
+use Rattle.table.specs.Inserting.{insertedAll}
+use Rattle.report.specs.Writing.{packed}
+use Rattle.periods.specs.BusyTypes.{reportPlace, isBusy}
 use Rattle.events.specs.Events.{Entry}
 use Rattle.calendar.specs.Meaning.{entriesOf, componentsOf}
 use Rattle.calendar.specs.declared.Fault.{Fault}
@@ -22,7 +22,7 @@ use Rattle.refusals.specs.Refusals.{Row, firstRefusal, contentsRows, calendarRo
 use Rattle.refusals.specs.Offsets.{offsetRead}
 use Rattle.refusals.specs.declared.OffsetRead.{OffsetRead}
 use Rattle.refusals.specs.Stages.{workBy}
-use Rattle.tables.specs.Building.{Built}
+use Rattle.tables.specs.Building.{periodsAt}
 use Rattle.collecting.specs.CalendarTerms.{stampGood, pieceRow}
 use Rattle.collecting.specs.declared.Collected.{Collected}
 
@@ -32,24 +32,23 @@ callRead a e o t = cond (rangeGood a e && stampGood t) (offsetRead o) OffsetRead
 
 -- ---- the tables
 
--- three tables as long as tables are
-pub record AllSound (r : Collected) : Type 0 where
-  pub busy-sound : Sound (r .busy)
-  pub tentative-sound : Sound (r .tentative)
-  pub unavailable-sound : Sound (r .unavailable)
-
 -- a refusal, and no period
-pub record Refuses (f : Fault) (r : Collected) : Type 0 where
-  pub fault-is : r .fault ≡ f
-  pub no-periods : (b : BusyType) → byType (r .busy) (r .tentative) (r .unavailable) b ≡ []
-  pub sound : AllSound r
+unfoldable pub noTables : Fault → Collected
+noTables f = record { fault = f; busy = 0; tentative = 0; unavailable = 0 }
 
--- no refusal, and a table for each place of a report, from the first n pieces of a column
-pub record Typed (column : List ℕ) (n : ℕ) (r : Collected) : Type 0 where
+-- the periods of each type, in the columns
+abbrev pub periodsIn : Collected → List ℕ → List ℕ → BusyType → List Period
+periodsIn r ss es = packed (r .busy) (r .tentative) (r .unavailable) ss es
+
+-- all together at most 512
+abbrev pub Few : Collected → Type 0
+Few r = r .busy + r .tentative + r .unavailable ≤ 512
+
+-- no refusal, and a table for each type, from the first n pieces of a column
+pub record Typed (column : List ℕ) (n : ℕ) (r : Collected) (ss es : List ℕ) : Type 0 where
   pub fault-is : r .fault ≡ Fault.None
-  pub busy-built : Built column n 0 (r .busy)
-  pub tentative-built : Built column n 1 (r .tentative)
-  pub unavailable-built : Built column n 2 (r .unavailable)
+  pub built : (b : BusyType) → isBusy b ≡ true → periodsIn r ss es b ≡ insertedAll [] (periodsAt (reportPlace b) n column)
+  pub few : Few r
 
 -- periods where nothing is refused
 unfoldable pub unlessFault : Fault → List Period → List Period
@@ -57,11 +56,10 @@ unlessFault Fault.None ps = ps
 unlessFault (Fault.At n i) ps = []
 
 -- the first refusal of some rows, and the tables of these periods where there is none
-pub record Tabled (rows : List Row) (periods : BusyType → List Period) (r : Collected) : Type 0 where
+pub record Tabled (rows : List Row) (periods : BusyType → List Period) (r : Collected) (ss es : List ℕ) : Type 0 where
   pub fault-is : r .fault ≡ firstRefusal rows
-  pub periods-are : (b : BusyType) → isBusy b ≡ true
-      → byType (r .busy) (r .tentative) (r .unavailable) b ≡ unlessFault (firstRefusal rows) (periods b)
-  pub sound : AllSound r
+  pub periods-are : (b : BusyType) → isBusy b ≡ true → periodsIn r ss es b ≡ unlessFault (firstRefusal rows) (periods b)
+  pub few : Few r
 
 -- ---- rows and periods from a stage on
 
@@ -74,14 +72,14 @@ unfoldable pub pieceRows : Context → List ℕ → ℕ → ℕ → List Row
 pieceRows c u a e = pieceRow (busyPieces a e (entriesOf c (componentsOf u))) ∷ []
 
 -- the first of 8 to 11, and the tables where there is none
-abbrev pub ContentsTabled : Context → List ℕ → ℕ → ℕ → Collected → Type 0
-ContentsTabled c u a e r = Tabled (contentsRows c u ++ pieceRows c u a e) (fewestPeriods a e (entriesOf c (componentsOf u))) r
+abbrev pub ContentsTabled : Context → List ℕ → ℕ → ℕ → Collected → List ℕ → List ℕ → Type 0
+ContentsTabled c u a e r ss es = Tabled (contentsRows c u ++ pieceRows c u a e) (fewestPeriods a e (entriesOf c (componentsOf u))) r ss es
 
 -- the first of 6 to 11, and the tables where there is none
-abbrev pub CalendarTabled : Context → List ℕ → ℕ → ℕ → Collected → Type 0
-CalendarTabled c u a e r = Tabled (calendarRows c u ++ pieceRows c u a e) (fewestPeriods a e (entriesOf c (componentsOf u))) r
+abbrev pub CalendarTabled : Context → List ℕ → ℕ → ℕ → Collected → List ℕ → List ℕ → Type 0
+CalendarTabled c u a e r ss es = Tabled (calendarRows c u ++ pieceRows c u a e) (fewestPeriods a e (entriesOf c (componentsOf u))) r ss es
 
 -- the same of a calendar that is unfolded first: that is left in the work buffer
-pub record CalendarCollected (c : Context) (cal work : List ℕ) (a e : ℕ) (r : Collected) (left : List ℕ) : Type 0 where
-  pub tabled : CalendarTabled c (unfolded cal) a e r
+pub record CalendarCollected (c : Context) (cal work : List ℕ) (a e : ℕ) (r : Collected) (ss es left : List ℕ) : Type 0 where
+  pub tabled : CalendarTabled c (unfolded cal) a e r ss es
   pub work-left : left ≡ workBy Fault.None cal work

@@ -1,3 +1,3 @@
 pub mod CalendarTerms
-pub mod Collecting
 pub mod CollectStages
+pub mod Collecting

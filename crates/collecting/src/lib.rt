@@ -1,8 +1,7 @@
 // Refusals 1 to 3 and 6 to 11 of a report, then its period tables: what a report is written from.
-// Nothing is written but the work buffer.
+// Nothing is written but the work buffer and the columns of the tables.
 use calendar::Fault;
 use refusals::OffsetRead;
-use table::Table;
 use time::limits;
 use values::times::Context;
 ghost use mathlib.Core.Path.{_≡_};
@@ -12,26 +11,26 @@ ghost use Rattle.pieces.specs.Columns.{Room};
 ghost use Rattle.values.specs.Times.{ContextGood};
 ghost use Rattle.time.specs.Limits.{lastSecond};
 ghost use Rattle.collecting.specs.Collecting.{Collects};
-ghost use Rattle.collecting.specs.CollectStages.{callRead, Refuses, Typed, ContentsTabled, CalendarTabled, CalendarCollected};
+ghost use Rattle.collecting.specs.CollectStages.{callRead, noTables, Typed, ContentsTabled, CalendarTabled, CalendarCollected};
 ghost use Rattle.structure.specs.Rows.{FileRows};
 
-// The first refusal or none, and the periods of each busy type.
+// The first refusal or none, and how many periods of each busy type stand in the columns, one type behind the other.
 pub struct Collected {
     pub fault: Fault,
-    pub busy: Table,
-    pub tentative: Table,
-    pub unavailable: Table,
+    pub busy: usize,
+    pub tentative: usize,
+    pub unavailable: usize,
 }
 
 // A refusal: no period of any type.
 fn refused(fault: Fault) -> Collected
-    ensures { λ r. ⌜ Refuses fault r ⌝ }
+    ensures { λ r. ⌜ r ≡ noTables fault ⌝ }
 {
     Collected {
         fault: fault,
-        busy: table::empty(),
-        tentative: table::empty(),
-        unavailable: table::empty(),
+        busy: 0,
+        tentative: 0,
+        unavailable: 0,
     }
 }
 
@@ -47,21 +46,27 @@ fn read_call(start: u64, end: u64, offset: i64, stamp: u64) -> OffsetRead
 }
 
 // The tables of the three types, from the first n pieces of a column.
-fn tables_of(column: &[u32], n: usize) -> Collected
+fn tables_of(starts: &mut [u32], ends: &mut [u32], column: &[u32], n: usize) -> Collected
+    requires { ⌜ (length (now starts) ≡ 512) × (length (now ends) ≡ 512) ⌝ }
     requires { ⌜ n ≤ 512 ⌝ }
     requires { ⌜ 3 * n ≤ length (now column) ⌝ }
-    ensures { λ r. ⌜ Typed (now (column .entry)) n r ⌝ }
+    ensures { λ r. ⌜ Typed (now (column .entry)) n r (now (starts .exit)) (now (ends .exit)) ⌝ }
 {
+    let busy = tables::table_at(starts, ends, 0, column, n, 0);
+    let tentative = tables::table_at(starts, ends, busy, column, n, 1);
+    let unavailable = tables::table_at(starts, ends, busy + tentative, column, n, 2);
     Collected {
         fault: Fault::None,
-        busy: tables::table_of(column, n, 0),
-        tentative: tables::table_of(column, n, 1),
-        unavailable: tables::table_of(column, n, 2),
+        busy,
+        tentative,
+        unavailable,
     }
 }
 
 // Refusals 8 to 11, then the tables: the pieces are stored in the column, events and blocks in rows of numbers.
 fn collect_stored(
+    starts: &mut [u32],
+    ends: &mut [u32],
     column: &mut [u32],
     entries: &mut [u64],
     s: &[u8],
@@ -71,12 +76,13 @@ fn collect_stored(
     start: u64,
     end: u64,
 ) -> Collected
+    requires { ⌜ (length (now starts) ≡ 512) × (length (now ends) ≡ 512) ⌝ }
     requires { ⌜ Room (now column) ⌝ }
     requires { ⌜ length (now entries) ≡ 3072 ⌝ }
     requires { ⌜ ContextGood c ⌝ }
     requires { ⌜ FileRows (now s) (now index) (now rows) ⌝ }
     requires { ⌜ (start < end) × (end ≤ lastSecond) ⌝ }
-    ensures { λ r. ⌜ ContentsTabled c (now (s .entry)) start end r ⌝ }
+    ensures { λ r. ⌜ ContentsTabled c (now (s .entry)) start end r (now (starts .exit)) (now (ends .exit)) ⌝ }
 {
     let read = contents::read_contents(column, entries, s, index, rows, c, start, end);
     let f = read.fault;
@@ -87,13 +93,15 @@ fn collect_stored(
             if 512 < n {
                 return refused(Fault::At(11, 0));
             }
-            tables_of(column, n)
+            tables_of(starts, ends, column, n)
         }
     }
 }
 
 // The same with memory of its own: room for 513 pieces of three numbers, and for 256 rows of twelve.
 fn collect_contents(
+    starts: &mut [u32],
+    ends: &mut [u32],
     s: &[u8],
     index: &[u32],
     rows: &[u32],
@@ -101,80 +109,136 @@ fn collect_contents(
     start: u64,
     end: u64,
 ) -> Collected
+    requires { ⌜ (length (now starts) ≡ 512) × (length (now ends) ≡ 512) ⌝ }
     requires { ⌜ ContextGood c ⌝ }
     requires { ⌜ FileRows (now s) (now index) (now rows) ⌝ }
     requires { ⌜ (start < end) × (end ≤ lastSecond) ⌝ }
-    ensures { λ r. ⌜ ContentsTabled c (now (s .entry)) start end r ⌝ }
+    ensures { λ r. ⌜ ContentsTabled c (now (s .entry)) start end r (now (starts .exit)) (now (ends .exit)) ⌝ }
 {
     let mut column = [0u32; 1539];
     let mut entries = [0u64; 3072];
-    collect_stored(&mut column, &mut entries, s, index, rows, c, start, end)
+    collect_stored(
+        starts,
+        ends,
+        &mut column,
+        &mut entries,
+        s,
+        index,
+        rows,
+        c,
+        start,
+        end,
+    )
 }
 
 // Refusals 6 to 11, then the tables: the lines stand in this index.
-fn collect_indexed(index: &mut [u32], s: &[u8], c: Context, start: u64, end: u64) -> Collected
+fn collect_indexed(
+    starts: &mut [u32],
+    ends: &mut [u32],
+    index: &mut [u32],
+    s: &[u8],
+    c: Context,
+    start: u64,
+    end: u64,
+) -> Collected
+    requires { ⌜ (length (now starts) ≡ 512) × (length (now ends) ≡ 512) ⌝ }
     requires { ⌜ length (now s) < 4 * length (now index) ⌝ }
     requires { ⌜ length (now s) ≤ 65536 ⌝ }
     requires { ⌜ ContextGood c ⌝ }
     requires { ⌜ (start < end) × (end ≤ lastSecond) ⌝ }
-    ensures { λ r. ⌜ CalendarTabled c (now (s .entry)) start end r ⌝ }
+    ensures { λ r. ⌜ CalendarTabled c (now (s .entry)) start end r (now (starts .exit)) (now (ends .exit)) ⌝ }
 {
     let mut rows = [0u32; 1024];
     let structure = structure::read_structure(index, &mut rows, s);
     match calendar::faults::structure_fault(structure) {
         Fault::At(k, line) => refused(Fault::At(k, line)),
-        Fault::None => collect_contents(s, index, &rows, c, start, end),
+        Fault::None => collect_contents(starts, ends, s, index, &rows, c, start, end),
     }
 }
 
 // An index is cleared before it is filled, so a short calendar gets a short one.
-fn collect_short(s: &[u8], c: Context, start: u64, end: u64) -> Collected
+fn collect_short(
+    starts: &mut [u32],
+    ends: &mut [u32],
+    s: &[u8],
+    c: Context,
+    start: u64,
+    end: u64,
+) -> Collected
+    requires { ⌜ (length (now starts) ≡ 512) × (length (now ends) ≡ 512) ⌝ }
     requires { ⌜ length (now s) ≤ 8192 ⌝ }
     requires { ⌜ ContextGood c ⌝ }
     requires { ⌜ (start < end) × (end ≤ lastSecond) ⌝ }
-    ensures { λ r. ⌜ CalendarTabled c (now (s .entry)) start end r ⌝ }
+    ensures { λ r. ⌜ CalendarTabled c (now (s .entry)) start end r (now (starts .exit)) (now (ends .exit)) ⌝ }
 {
     let mut index = [0u32; 2049];
-    collect_indexed(&mut index, s, c, start, end)
+    collect_indexed(starts, ends, &mut index, s, c, start, end)
 }
 
-fn collect_long(s: &[u8], c: Context, start: u64, end: u64) -> Collected
+fn collect_long(
+    starts: &mut [u32],
+    ends: &mut [u32],
+    s: &[u8],
+    c: Context,
+    start: u64,
+    end: u64,
+) -> Collected
+    requires { ⌜ (length (now starts) ≡ 512) × (length (now ends) ≡ 512) ⌝ }
     requires { ⌜ length (now s) ≤ 65536 ⌝ }
     requires { ⌜ ContextGood c ⌝ }
     requires { ⌜ (start < end) × (end ≤ lastSecond) ⌝ }
-    ensures { λ r. ⌜ CalendarTabled c (now (s .entry)) start end r ⌝ }
+    ensures { λ r. ⌜ CalendarTabled c (now (s .entry)) start end r (now (starts .exit)) (now (ends .exit)) ⌝ }
 {
     let mut index = [0u32; 16385];
-    collect_indexed(&mut index, s, c, start, end)
+    collect_indexed(starts, ends, &mut index, s, c, start, end)
 }
 
 // Refusals 6 to 11 of the unfolded calendar, then the tables.
-fn collect_unfolded(s: &[u8], c: Context, start: u64, end: u64) -> Collected
+fn collect_unfolded(
+    starts: &mut [u32],
+    ends: &mut [u32],
+    s: &[u8],
+    c: Context,
+    start: u64,
+    end: u64,
+) -> Collected
+    requires { ⌜ (length (now starts) ≡ 512) × (length (now ends) ≡ 512) ⌝ }
     requires { ⌜ length (now s) ≤ 65536 ⌝ }
     requires { ⌜ ContextGood c ⌝ }
     requires { ⌜ (start < end) × (end ≤ lastSecond) ⌝ }
-    ensures { λ r. ⌜ CalendarTabled c (now (s .entry)) start end r ⌝ }
+    ensures { λ r. ⌜ CalendarTabled c (now (s .entry)) start end r (now (starts .exit)) (now (ends .exit)) ⌝ }
 {
     if s.len() <= 8192 {
-        return collect_short(s, c, start, end);
+        return collect_short(starts, ends, s, c, start, end);
     }
-    collect_long(s, c, start, end)
+    collect_long(starts, ends, s, c, start, end)
 }
 
 // Unfolds the calendar to the front of the work buffer; then refusals 6 to 11, then the tables.
-fn collect_calendar(work: &mut [u8], cal: &[u8], c: Context, start: u64, end: u64) -> Collected
+fn collect_calendar(
+    starts: &mut [u32],
+    ends: &mut [u32],
+    work: &mut [u8],
+    cal: &[u8],
+    c: Context,
+    start: u64,
+    end: u64,
+) -> Collected
+    requires { ⌜ (length (now starts) ≡ 512) × (length (now ends) ≡ 512) ⌝ }
     requires { ⌜ length (now cal) ≤ length (now work) ⌝ }
     requires { ⌜ length (now cal) ≤ 65536 ⌝ }
     requires { ⌜ ContextGood c ⌝ }
     requires { ⌜ (start < end) × (end ≤ lastSecond) ⌝ }
-    ensures { λ r. ⌜ CalendarCollected c (now (cal .entry)) (now (work .entry)) start end r (now (work .exit)) ⌝ }
+    ensures { λ r. ⌜ CalendarCollected c (now (cal .entry)) (now (work .entry)) start end r (now (starts .exit)) (now (ends .exit)) (now (work .exit)) ⌝ }
 {
     let n = text::unfold_into(work, cal);
-    collect_unfolded(&work[..n], c, start, end)
+    collect_unfolded(starts, ends, &work[..n], c, start, end)
 }
 
 // The first of refusals 1 to 3 and 6 to 11, or the period tables; the work buffer holds the unfolded calendar afterwards, except on refusals 1 to 3.
 pub fn collect(
+    starts: &mut [u32],
+    ends: &mut [u32],
     cal: &[u8],
     start: u64,
     end: u64,
@@ -182,13 +246,22 @@ pub fn collect(
     stamp: u64,
     work: &mut [u8],
 ) -> Collected
-    ensures { λ r. ⌜ Collects (record { calendar = now (cal .entry); start = start; end = end; offset = offset; stamp = stamp; work = now (work .entry) }) r (now (work .exit)) ⌝ }
+    requires { ⌜ (length (now starts) ≡ 512) × (length (now ends) ≡ 512) ⌝ }
+    ensures { λ r. ⌜ Collects (record { calendar = now (cal .entry); start = start; end = end; offset = offset; stamp = stamp; work = now (work .entry) }) r (now (starts .exit)) (now (ends .exit)) (now (work .exit)) ⌝ }
 {
     match read_call(start, end, offset, stamp) {
         OffsetRead::Bad => refused(Fault::At(1, 0)),
         OffsetRead::Of(shift) => match refusals::check_sizes(cal, work) {
             Fault::At(n, line) => refused(Fault::At(n, line)),
-            Fault::None => collect_calendar(work, cal, Context { shift: shift }, start, end),
+            Fault::None => collect_calendar(
+                starts,
+                ends,
+                work,
+                cal,
+                Context { shift: shift },
+                start,
+                end,
+            ),
         },
     }
 }

@@ -12,9 +12,9 @@ use Rattle.ascii.proofs.Bools.{not-so, and-left, and-right}
 use Rattle.time.specs.Limits.{rangeGood}
 use Rattle.periods.specs.declared.BusyType.{BusyType}
 use Rattle.periods.specs.BusyTypes.{isBusy}
-use Rattle.table.specs.declared.Table.{Table}
+use Rattle.table.specs.Seconds.{secondsIn}
 use Rattle.report.specs.Bytes.{periodCount, Report, reportBytes, GoodPeriods, Writable}
-use Rattle.report.specs.Writing.{byType, reportOf}
+use Rattle.report.specs.Writing.{packed, reportOf}
 use Rattle.report.proofs.Bytes.{equal-bytes}
 use Rattle.calendar.specs.declared.Fault.{Fault}
 use Rattle.refusals.specs.Refusals.{NoneApplies, Row, sizeRows, structureRows, calendarRows, contentsRows, firstRefusal}
@@ -22,14 +22,14 @@ use Rattle.refusals.specs.Offsets.{offsetGood}
 use Rattle.refusals.proofs.Refusals.{none-iff, stage-passed, stage-refused}
 use Rattle.collecting.specs.CalendarTerms.{termsRow, earlyRows, pieceRow, lateRows, collectRows, stampGood, piecesFor, reportFor, CalendarTerms}
 use Rattle.collecting.specs.Collecting.{periodsBy, Collects}
+use Rattle.collecting.specs.CollectStages.{periodsIn}
 use Rattle.collecting.specs.declared.Collected.{Collected}
 use Rattle.collecting.proofs.CalendarTerms.{periods-few, writable}
 use Rattle.engine.specs.declared.Answer.{Answer}
-use Rattle.engine.specs.declared.ReportTables.{ReportTables}
-use Rattle.engine.specs.declared.reporting.Written.{Written}
-use Rattle.engine.specs.Reporting.{ReportCall, reportRows, reportOutcome, outputAfter, Reported, ReportedTables}
+use Rattle.engine.specs.declared.ReportSeconds.{ReportSeconds}
+use Rattle.engine.specs.Reporting.{ReportCall, reportRows, reportOutcome, outputAfter, secondsTold, Reported, ReportedSeconds}
 use Rattle.engine.specs.Answers.{Outcome, report, refusal, outcomeOf, answerBy, lengthIn, unlessRefused}
-use Rattle.engine.specs.ReportWriting.{writeRows, writeOutcome, Wrote}
+use Rattle.engine.specs.ReportWriting.{writeRows, writeOutcome, Wrote, WroteCounted}
 use Rattle.engine.proofs.Answers.{refused, answer-by}
 
 -- no row of a call that nothing refuses applies
@@ -80,17 +80,13 @@ module _ (m : CalendarTerms) where
 
 -- ---- the tables
 
-module _ {m : CalendarTerms} {r : Collected} {left : List ℕ} (k : Collects m r left) where
+module _ {m : CalendarTerms} {r : Collected} {ss es left : List ℕ} (k : Collects m r ss es left) where
   -- the call with an output
   abbrev into : List ℕ → ReportCall
   into out = record { terms = m; output = out }
 
-  -- a refusal and a length with the tables
-  abbrev with-tables : Fault → ℕ → ReportTables
-  with-tables f n = record { fault = f; length = n; busy = r .busy; tentative = r .tentative; unavailable = r .unavailable }
-
   abbrev told : Report
-  told = reportOf (m .start) (m .end) (m .stamp) (r .busy) (r .tentative) (r .unavailable)
+  told = reportOf (m .start) (m .end) (m .stamp) (periodsIn r ss es)
 
   module _ (e : r .fault ≡ Fault.None) where
     none-collected : firstRefusal (collectRows m) ≡ Fault.None
@@ -104,7 +100,7 @@ module _ {m : CalendarTerms} {r : Collected} {left : List ℕ} (k : Collects m r
     busy-good b u = subst GoodPeriods (sym (periods-told b u)) (collect-writable m none-collected .periods-good b)
 
     told-good : (b : BusyType) → GoodPeriods (told .periods b)
-    unfolding reportOf byType isBusy
+    unfolding reportOf packed isBusy
     told-good BusyType.Busy = busy-good BusyType.Busy refl
     told-good BusyType.Tentative = busy-good BusyType.Tentative refl
     told-good BusyType.Unavailable = busy-good BusyType.Unavailable refl
@@ -131,26 +127,24 @@ module _ {m : CalendarTerms} {r : Collected} {left : List ℕ} (k : Collects m r
       unfolding reportOutcome writeOutcome
       outcome-left = ap (λ (f : Fault). unlessRefused f (report (length (reportBytes (reportFor m))))) rows-left
 
-    -- what was written is the report, with its refusal and its length
-    pub tables-written : {out out-left : List ℕ} {w : Written} → Wrote (reportBytes told) out w out-left
-        → ReportedTables (into out) (with-tables (w .fault) (w .length)) left out-left
-    tables-written {out} {out-left} {w} x =
-        let v = subst (λ (y : List ℕ). Wrote y out w out-left) told-bytes x in
+    -- what was written is the report, with its refusal, its length and its seconds
+    pub seconds-written : {out out-left : List ℕ} {w : ReportSeconds} → WroteCounted told out w out-left → ReportedSeconds (into out) w left out-left
+    unfolding reportOf
+    seconds-written {out} {out-left} {w} x =
+        let v = subst (λ (y : List ℕ). Wrote y out (record { fault = w .fault; length = w .length }) out-left) told-bytes (x .wrote) in
         record {
           fault-is = v .fault-is ∙ sym (rows-left out);
           length-is = v .length-is ∙ ap lengthIn (sym (outcome-left out));
           work-left-is = k .work-left-is;
           output-left-is = v .output-left-is ∙ ap (λ (o : Outcome). outputAfter o (reportBytes (reportFor m)) out) (sym (outcome-left out));
-          periods-are = k .periods-are;
-          busy-sound = k .busy-sound;
-          tentative-sound = k .tentative-sound;
-          unavailable-sound = k .unavailable-sound;
+          seconds-are = λ b u. x .seconds-are b u ∙ ap secondsIn (k .periods-are b u);
         }
 
-  -- a refusal of the tables is the call's
-  pub tables-refused : {n i : ℕ} {out : List ℕ} → r .fault ≡ Fault.At n i → ReportedTables (into out) (with-tables (Fault.At n i) 0) left out
-  unfolding reportOutcome reportRows lengthIn outputAfter
-  tables-refused {n} {i} {out} e =
+  -- a refusal of the tables is the call's, and there are no seconds
+  pub seconds-refused : {n i : ℕ} {out : List ℕ} → r .fault ≡ Fault.At n i
+      → ReportedSeconds (into out) (record { fault = Fault.At n i; length = 0; busy = 0; tentative = 0; unavailable = 0 }) left out
+  unfolding reportOutcome reportRows lengthIn outputAfter secondsIn secondsTold periodsBy
+  seconds-refused {n} {i} {out} e =
       let f = sym (k .fault-is) ∙ e in
       let o : reportOutcome (into out) ≡ refusal n = refused _ (stage-refused (collectRows m) _ f) in
       record {
@@ -158,37 +152,31 @@ module _ {m : CalendarTerms} {r : Collected} {left : List ℕ} (k : Collects m r
         length-is = ap lengthIn (sym o);
         work-left-is = k .work-left-is;
         output-left-is = ap (λ (x : Outcome). outputAfter x (reportBytes (reportFor m)) out) (sym o);
-        periods-are = k .periods-are;
-        busy-sound = k .busy-sound;
-        tentative-sound = k .tentative-sound;
-        unavailable-sound = k .unavailable-sound;
+        seconds-are = λ b u. no-seconds b ∙ ap (λ (x : Fault). secondsIn (periodsBy x m b)) (sym f);
       }
+    where
+      no-seconds : (b : BusyType) → secondsTold (record { fault = Fault.At n i; length = 0; busy = 0; tentative = 0; unavailable = 0 }) b ≡ secondsIn (periodsBy (Fault.At n i) m b)
+      no-seconds BusyType.Busy = refl
+      no-seconds BusyType.Tentative = refl
+      no-seconds BusyType.Unavailable = refl
+      no-seconds BusyType.Free = refl
 
 -- the answer alone, by the refusal and the length
-pub tables-answer : {m : ReportCall} {r : ReportTables} {left out-left : List ℕ} → ReportedTables m r left out-left
-    → Reported m (answerBy (r .fault) (r .length)) left out-left
+pub seconds-answer : {m : ReportCall} {r : ReportSeconds} {a : Answer} {left out-left : List ℕ} → a ≡ answerBy (r .fault) (r .length)
+    → ReportedSeconds m r left out-left → Reported m a left out-left
 unfolding reportOutcome
-tables-answer {m} {r} p =
+seconds-answer {m} {r} e p =
     let f = firstRefusal (reportRows m) in
     let n = length (reportBytes (reportFor (m .terms))) in
     record {
       answered =
-          ap (λ (x : Fault). outcomeOf (answerBy x (r .length))) (p .fault-is)
+          ap outcomeOf e
+          ∙ ap (λ (x : Fault). outcomeOf (answerBy x (r .length))) (p .fault-is)
           ∙ ap (λ (x : ℕ). outcomeOf (answerBy f x)) (p .length-is)
           ∙ answer-by f n;
       work-left-is = p .work-left-is;
       output-left-is = p .output-left-is;
     }
-
-pub refused-answer : {m : ReportCall} {n i : ℕ} {x y z : Table} {left out-left : List ℕ}
-    → ReportedTables m (record { fault = Fault.At n i; length = 0; busy = x; tentative = y; unavailable = z }) left out-left
-    → Reported m (Answer.Refused n) left out-left
-unfolding answerBy
-refused-answer p = tables-answer p
-
-pub written-answer : {m : ReportCall} {r : ReportTables} {a : Answer} {left out-left : List ℕ} → a ≡ answerBy (r .fault) (r .length)
-    → ReportedTables m r left out-left → Reported m a left out-left
-written-answer {m} {left = left} {out-left = out-left} e p = subst (λ (x : Answer). Reported m x left out-left) (sym e) (tables-answer p)
 
 -- the offset handed on is the offset handed in
 pub reported-at : {cal work out left out-left : List ℕ} {start end stamp : ℕ} {z o : ℤ} {a : Answer} → z ≡ o
@@ -199,10 +187,10 @@ reported-at {cal} {work} {out} {left} {out-left} {start} {end} {stamp} {a = a} e
     (λ (x : ℤ). Reported (record { terms = record { calendar = cal; start = start; end = end; offset = x; stamp = stamp; work = work }; output = out }) a left out-left)
     e p
 
-pub tables-at : {cal work out left out-left : List ℕ} {start end stamp : ℕ} {z o : ℤ} {r : ReportTables} → z ≡ o
-    → ReportedTables (record { terms = record { calendar = cal; start = start; end = end; offset = z; stamp = stamp; work = work }; output = out }) r left out-left
-    → ReportedTables (record { terms = record { calendar = cal; start = start; end = end; offset = o; stamp = stamp; work = work }; output = out }) r left out-left
-tables-at {cal} {work} {out} {left} {out-left} {start} {end} {stamp} {r = r} e p =
+pub seconds-at : {cal work out left out-left : List ℕ} {start end stamp : ℕ} {z o : ℤ} {r : ReportSeconds} → z ≡ o
+    → ReportedSeconds (record { terms = record { calendar = cal; start = start; end = end; offset = z; stamp = stamp; work = work }; output = out }) r left out-left
+    → ReportedSeconds (record { terms = record { calendar = cal; start = start; end = end; offset = o; stamp = stamp; work = work }; output = out }) r left out-left
+seconds-at {cal} {work} {out} {left} {out-left} {start} {end} {stamp} {r = r} e p =
     subst
-    (λ (x : ℤ). ReportedTables (record { terms = record { calendar = cal; start = start; end = end; offset = x; stamp = stamp; work = work }; output = out }) r left out-left)
+    (λ (x : ℤ). ReportedSeconds (record { terms = record { calendar = cal; start = start; end = end; offset = x; stamp = stamp; work = work }; output = out }) r left out-left)
     e p

@@ -5,18 +5,17 @@ use mathlib.Core.Bool.{true}
 use mathlib.Core.List.{List, [], _∷_, _++_}
 use lib.Dec.{ltb}
 use lib.ListN.{length, drop}
-use Rattle.table.specs.Tables.{Sound}
+use Rattle.table.specs.Seconds.{secondsIn}
 use Rattle.periods.specs.declared.BusyType.{BusyType}
 use Rattle.periods.specs.BusyTypes.{isBusy}
 use Rattle.report.specs.Bytes.{reportBytes}
-use Rattle.report.specs.Writing.{byType}
 use Rattle.refusals.specs.Refusals.{Row, row, firstRefusal}
 use Rattle.refusals.specs.Stages.{workBy}
 use Rattle.collecting.specs.CalendarTerms.{CalendarTerms, reportFor, earlyRows, collectRows}
 use Rattle.collecting.specs.Collecting.{periodsBy}
 use Rattle.engine.specs.Answers.{Outcome, verdict, report, refusal, outcomeOf, lengthIn, unlessRefused}
 use Rattle.engine.specs.declared.Answer.{Answer}
-use Rattle.engine.specs.declared.ReportTables.{ReportTables}
+use Rattle.engine.specs.declared.ReportSeconds.{ReportSeconds}
 
 -- what is handed in: the calendar terms, and an output
 pub record ReportCall : Type 0 where
@@ -47,14 +46,17 @@ pub record Reported (m : ReportCall) (a : Answer) (work-left out-left : List ℕ
   pub work-left-is : work-left ≡ workBy (firstRefusal (earlyRows (m .terms))) (m .terms .calendar) (m .terms .work)
   pub output-left-is : out-left ≡ outputAfter (reportOutcome m) (reportBytes (reportFor (m .terms))) (m .output)
 
--- the same call, which hands out besides what its report was written from: the refusal or none with its line, the length, and the periods of each type
-pub record ReportedTables (m : ReportCall) (r : ReportTables) (work-left out-left : List ℕ) : Type 0 where
+-- the seconds that are told of a busy type
+unfoldable pub secondsTold : ReportSeconds → BusyType → ℕ
+secondsTold r BusyType.Busy = r .busy
+secondsTold r BusyType.Tentative = r .tentative
+secondsTold r BusyType.Unavailable = r .unavailable
+secondsTold r BusyType.Free = 0
+
+-- the same call, which tells besides the refusal or none with its line, the length, and the seconds of each type that its report was written from
+pub record ReportedSeconds (m : ReportCall) (r : ReportSeconds) (work-left out-left : List ℕ) : Type 0 where
   pub fault-is : r .fault ≡ firstRefusal (reportRows m)
   pub length-is : r .length ≡ lengthIn (reportOutcome m)
   pub work-left-is : work-left ≡ workBy (firstRefusal (earlyRows (m .terms))) (m .terms .calendar) (m .terms .work)
   pub output-left-is : out-left ≡ outputAfter (reportOutcome m) (reportBytes (reportFor (m .terms))) (m .output)
-  pub periods-are : (b : BusyType) → isBusy b ≡ true
-      → byType (r .busy) (r .tentative) (r .unavailable) b ≡ periodsBy (firstRefusal (collectRows (m .terms))) (m .terms) b
-  pub busy-sound : Sound (r .busy)
-  pub tentative-sound : Sound (r .tentative)
-  pub unavailable-sound : Sound (r .unavailable)
+  pub seconds-are : (b : BusyType) → isBusy b ≡ true → secondsTold r b ≡ secondsIn (periodsBy (firstRefusal (collectRows (m .terms))) (m .terms) b)

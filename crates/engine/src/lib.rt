@@ -5,12 +5,11 @@ mod reporting;
 
 use calendar::Fault;
 use refusals::OffsetRead;
-use table::Table;
 use values::times::Context;
 ghost use mathlib.Core.Path.{_≡_};
 ghost use Rattle.engine.specs.Answers.{answerBy};
 ghost use Rattle.engine.specs.Matching.{Matched};
-ghost use Rattle.engine.specs.Reporting.{Reported, ReportedTables};
+ghost use Rattle.engine.specs.Reporting.{Reported, ReportedSeconds};
 
 // What a public call answers.
 pub enum Answer {
@@ -22,13 +21,13 @@ pub enum Answer {
     Refused(u8),
 }
 
-// A report's refusal or none, its length, and the period tables that it was written from.
-pub struct ReportTables {
+// A report's refusal or none, its length, and how many seconds it has of each busy type.
+pub struct ReportSeconds {
     pub fault: Fault,
     pub length: usize,
-    pub busy: Table,
-    pub tentative: Table,
-    pub unavailable: Table,
+    pub busy: u64,
+    pub tentative: u64,
+    pub unavailable: u64,
 }
 
 // The answer by the refusal or, where there is none, the report's length.
@@ -66,28 +65,13 @@ pub fn report(
 ) -> Answer
     ensures { λ r. ⌜ Reported (record { terms = record { calendar = now (cal .entry); start = start; end = end; offset = offset; stamp = stamp; work = now (work .entry) }; output = now (out .entry) }) r (now (work .exit)) (now (out .exit)) ⌝ }
 {
-    let c = collecting::collect(cal, start, end, offset, stamp, work);
-    let f = c.fault;
-    match f {
-        Fault::At(n, line) => Answer::Refused(n),
-        Fault::None => {
-            let w = reporting::write_report(
-                out,
-                start,
-                end,
-                stamp,
-                c.busy,
-                c.tentative,
-                c.unavailable,
-            );
-            let short = w.fault;
-            answer_by(short, w.length)
-        }
-    }
+    let r = report_seconds(cal, start, end, offset, stamp, work, out);
+    let fault = r.fault;
+    answer_by(fault, r.length)
 }
 
-// The same report, with the tables that it was written from: for callers that count what it says.
-pub fn report_tables(
+// The same report, with the busy seconds of each type: for callers that count what it says.
+pub fn report_seconds(
     cal: &[u8],
     start: u64,
     end: u64,
@@ -95,32 +79,31 @@ pub fn report_tables(
     stamp: u64,
     work: &mut [u8],
     out: &mut [u8],
-) -> ReportTables
-    ensures { λ r. ⌜ ReportedTables (record { terms = record { calendar = now (cal .entry); start = start; end = end; offset = offset; stamp = stamp; work = now (work .entry) }; output = now (out .entry) }) r (now (work .exit)) (now (out .exit)) ⌝ }
+) -> ReportSeconds
+    ensures { λ r. ⌜ ReportedSeconds (record { terms = record { calendar = now (cal .entry); start = start; end = end; offset = offset; stamp = stamp; work = now (work .entry) }; output = now (out .entry) }) r (now (work .exit)) (now (out .exit)) ⌝ }
 {
-    let kept = collecting::collect(cal, start, end, offset, stamp, work);
-    let f = kept.fault;
-    let busy = kept.busy;
-    let tentative = kept.tentative;
-    let unavailable = kept.unavailable;
+    let mut starts = [0u32; 512];
+    let mut ends = [0u32; 512];
+    let c = collecting::collect(&mut starts, &mut ends, cal, start, end, offset, stamp, work);
+    let f = c.fault;
     match f {
-        Fault::At(n, line) => ReportTables {
+        Fault::At(n, line) => ReportSeconds {
             fault: Fault::At(n, line),
             length: 0,
-            busy,
-            tentative,
-            unavailable,
+            busy: 0,
+            tentative: 0,
+            unavailable: 0,
         },
-        Fault::None => {
-            let w = reporting::write_report(out, start, end, stamp, busy, tentative, unavailable);
-            let fault = w.fault;
-            ReportTables {
-                fault,
-                length: w.length,
-                busy,
-                tentative,
-                unavailable,
-            }
-        }
+        Fault::None => reporting::write_counted(
+            out,
+            start,
+            end,
+            stamp,
+            &starts,
+            &ends,
+            c.busy,
+            c.tentative,
+            c.unavailable,
+        ),
     }
 }

@@ -1,11 +1,11 @@
 -- Bytes written one run behind another: two runs are one, and what is left to write;
 -- the lines of three tables, and how long they are.
-use Prim.Native.Nat.{ℕ, zero, suc, _+_, _≤_, _<_}
+use Prim.Native.Nat.{ℕ, zero, suc, _+_, _-_, _≤_, _<_}
 use mathlib.Core.Path.{_≡_, refl, ap, _∙_, sym, subst}
 use mathlib.Core.List.{List, [], _∷_, _++_, append-assoc}
 use native.Mathlib.Omega.{arith}
-use lib.ListN.{length, take, length-append, drop, getD, drop-of-length-le}
-use lib.Seq.{sets, length-sets}
+use lib.ListN.{length, take, length-append, length-drop, drop, getD, drop-of-length-le}
+use lib.Seq.{sets, length-sets, take-all}
 use Rattle.text.specs.Lines.{joined}
 use Rattle.time.specs.Writing.{utcText}
 use Rattle.time.specs.Limits.{lastSecond}
@@ -14,24 +14,20 @@ use Rattle.time.proofs.WritingLaws.{utcText-length}
 use Rattle.periods.specs.declared.BusyType.{BusyType}
 use Rattle.periods.specs.declared.Period.{Period}
 use Rattle.periods.specs.Periods.{period}
-use Rattle.table.specs.Tables.{rows, listed, Sound}
-use Rattle.table.specs.declared.Table.{Table}
+use Rattle.table.specs.Tables.{rows, tableAt, listed}
+use Rattle.table.proofs.Tables.{listed-length, table-sound}
 use Rattle.report.specs.Bytes.{busyLines, reportBytes, reportLength, periodText, periodLines, GoodPeriods, then, Writable}
-use Rattle.report.specs.Writing.{byType, reportOf, Put}
+use Rattle.report.specs.Writing.{packed, reportOf, AllGood, Put}
 use Rattle.report.specs.Heads.{timed, stampHead, startHead, endHead, opening, closing}
 use Rattle.report.proofs.Bytes.{typeBytes, busy-parts, parts-length, report-length, report-parts, lines-length, opening-length, closing-length}
 
 -- ---- the lines of three tables
 
-pub types-parts : (x y z : Table)
-    → joined (busyLines (byType x y z)) ≡ typeBytes BusyType.Busy (listed x) ++ (typeBytes BusyType.Tentative (listed y) ++ typeBytes BusyType.Unavailable (listed z))
-unfolding byType
-types-parts x y z = busy-parts (byType x y z)
-
-pub types-length : (x y z : Table)
-    → length (joined (busyLines (byType x y z)))
-    ≡ length (typeBytes BusyType.Busy (listed x)) + (length (typeBytes BusyType.Tentative (listed y)) + length (typeBytes BusyType.Unavailable (listed z)))
-types-length x y z = ap length (types-parts x y z) ∙ simp length-append
+types-length : (f : BusyType → List Period)
+    → length (joined (busyLines f))
+    ≡ length (typeBytes BusyType.Busy (f BusyType.Busy))
+    + (length (typeBytes BusyType.Tentative (f BusyType.Tentative)) + length (typeBytes BusyType.Unavailable (f BusyType.Unavailable)))
+types-length f = ap length (busy-parts f) ∙ simp length-append
 
 -- as many periods as rows are counted
 pub rows-length : (n : ℕ) (ss es : List ℕ) → n ≤ length ss → n ≤ length es → length (take n (rows ss es)) ≡ n
@@ -41,18 +37,14 @@ rows-length (suc n) [] es h k = absurd (omega arith)
 rows-length (suc n) (s ∷ ss) [] h k = absurd (omega arith)
 rows-length (suc n) (s ∷ ss) (e ∷ es) h k = ap suc (rows-length n ss es (omega arith) (omega arith))
 
-listed-length : (t : Table) → Sound t → length (listed t) ≡ t .count
-unfolding listed
-listed-length t g = rows-length (t .count) (t .starts) (t .ends) (omega (arith, g .few, g .starts-long)) (omega (arith, g .few, g .ends-long))
-
-pub tables-length : (a b s : ℕ) (x y z : Table) → Sound x → Sound y → Sound z
-    → length (reportBytes (reportOf a b s x y z)) ≡ reportLength (x .count) (y .count) (z .count)
-unfolding reportOf byType
-tables-length a b s x y z f g h = report-length (reportOf a b s x y z) ∙ rw (listed-length x f, listed-length y g, listed-length z h)
-
-pub tables-parts : (a b s : ℕ) (x y z : Table) → length (reportBytes (reportOf a b s x y z)) ≡ 160 + (length (joined (busyLines (byType x y z))) + 30)
-unfolding reportOf
-tables-parts a b s x y z = parts-length (reportOf a b s x y z)
+-- a report of so many rows of each type is as long as they make it
+pub tables-length : (a b s x y z : ℕ) (ss es : List ℕ) → x + y + z ≤ length ss → length es ≡ length ss
+    → length (reportBytes (reportOf a b s (packed x y z ss es))) ≡ reportLength x y z
+unfolding reportOf packed
+tables-length a b s x y z ss es h e = report-length (reportOf a b s (packed x y z ss es)) ∙ rw (long 0 x (omega arith), long x y (omega arith), long (x + y) z (omega arith))
+  where
+    long : (k n : ℕ) → k + n ≤ length ss → length (listed (tableAt k n ss es)) ≡ n
+    long k n l = listed-length (tableAt k n ss es) (table-sound k n ss es l e)
 
 -- ---- runs of bytes
 
@@ -179,23 +171,49 @@ lines-end {h} {ps} {o₀} {a₀} {o} {a} {i} l k =
       place = omega (arith, l .reaches, ap length n);
     }
 
+-- the part from a place to the end
+suffix : (s : List ℕ) (k : ℕ) → take (length s - k) (drop k s) ≡ drop k s
+suffix s k = take-all (length s - k) (drop k s) (simp length-drop (omega arith))
+
+-- the rows of a part of two columns are those from its first row on
+module _ (first count : ℕ) (ss es : List ℕ) where
+  rest-rows : take count (rows (take (length ss - first) (drop first ss)) (take (length es - first) (drop first es))) ≡ listed (tableAt first count ss es)
+  unfolding listed
+  rest-rows = rw (suffix ss first, suffix es first)
+
+  pub rest-asks : (h : List ℕ) (a : ℕ) {n : ℕ} → first + count ≤ length ss → length es ≡ length ss → GoodPeriods (listed (tableAt first count ss es))
+      → a + length (joined (periodLines h (listed (tableAt first count ss es)))) ≤ n
+      → let ps = take count (rows (take (length ss - first) (drop first ss)) (take (length es - first) (drop first es))) in
+      ((count ≤ length (take (length ss - first) (drop first ss))) × (count ≤ length (take (length es - first) (drop first es))))
+      × (GoodPeriods ps × (a + length (joined (periodLines h ps)) ≤ n))
+  unfolding listed
+  rest-asks heads a h e g r =
+      rw (suffix ss first, suffix es first)
+      ((omega (arith, length-drop first ss), omega (arith, length-drop first es)), (g, r))
+
+  pub rest-put : (h : List ℕ) {o o′ : List ℕ} {a r : ℕ}
+      → Put o a (joined (periodLines h (take count (rows (take (length ss - first) (drop first ss)) (take (length es - first) (drop first es)))))) o′ r
+      → Put o a (joined (periodLines h (listed (tableAt first count ss es)))) o′ r
+  rest-put h p = rw (← rest-rows) p
+
 -- the types one behind the other
-pub put-types : (x y z : Table) {o p q r : List ℕ} {a b c d : ℕ}
-    → Put o a (typeBytes BusyType.Busy (listed x)) p b → Put p b (typeBytes BusyType.Tentative (listed y)) q c → Put q c (typeBytes BusyType.Unavailable (listed z)) r d
-    → Put o a (joined (busyLines (byType x y z))) r d
-put-types x y z u v w = put-as (put-then u (put-then v w)) (sym (types-parts x y z))
+module _ (f : BusyType → List Period) where
+  pub put-types : {o p q r : List ℕ} {a b c d : ℕ}
+      → Put o a (typeBytes BusyType.Busy (f BusyType.Busy)) p b → Put p b (typeBytes BusyType.Tentative (f BusyType.Tentative)) q c
+      → Put q c (typeBytes BusyType.Unavailable (f BusyType.Unavailable)) r d → Put o a (joined (busyLines f)) r d
+  put-types u v w = put-as (put-then u (put-then v w)) (sym (busy-parts f))
 
--- the room that each type finds behind the one before
-module _ (x y z : Table) (a n : ℕ) (room : a + length (joined (busyLines (byType x y z))) ≤ n) where
-  pub busy-room : a + length (typeBytes BusyType.Busy (listed x)) ≤ n
-  busy-room = omega (arith, types-length x y z)
+  -- the room that each type finds behind the one before
+  module _ (a n : ℕ) (room : a + length (joined (busyLines f)) ≤ n) where
+    pub busy-room : a + length (typeBytes BusyType.Busy (f BusyType.Busy)) ≤ n
+    busy-room = omega (arith, types-length f)
 
-  pub tentative-room : {o p : List ℕ} {b : ℕ} → Put o a (typeBytes BusyType.Busy (listed x)) p b → b + length (typeBytes BusyType.Tentative (listed y)) ≤ n
-  tentative-room u = omega (arith, types-length x y z, u .place)
+    pub tentative-room : {o p : List ℕ} {b : ℕ} → Put o a (typeBytes BusyType.Busy (f BusyType.Busy)) p b → b + length (typeBytes BusyType.Tentative (f BusyType.Tentative)) ≤ n
+    tentative-room u = omega (arith, types-length f, u .place)
 
-  pub unavailable-room : {o p q : List ℕ} {b c : ℕ} → Put o a (typeBytes BusyType.Busy (listed x)) p b → Put p b (typeBytes BusyType.Tentative (listed y)) q c
-      → c + length (typeBytes BusyType.Unavailable (listed z)) ≤ n
-  unavailable-room u v = omega (arith, types-length x y z, u .place, v .place)
+    pub unavailable-room : {o p q : List ℕ} {b c : ℕ} → Put o a (typeBytes BusyType.Busy (f BusyType.Busy)) p b
+        → Put p b (typeBytes BusyType.Tentative (f BusyType.Tentative)) q c → c + length (typeBytes BusyType.Unavailable (f BusyType.Unavailable)) ≤ n
+    unavailable-room u v = omega (arith, types-length f, u .place, v .place)
 
 -- the stamp and the range, each behind its head, and CR LF
 pub put-opening : (f t s : ℕ) {o p q r w : List ℕ} {b c d : ℕ}
@@ -205,27 +223,31 @@ unfolding opening
 put-opening f t s u v w e = put-then u (put-then v (put-then w (put-stored {x = 13 ∷ 10 ∷ []} e refl)))
 
 -- the opening, the periods and the closing are the report
-pub put-report : (f t s : ℕ) (x y z : Table) {o p q w : List ℕ} {b c : ℕ}
-    → Put o 0 (opening f t s) p b → Put p b (joined (busyLines (byType x y z))) q c → w ≡ sets q c closing
-    → Put o 0 (reportBytes (reportOf f t s x y z)) w (c + 30)
-unfolding reportOf
-put-report f t s x y z {c = c} u v e =
-    put-as
-    (put-then u (put-then v (put-stored {x = closing} e (ap (λ (n : ℕ). c + n) (sym closing-length)))))
-    (sym (report-parts (reportOf f t s x y z)))
-
--- what the parts of a report ask for, where it can be written and there is room for it
-module _ (f t s : ℕ) (x y z : Table) (w : Writable (reportOf f t s x y z)) {n : ℕ} (room : length (reportBytes (reportOf f t s x y z)) ≤ n) where
-  pub opening-asks : (160 ≤ n) × (f ≤ lastSecond) × (t ≤ lastSecond) × (s ≤ lastSecond)
+module _ (f : BusyType → List Period) (a b s : ℕ) where
+  pub put-report : {o p q w : List ℕ} {x y : ℕ} → Put o 0 (opening a b s) p x → Put p x (joined (busyLines f)) q y → w ≡ sets q y closing
+      → Put o 0 (reportBytes (reportOf a b s f)) w (y + 30)
   unfolding reportOf
-  opening-asks = (omega (arith, tables-parts f t s x y z), omega (arith, w .start-first, w .end-limit), w .end-limit, w .stamp-limit)
+  put-report {y = y} u v e =
+      put-as
+      (put-then u (put-then v (put-stored {x = closing} e (ap (λ (n : ℕ). y + n) (sym closing-length)))))
+      (sym (report-parts (reportOf a b s f)))
 
-  pub types-good : GoodPeriods (listed x) × GoodPeriods (listed y) × GoodPeriods (listed z)
-  unfolding reportOf byType
-  types-good = (w .periods-good BusyType.Busy, w .periods-good BusyType.Tentative, w .periods-good BusyType.Unavailable)
+  parts : length (reportBytes (reportOf a b s f)) ≡ 160 + (length (joined (busyLines f)) + 30)
+  unfolding reportOf
+  parts = parts-length (reportOf a b s f)
 
-  pub types-room : {o p : List ℕ} {b : ℕ} → Put o 0 (opening f t s) p b → b + length (joined (busyLines (byType x y z))) ≤ n
-  types-room u = omega (arith, tables-parts f t s x y z, u .place, opening-length f t s)
+  -- what the parts of a report ask for, where it can be written and there is room for it
+  module _ (w : Writable (reportOf a b s f)) {n : ℕ} (room : length (reportBytes (reportOf a b s f)) ≤ n) where
+    pub opening-asks : (160 ≤ n) × (a ≤ lastSecond) × (b ≤ lastSecond) × (s ≤ lastSecond)
+    unfolding reportOf
+    opening-asks = (omega (arith, parts), omega (arith, w .start-first, w .end-limit), w .end-limit, w .stamp-limit)
 
-  pub closing-room : {o p q : List ℕ} {b c : ℕ} → Put o 0 (opening f t s) p b → Put p b (joined (busyLines (byType x y z))) q c → c + 30 ≤ n
-  closing-room u v = omega (arith, tables-parts f t s x y z, u .place, v .place, opening-length f t s)
+    pub types-good : AllGood f
+    unfolding reportOf
+    types-good = w .periods-good
+
+    pub types-room : {o p : List ℕ} {x : ℕ} → Put o 0 (opening a b s) p x → x + length (joined (busyLines f)) ≤ n
+    types-room u = omega (arith, parts, u .place, opening-length a b s)
+
+    pub closing-room : {o p q : List ℕ} {x y : ℕ} → Put o 0 (opening a b s) p x → Put p x (joined (busyLines f)) q y → y + 30 ≤ n
+    closing-room u v = omega (arith, parts, u .place, v .place, opening-length a b s)

@@ -1,4 +1,4 @@
--- Writing a report: what three period tables say, and what is left in the output.
+-- Writing a report: what the rows of two columns say, and what is left in the output.
 use Prim.Native.Nat.{ℕ, _+_}
 use mathlib.Core.Path.{_≡_}
 use mathlib.Core.List.{List, []}
@@ -6,19 +6,22 @@ use lib.ListN.{length}
 use lib.Seq.{sets}
 use Rattle.periods.specs.declared.Period.{Period}
 use Rattle.periods.specs.declared.BusyType.{BusyType}
-use Rattle.table.specs.Tables.{listed}
-use Rattle.table.specs.declared.Table.{Table}
-use Rattle.report.specs.Bytes.{Report}
+use Rattle.table.specs.Tables.{tableAt, listed}
+use Rattle.report.specs.Bytes.{Report, GoodPeriods}
 
--- the periods of a busy type, from its table
-unfoldable pub byType : Table → Table → Table → BusyType → List Period
-byType x y z BusyType.Busy = listed x
-byType x y z BusyType.Tentative = listed y
-byType x y z BusyType.Unavailable = listed z
-byType x y z BusyType.Free = []
+-- the periods of a busy type, where the tables of the three types stand one behind the other: x, y and z rows
+unfoldable pub packed : ℕ → ℕ → ℕ → List ℕ → List ℕ → BusyType → List Period
+packed x y z ss es BusyType.Busy = listed (tableAt 0 x ss es)
+packed x y z ss es BusyType.Tentative = listed (tableAt x y ss es)
+packed x y z ss es BusyType.Unavailable = listed (tableAt (x + y) z ss es)
+packed x y z ss es BusyType.Free = []
 
-unfoldable pub reportOf : ℕ → ℕ → ℕ → Table → Table → Table → Report
-reportOf a b stamp x y z = record { start = a; end = b; stamp = stamp; periods = byType x y z }
+unfoldable pub reportOf : ℕ → ℕ → ℕ → (BusyType → List Period) → Report
+reportOf a b stamp f = record { start = a; end = b; stamp = stamp; periods = f }
+
+-- the periods of every type have a second at least, and end within the limits
+abbrev pub AllGood : (BusyType → List Period) → Type 0
+AllGood f = (b : BusyType) → GoodPeriods (f b)
 
 -- bytes x were written at place a of o, which left o′, and r is the place behind them
 pub record Put (o : List ℕ) (a : ℕ) (x o′ : List ℕ) (r : ℕ) : Type 0 where

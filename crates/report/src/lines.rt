@@ -1,7 +1,6 @@
 // Writing a report, straight into the output: its lines one after the other.
 // The length is counted first, and the caller has the room.
 use crate::heads;
-use table::Table;
 use time::writing;
 ghost use mathlib.Core.Path.{_≡_};
 ghost use mathlib.Core.List.{[], _∷_};
@@ -10,10 +9,10 @@ ghost use lib.ListN.{length, take};
 ghost use Rattle.text.specs.Lines.{joined};
 ghost use Rattle.time.specs.Limits.{lastSecond};
 ghost use Rattle.periods.specs.Periods.{period};
-ghost use Rattle.table.specs.Tables.{rows, listed};
+ghost use Rattle.table.specs.Tables.{rows, tableAt, listed};
 ghost use Rattle.report.specs.Bytes.{periodLines, busyLines, reportBytes, reportLength, GoodPeriods, Writable};
 ghost use Rattle.report.specs.Heads.{timed, opening};
-ghost use Rattle.report.specs.Writing.{byType, reportOf, Put};
+ghost use Rattle.report.specs.Writing.{packed, reportOf, AllGood, Put};
 
 // How long a report is, by the number of periods of each type.
 pub fn report_length(busy: usize, tentative: usize, unavailable: usize) -> usize
@@ -46,12 +45,12 @@ fn put_period(out: &mut [u8], at: usize, head: &[u8], from: u64, to: u64) -> usi
 }
 
 // A line for each of the first rows.
-fn put_periods<'a>(
+fn put_periods(
     out: &mut [u8],
     at: usize,
     head: &[u8],
-    starts: &'a [u32],
-    ends: &'a [u32],
+    starts: &[u32],
+    ends: &[u32],
     count: usize,
 ) -> usize
     requires { ⌜ (count ≤ length (now starts)) × (count ≤ length (now ends)) ⌝ }
@@ -68,26 +67,58 @@ fn put_periods<'a>(
     place
 }
 
-// A line for each period of a table.
-fn put_table(out: &mut [u8], at: usize, head: &[u8], t: Table) -> usize
-    requires { ⌜ t .count ≤ 512 ⌝ }
-    requires { ⌜ GoodPeriods (listed t) ⌝ }
-    requires { ⌜ at + length (joined (periodLines (now head) (listed t))) ≤ length (now out) ⌝ }
-    ensures { λ r. ⌜ Put (now (out .entry)) at (joined (periodLines (now (head .entry)) (listed t))) (now (out .exit)) r ⌝ }
+// A line for each of so many rows, from row `first` on.
+fn put_table(
+    out: &mut [u8],
+    at: usize,
+    head: &[u8],
+    starts: &[u32],
+    ends: &[u32],
+    first: usize,
+    count: usize,
+) -> usize
+    requires { ⌜ (first + count ≤ length (now starts)) × (length (now ends) ≡ length (now starts)) ⌝ }
+    requires { ⌜ GoodPeriods (listed (tableAt first count (now starts) (now ends))) ⌝ }
+    requires { ⌜ at + length (joined (periodLines (now head) (listed (tableAt first count (now starts) (now ends))))) ≤ length (now out) ⌝ }
+    ensures { λ r. ⌜ Put (now (out .entry)) at (joined (periodLines (now (head .entry)) (listed (tableAt first count (now (starts .entry)) (now (ends .entry)))))) (now (out .exit)) r ⌝ }
 {
-    put_periods(out, at, head, &t.starts, &t.ends, t.count)
+    put_periods(out, at, head, &starts[first..], &ends[first..], count)
 }
 
-// The lines of the periods, the types in their order.
-fn put_types(out: &mut [u8], at: usize, busy: Table, tentative: Table, unavailable: Table) -> usize
-    requires { ⌜ (busy .count ≤ 512) × (tentative .count ≤ 512) × (unavailable .count ≤ 512) ⌝ }
-    requires { ⌜ GoodPeriods (listed busy) × GoodPeriods (listed tentative) × GoodPeriods (listed unavailable) ⌝ }
-    requires { ⌜ at + length (joined (busyLines (byType busy tentative unavailable))) ≤ length (now out) ⌝ }
-    ensures { λ r. ⌜ Put (now (out .entry)) at (joined (busyLines (byType busy tentative unavailable))) (now (out .exit)) r ⌝ }
+// The lines of the periods, the types in their order: so many rows of each, one type behind the other.
+fn put_types(
+    out: &mut [u8],
+    at: usize,
+    starts: &[u32],
+    ends: &[u32],
+    busy: usize,
+    tentative: usize,
+    unavailable: usize,
+) -> usize
+    requires { ⌜ (busy + tentative + unavailable ≤ length (now starts)) × (length (now ends) ≡ length (now starts)) ⌝ }
+    requires { ⌜ AllGood (packed busy tentative unavailable (now starts) (now ends)) ⌝ }
+    requires { ⌜ at + length (joined (busyLines (packed busy tentative unavailable (now starts) (now ends)))) ≤ length (now out) ⌝ }
+    ensures { λ r. ⌜ Put (now (out .entry)) at (joined (busyLines (packed busy tentative unavailable (now (starts .entry)) (now (ends .entry))))) (now (out .exit)) r ⌝ }
 {
-    let a = put_table(out, at, &heads::BUSY_HEAD, busy);
-    let b = put_table(out, a, &heads::TENTATIVE_HEAD, tentative);
-    put_table(out, b, &heads::UNAVAILABLE_HEAD, unavailable)
+    let a = put_table(out, at, &heads::BUSY_HEAD, starts, ends, 0, busy);
+    let b = put_table(
+        out,
+        a,
+        &heads::TENTATIVE_HEAD,
+        starts,
+        ends,
+        busy,
+        tentative,
+    );
+    put_table(
+        out,
+        b,
+        &heads::UNAVAILABLE_HEAD,
+        starts,
+        ends,
+        busy + tentative,
+        unavailable,
+    )
 }
 
 // The lines before the periods.
@@ -102,23 +133,25 @@ fn put_opening(out: &mut [u8], start: u64, end: u64, stamp: u64) -> usize
     c + 2
 }
 
-// The report of three tables, from the first byte of the output on.
+// The report of so many rows of each type, from the first byte of the output on.
 pub fn put_report(
     out: &mut [u8],
     start: u64,
     end: u64,
     stamp: u64,
-    busy: Table,
-    tentative: Table,
-    unavailable: Table,
+    starts: &[u32],
+    ends: &[u32],
+    busy: usize,
+    tentative: usize,
+    unavailable: usize,
 ) -> usize
-    requires { ⌜ Writable (reportOf start end stamp busy tentative unavailable) ⌝ }
-    requires { ⌜ (busy .count ≤ 512) × (tentative .count ≤ 512) × (unavailable .count ≤ 512) ⌝ }
-    requires { ⌜ length (reportBytes (reportOf start end stamp busy tentative unavailable)) ≤ length (now out) ⌝ }
-    ensures { λ r. ⌜ Put (now (out .entry)) 0 (reportBytes (reportOf start end stamp busy tentative unavailable)) (now (out .exit)) r ⌝ }
+    requires { ⌜ Writable (reportOf start end stamp (packed busy tentative unavailable (now starts) (now ends))) ⌝ }
+    requires { ⌜ (busy + tentative + unavailable ≤ length (now starts)) × (length (now ends) ≡ length (now starts)) ⌝ }
+    requires { ⌜ length (reportBytes (reportOf start end stamp (packed busy tentative unavailable (now starts) (now ends)))) ≤ length (now out) ⌝ }
+    ensures { λ r. ⌜ Put (now (out .entry)) 0 (reportBytes (reportOf start end stamp (packed busy tentative unavailable (now (starts .entry)) (now (ends .entry))))) (now (out .exit)) r ⌝ }
 {
     let a = put_opening(out, start, end, stamp);
-    let b = put_types(out, a, busy, tentative, unavailable);
+    let b = put_types(out, a, starts, ends, busy, tentative, unavailable);
     writing::put_bytes(out, b, &heads::CLOSING);
     b + 30
 }

@@ -14,9 +14,9 @@ use borrow.Author.Tests.{lt-ltb, le-ltb, le-leb, lt-leb}
 use Rattle.periods.specs.declared.Period.{Period}
 use Rattle.periods.specs.Periods.{period}
 use Rattle.table.specs.declared.Widened.{Widened}
-use Rattle.table.specs.declared.Table.{Table}
 use Rattle.table.specs.Inserting.{absorbed, inserted}
-use Rattle.table.specs.Tables.{rows, listed, Sound, Added}
+use Rattle.table.specs.declared.Table.{Table}
+use Rattle.table.specs.Tables.{rows, tableOf, listed, Added}
 use Rattle.table.specs.Columns.{endsBefore, TookIn, Spliced, Moved}
 use Rattle.table.proofs.Tables.{take-next, take-end, rows-take, rows-drop, rows-append, rows-next}
 
@@ -263,14 +263,14 @@ spliced {c} {d} {i} {j} {n} v m h k l =
         ∙ take-take i (i + 1) c (omega arith)
 
 -- the rows that end before, the widened span, and the rows behind it are the list with the span added
-pub added : (t : Table) → Sound t → t .count < 512 → {a b i : ℕ} {w : Widened} {us vs : List ℕ}
-    → i ≡ endsBefore a (take (t .count) (t .ends)) → TookIn (t .starts) (t .ends) (t .count) i a b w
-    → Spliced (t .starts) us i (w .next) (t .count) (w .start) → Spliced (t .ends) vs i (w .next) (t .count) (w .end)
-    → Added t a b (record { count = i + 1 + (t .count - w .next); starts = us; ends = vs })
+pub added : (t : Table) {ss es : List ℕ} → t .count < length ss → length es ≡ length ss → {a b i : ℕ} {w : Widened} {us vs : List ℕ}
+    → i ≡ endsBefore a (take (t .count) es) → TookIn ss es (t .count) i a b w
+    → Spliced ss us i (w .next) (t .count) (w .start) → Spliced es vs i (w .next) (t .count) (w .end)
+    → Added (tableOf t ss es) a b (tableOf (record { count = i + 1 + (t .count - w .next) }) us vs)
 unfolding listed
-added t good room e took p q =
+added t room even e took p q =
     record {
-      list = added-rows (omega (arith, good .starts-long)) (omega (arith, good .ends-long)) e took p q;
+      list = added-rows (omega arith) (omega arith) e took p q;
       count = omega (arith, took .from, took .upto);
-      sound = record { few = omega (arith, took .from, took .upto); starts-long = p .long ∙ good .starts-long; ends-long = q .long ∙ good .ends-long };
+      sound = record { few = omega (arith, took .from, took .upto, p .long); even = omega (arith, p .long, q .long) };
     }

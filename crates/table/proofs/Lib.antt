@@ -2,4 +2,5 @@ pub mod Runs
 pub mod Inserting
 pub mod Tables
 pub mod Columns
+pub mod SecondsLaws
 pub mod Examples

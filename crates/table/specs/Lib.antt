@@ -2,3 +2,4 @@ pub mod Runs
 pub mod Inserting
 pub mod Tables
 pub mod Columns
+pub mod Seconds

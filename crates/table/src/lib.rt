@@ -1,19 +1,17 @@
-// The period table of one busy type: at most 512 periods, rising, never touching.
+// The period table of one busy type: its periods rise and never touch.
 // Adding a piece takes the table and hands it back.
+pub mod seconds;
+
 ghost use mathlib.Core.Path.{_≡_};
-ghost use Prim.Native.Nat.{_+_, _≤_, _<_, min, max};
+ghost use Prim.Native.Nat.{_+_, _-_, _≤_, _<_, min, max};
 ghost use lib.ListN.{length, take};
-ghost use Rattle.table.specs.Tables.{places, Empty, Added};
+ghost use Rattle.table.specs.Tables.{tableOf, Added};
 ghost use Rattle.table.specs.Columns.{endsBefore, TookIn, Moved, Spliced};
 
-// The places of a column; those above 512 are never used. With 512 a table of 4,104 bytes lay about 4,096 bytes from its copy on the stack,
-// and at such a distance the library's copy is several times slower on some processors.
-const PLACES: usize = 528;
-
+// So many periods, which stand first in two columns: of starts and of ends. The columns are lent beside the table,
+// since a table that held them would be copied whole each time it is handed over.
 pub struct Table {
     pub count: usize,
-    pub starts: [u32; PLACES],
-    pub ends: [u32; PLACES],
 }
 
 // A span with what it took in, and the first row behind it.
@@ -21,17 +19,6 @@ struct Widened {
     next: usize,
     start: u32,
     end: u32,
-}
-
-// No period.
-pub fn empty() -> Table
-    ensures { λ r. ⌜ Empty r ⌝ }
-{
-    Table {
-        count: 0,
-        starts: [0; PLACES],
-        ends: [0; PLACES],
-    }
 }
 
 fn lesser_of(a: u32, b: u32) -> u32
@@ -62,14 +49,7 @@ fn skip(ends: &[u32], n: usize, from: u32) -> usize
 }
 
 // Rows from i on that the span overlaps or touches become one with it.
-fn take_in<'a>(
-    starts: &'a [u32],
-    ends: &'a [u32],
-    n: usize,
-    i: usize,
-    from: u32,
-    to: u32,
-) -> Widened
+fn take_in(starts: &[u32], ends: &[u32], n: usize, i: usize, from: u32, to: u32) -> Widened
     requires { ⌜ (i ≤ n) × (n ≤ length (now starts)) × (n ≤ length (now ends)) ⌝ }
     ensures { λ r. ⌜ TookIn (now (starts .entry)) (now (ends .entry)) n i from to r ⌝ }
 {
@@ -88,8 +68,8 @@ fn take_in<'a>(
 }
 
 // Elements to an earlier place, first to last.
-fn move_left(column: &mut [u32; PLACES], to: usize, from: usize, many: usize)
-    requires { ⌜ (length (now column) ≡ places) × (to ≤ from) × (from + many ≤ 512) ⌝ }
+fn move_left(column: &mut [u32], to: usize, from: usize, many: usize)
+    requires { ⌜ (to ≤ from) × (from + many ≤ length (now column)) ⌝ }
     ensures { λ r. ⌜ Moved (now (column .entry)) (now (column .exit)) to from many ⌝ }
 {
     let mut m = 0;
@@ -100,8 +80,8 @@ fn move_left(column: &mut [u32; PLACES], to: usize, from: usize, many: usize)
 }
 
 // Elements to the next place, last to first.
-fn move_right(column: &mut [u32; PLACES], from: usize, many: usize)
-    requires { ⌜ (length (now column) ≡ places) × (from + many < 512) ⌝ }
+fn move_right(column: &mut [u32], from: usize, many: usize)
+    requires { ⌜ from + many < length (now column) ⌝ }
     ensures { λ r. ⌜ Moved (now (column .entry)) (now (column .exit)) (from + 1) from many ⌝ }
 {
     let mut k = from + many;
@@ -111,31 +91,39 @@ fn move_right(column: &mut [u32; PLACES], from: usize, many: usize)
     }
 }
 
-// Of the first n elements, one stands for those from i up to j.
-fn splice(column: &mut [u32; PLACES], i: usize, j: usize, n: usize, v: u32)
-    requires { ⌜ (length (now column) ≡ places) × (i ≤ j) × (j ≤ n) × (n < 512) ⌝ }
-    ensures { λ r. ⌜ Spliced (now (column .entry)) (now (column .exit)) i j n v ⌝ }
+// Of the first n elements, those from j on go to the place behind i.
+fn make_room(column: &mut [u32], i: usize, j: usize, n: usize)
+    requires { ⌜ (i ≤ j) × (j ≤ n) × (n < length (now column)) ⌝ }
+    ensures { λ r. ⌜ Moved (now (column .entry)) (now (column .exit)) (i + 1) j (n - j) ⌝ }
 {
     if i < j {
         move_left(column, i + 1, j, n - j);
-    } else {
-        move_right(column, j, n - j);
+        return;
     }
+    move_right(column, j, n - j)
+}
+
+// Of the first n elements, one stands for those from i up to j.
+fn splice(column: &mut [u32], i: usize, j: usize, n: usize, v: u32)
+    requires { ⌜ (i ≤ j) × (j ≤ n) × (n < length (now column)) ⌝ }
+    ensures { λ r. ⌜ Spliced (now (column .entry)) (now (column .exit)) i j n v ⌝ }
+{
+    make_room(column, i, j, n);
     column[i] = v;
 }
 
 impl Table {
     // A span of seconds put in: rows that it overlaps or touches become one with it.
-    pub fn add(mut self, from: u32, to: u32) -> Table
-        requires { ⌜ self .count < 512 ⌝ }
-        ensures { λ r. ⌜ Added self from to r ⌝ }
+    pub fn add(mut self, starts: &mut [u32], ends: &mut [u32], from: u32, to: u32) -> Table
+        requires { ⌜ (self .count < length (now starts)) × (length (now ends) ≡ length (now starts)) ⌝ }
+        ensures { λ r. ⌜ Added (tableOf self (now (starts .entry)) (now (ends .entry))) from to (tableOf r (now (starts .exit)) (now (ends .exit))) ⌝ }
     {
         let n = self.count;
-        let i = skip(&self.ends, n, from);
-        let w = take_in(&self.starts, &self.ends, n, i, from, to);
+        let i = skip(ends, n, from);
+        let w = take_in(starts, ends, n, i, from, to);
         let j = w.next;
-        splice(&mut self.starts, i, j, n, w.start);
-        splice(&mut self.ends, i, j, n, w.end);
+        splice(starts, i, j, n, w.start);
+        splice(ends, i, j, n, w.end);
         self.count = i + 1 + (n - j);
         self
     }

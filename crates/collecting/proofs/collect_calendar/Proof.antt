@@ -11,22 +11,28 @@ unfold-into-requires : tie.Need-unfold-into-requires
 unfold-into-requires c κs = search needs
 
 slice-reshare-prefix-collect-unfolded : tie.Need-slice-reshare-prefix-collect-unfolded
-slice-reshare-prefix-collect-unfolded c = unfolded-room (c .before .before .unfold-into .ensures)
+slice-reshare-prefix-collect-unfolded c = unfolded-room (c .before .before .before .before .unfold-into .ensures)
 
 slice-aggregate-collect-unfolded : tie.Need-slice-aggregate-collect-unfolded
-slice-aggregate-collect-unfolded c = unfolded-long (c .before .before .before .unfold-into .ensures)
+slice-aggregate-collect-unfolded c = unfolded-long (c .before .before .before .before .before .unfold-into .ensures)
 
 collect-unfolded-requires : tie.Need-collect-unfolded-requires
 collect-unfolded-requires c κs =
-    let required = c .before .before .before .before .before .before .before .pre in
-    let unfolded = c .before .before .before .unfold-into .ensures in
-    (omega (arith, unfolded-small unfolded (required .1 .0), unfolded-long unfolded), required .1 .1)
+    let required = c .before .before .before .before .before .before .before .before .before .before .before .pre in
+    let unfolded = c .before .before .before .before .before .unfold-into .ensures in
+    (required .0, (omega (arith, unfolded-small unfolded (required .1 .1 .0), unfolded-long unfolded), required .1 .1 .1))
 
 same-length : tie.Need-same-length
 same-length c = search needs
 
+same-length-2 : tie.Need-same-length-2
+same-length-2 c = search needs
+
+same-length-3 : tie.Need-same-length-3
+same-length-3 c = search needs
+
 returns : tie.Need-returns
-returns c = calendar-collected _ _ _ _ _ (c .before .before .before .before .unfold-into .ensures) (c .collect-unfolded .ensures)
+returns c = calendar-collected _ _ _ _ _ (c .before .before .before .before .before .before .before .before .before .before .unfold-into .ensures) (c .before .before .before .before .collect-unfolded .ensures)
 
 pub collect-calendar-spec : {M : Type 1} → statement M
 collect-calendar-spec =
@@ -37,4 +43,6 @@ collect-calendar-spec =
     slice-aggregate-collect-unfolded
     collect-unfolded-requires
     same-length
+    same-length-2
+    same-length-3
     returns)

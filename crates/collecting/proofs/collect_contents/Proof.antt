@@ -12,8 +12,14 @@ slice-aggregate-collect-stored-2 c = search needs
 
 collect-stored-requires : tie.Need-collect-stored-requires
 collect-stored-requires c κs =
-    let required = c .before .before .before .before .before .pre in
-    (omega arith, (omega arith, (required .0, (required .1 .0, required .1 .1))))
+    let required = c .before .before .before .before .before .before .before .before .before .pre in
+    (required .0, (omega arith, (omega arith, (required .1 .0, (required .1 .1 .0, required .1 .1 .1)))))
+
+same-length : tie.Need-same-length
+same-length c = search needs
+
+same-length-2 : tie.Need-same-length-2
+same-length-2 c = search needs
 
 returns : tie.Need-returns
 returns c = search needs
@@ -25,4 +31,6 @@ collect-contents-spec =
     slice-aggregate-collect-stored
     slice-aggregate-collect-stored-2
     collect-stored-requires
+    same-length
+    same-length-2
     returns)

@@ -1,6 +1,7 @@
 -- `collecting::collect_indexed` meets its contract: what reading the structure answers is refusal 6 or 7, or the rows by which the contents are read.
 use Rattle.contents.proofs.Contents.{structure-known}
 use Rattle.collecting.proofs.CollectStages.{structure-refuses, structure-passes}
+use native.Mathlib.Omega.{arith}
 use borrow.Author.Needs.{needs}
 use Rattle.collecting.proofs.collect_indexed.Statement.{statement}
 use Rattle.collecting.proofs.collect_indexed.Tie as tie
@@ -28,32 +29,26 @@ slice-aggregate-collect-contents c = search needs
 
 collect-contents-requires : tie.Need-collect-contents-requires
 collect-contents-requires c κs =
-    let required = c .before .before .before .before .before .before .before .before .before .before .before .before .before .pre in
-    let read = c .before .before .before .before .before .before .before .before .read-structure .ensures in
-    let tested = c .before .before .before .before .structure-fault .ensures in
-    let passed = c .before .before .enum-told .given .1 in
-    (required .1 .1 .0, (structure-known read tested passed, required .1 .1 .1))
+    let required = c .before .before .before .before .before .before .before .before .before .before .before .before .before .before .before .before .before .pre in
+    (required .0, (required .1 .1 .1 .0, (structure-known (c .before .before .before .before .before .before .before .before .before .before .read-structure .ensures) (c .before .before .before .before .before .before .structure-fault .ensures) (c .before .before .before .before .enum-told .given .1), required .1 .1 .1 .1)))
 
 same-length : tie.Need-same-length
 same-length c = search needs
 
 returns : tie.Need-returns
-returns c =
-    structure-refuses
-    (c .before .before .before .before .before .before .before .before .read-structure .ensures)
-    (c .before .before .before .before .structure-fault .ensures) _ _ _
-    (c .before .before .k .given .1) (c .refused .ensures)
+returns c = structure-refuses (c .before .before .before .before .before .before .before .before .read-structure .ensures) (c .before .before .before .before .structure-fault .ensures) _ _ _ (c .before .before .k .given .1) (c .refused .ensures)
 
 same-length-2 : tie.Need-same-length-2
 same-length-2 c = search needs
 
+same-length-3 : tie.Need-same-length-3
+same-length-3 c = search needs
+
+same-length-4 : tie.Need-same-length-4
+same-length-4 c = search needs
+
 returns-2 : tie.Need-returns-2
-returns-2 c =
-    structure-passes
-    (c .before .before .before .before .before .before .before .before .before .read-structure .ensures)
-    (c .before .before .before .before .before .structure-fault .ensures) _ _ _
-    (c .before .before .before .enum-told .given .1)
-    (c .collect-contents .ensures)
+returns-2 c = structure-passes (c .before .before .before .before .before .before .before .before .before .before .before .before .before .before .before .read-structure .ensures) (c .before .before .before .before .before .before .before .before .before .before .before .structure-fault .ensures) _ _ _ (c .before .before .before .before .before .before .before .before .before .enum-told .given .1) (c .before .before .before .before .collect-contents .ensures)
 
 pub collect-indexed-spec : {M : Type 1} → statement M
 collect-indexed-spec =
@@ -70,4 +65,6 @@ collect-indexed-spec =
     same-length
     returns
     same-length-2
+    same-length-3
+    same-length-4
     returns-2)

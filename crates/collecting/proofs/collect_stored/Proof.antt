@@ -1,5 +1,6 @@
 -- `collecting::collect_stored` meets its contract, for at most 513 pieces are stored: with 513 there are more than 512, with fewer they are all.
 use Rattle.collecting.proofs.CollectStages.{contents-refuse, contents-many, contents-few}
+use native.Mathlib.Omega.{arith}
 use borrow.Author.Needs.{needs}
 use Rattle.collecting.proofs.collect_stored.Statement.{statement}
 use Rattle.collecting.proofs.collect_stored.Tie as tie
@@ -26,11 +27,7 @@ same-length-2 : tie.Need-same-length-2
 same-length-2 c = search needs
 
 returns : tie.Need-returns
-returns c =
-    let read = c .before .before .before .before .before .before .before .before .read-contents .ensures in
-    let passed = c .before .before .enum-told .given .1 in
-    let many = c .before .if1 .taken in
-    contents-many read passed many (c .refused2 .ensures)
+returns c = contents-many (c .before .before .before .before .before .before .before .before .read-contents .ensures) (c .before .before .enum-told .given .1) (c .before .if1 .taken) (c .refused2 .ensures)
 
 tables-of-requires : tie.Need-tables-of-requires
 tables-of-requires c κs = search needs
@@ -50,13 +47,16 @@ same-length-5 c = search needs
 same-length-6 : tie.Need-same-length-6
 same-length-6 c = search needs
 
+same-length-7 : tie.Need-same-length-7
+same-length-7 c = search needs
+
+same-length-8 : tie.Need-same-length-8
+same-length-8 c = search needs
+
 returns-3 : tie.Need-returns-3
 returns-3 c =
-    let required = c .before .before .before .before .before .before .before .before .before .before .before .before .before .before .before .before .before .pre in
-    let read = c .before .before .before .before .before .before .before .before .before .read-contents .ensures in
-    let passed = c .before .before .before .enum-told .given .1 in
-    let few = c .before .before .if1 .left in
-    contents-few read passed few (required .0) (required .1 .1 .1 .1 .0) (c .tables-of .ensures)
+    let required = c .before .before .before .before .before .before .before .before .before .before .before .before .before .before .before .before .before .before .before .before .before .before .before .before .before .pre in
+    contents-few (c .before .before .before .before .before .before .before .before .before .before .before .before .before .before .before .read-contents .ensures) (c .before .before .before .before .before .before .before .before .before .enum-told .given .1) (c .before .before .before .before .before .before .before .before .if1 .left) (required .1 .0) (required .1 .1 .1 .1 .1 .0) (c .before .before .before .before .tables-of .ensures)
 
 pub collect-stored-spec : {M : Type 1} → statement M
 collect-stored-spec =
@@ -76,4 +76,6 @@ collect-stored-spec =
     returns-2
     same-length-5
     same-length-6
+    same-length-7
+    same-length-8
     returns-3)

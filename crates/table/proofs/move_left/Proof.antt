@@ -20,8 +20,8 @@ add-column c = omega arith
 mul-column : tie.Need-mul-column Inv-loop μ-loop
 mul-column c = omega arith
 
-element-copy-out-column : tie.Need-element-copy-out-column Inv-loop μ-loop
-element-copy-out-column c = omega arith
+slice-read-column : tie.Need-slice-read-column Inv-loop μ-loop
+slice-read-column c = omega arith
 
 add-column-2 : tie.Need-add-column-2 Inv-loop μ-loop
 add-column-2 c = omega arith
@@ -29,8 +29,8 @@ add-column-2 c = omega arith
 mul-column-2 : tie.Need-mul-column-2 Inv-loop μ-loop
 mul-column-2 c = omega arith
 
-element-write-column : tie.Need-element-write-column Inv-loop μ-loop
-element-write-column c = omega arith
+slice-write-column : tie.Need-slice-write-column Inv-loop μ-loop
+slice-write-column c = omega arith
 
 add-m : tie.Need-add-m Inv-loop μ-loop
 add-m c = omega arith
@@ -40,6 +40,9 @@ loop-less c = omega arith
 
 loop-again : tie.Need-loop-again Inv-loop μ-loop
 loop-again c = (omega arith, left-more (c .before .before .loop .inv .1) (omega arith) (omega arith))
+
+same-length : tie.Need-same-length Inv-loop μ-loop
+same-length c = c .before .loop .inv .1 .long
 
 returns : tie.Need-returns Inv-loop μ-loop
 returns c = left-end (c .before .loop .inv .1) (omega arith)
@@ -53,11 +56,12 @@ move-left-spec =
     loop-holds
     add-column
     mul-column
-    element-copy-out-column
+    slice-read-column
     add-column-2
     mul-column-2
-    element-write-column
+    slice-write-column
     add-m
     loop-less
     loop-again
+    same-length
     returns)

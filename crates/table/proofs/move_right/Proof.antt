@@ -23,14 +23,14 @@ sub-column c = omega arith
 mul-column : tie.Need-mul-column Inv-loop μ-loop
 mul-column c = omega arith
 
-element-copy-out-column : tie.Need-element-copy-out-column Inv-loop μ-loop
-element-copy-out-column c = omega arith
+slice-read-column : tie.Need-slice-read-column Inv-loop μ-loop
+slice-read-column c = omega arith
 
 mul-column-2 : tie.Need-mul-column-2 Inv-loop μ-loop
 mul-column-2 c = omega arith
 
-element-write-column : tie.Need-element-write-column Inv-loop μ-loop
-element-write-column c = omega arith
+slice-write-column : tie.Need-slice-write-column Inv-loop μ-loop
+slice-write-column c = omega arith
 
 sub-k : tie.Need-sub-k Inv-loop μ-loop
 sub-k c = omega arith
@@ -40,6 +40,9 @@ loop-less c = omega arith
 
 loop-again : tie.Need-loop-again Inv-loop μ-loop
 loop-again c = (omega arith, omega arith, right-more _ (c .before .before .loop .inv .2) (omega arith) (omega arith) (omega arith))
+
+same-length : tie.Need-same-length Inv-loop μ-loop
+same-length c = c .before .loop .inv .2 .long
 
 returns : tie.Need-returns Inv-loop μ-loop
 returns c = right-end (c .before .loop .inv .2) (omega arith) (omega arith)
@@ -54,10 +57,11 @@ move-right-spec =
     loop-holds
     sub-column
     mul-column
-    element-copy-out-column
+    slice-read-column
     mul-column-2
-    element-write-column
+    slice-write-column
     sub-k
     loop-less
     loop-again
+    same-length
     returns)

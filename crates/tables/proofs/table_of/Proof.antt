@@ -1,22 +1,28 @@
 -- `tables::table_of` meets its contract: while the loop goes on, what is left of the pieces, added to the table so far, makes the whole table.
-use Rattle.tables.proofs.Building.{Building, building-start, building-added, building-passed, building-end}
+use mathlib.Core.Path.{_≡_}
 use Prim.Native.Nat.{_-_}
-use mathlib.Core.Logic.{⊎-elim}
+use lib.ListN.{length}
+use Rattle.table.specs.Tables.{tableOf}
+use Rattle.tables.proofs.Building.{Building, building-start, building-asks, building-added, building-passed, building-end}
 use native.Mathlib.Omega.{arith}
+use borrow.Author.Needs.{needs}
 use Rattle.tables.proofs.table_of.Statement.{statement}
 use Rattle.tables.proofs.table_of.Tie as tie
 
 abbrev Inv-loop : tie.InvT-loop
-Inv-loop column n place t₀ i₀ at₀ t i at = Building column n place t i at
+Inv-loop starts₀ ends₀ column n place t₀ i₀ at₀ starts ends t i at = Building column n place (length starts₀) (tableOf t starts ends) i at × (length ends ≡ length ends₀)
 
 abbrev μ-loop : tie.MeasureT-loop
-μ-loop column n place t₀ i₀ at₀ t i at = n - i
-
-empty-requires : tie.Need-empty-requires Inv-loop μ-loop
-empty-requires c κs = omega arith
+μ-loop starts₀ ends₀ column n place t₀ i₀ at₀ starts ends t i at = n - i
 
 loop-holds : tie.Need-loop-holds Inv-loop μ-loop
-loop-holds c = building-start (c .empty .ensures)
+loop-holds c = (building-start _ _ (omega arith), search needs)
+
+add-at : tie.Need-add-at Inv-loop μ-loop
+add-at c = omega arith
+
+add-i : tie.Need-add-i Inv-loop μ-loop
+add-i c = omega arith
 
 add-if1 : tie.Need-add-if1 Inv-loop μ-loop
 add-if1 c = omega arith
@@ -43,26 +49,30 @@ shared-slice-read-add-2 : tie.Need-shared-slice-read-add-2 Inv-loop μ-loop
 shared-slice-read-add-2 c = omega arith
 
 add-requires : tie.Need-add-requires Inv-loop μ-loop
-add-requires c κs = omega arith
-
-add-at : tie.Need-add-at Inv-loop μ-loop
-add-at c = omega arith
-
-add-i : tie.Need-add-i Inv-loop μ-loop
-add-i c = omega arith
+add-requires c κs = building-asks (c .before .before .before .before .before .before .before .loop .inv .0) (c .before .before .before .before .before .before .loop-test .taken) (omega arith) (omega (arith, c .before .before .before .before .if1 .taken)) (omega arith)
 
 loop-less : tie.Need-loop-less Inv-loop μ-loop
 loop-less c = omega arith
 
 loop-again : tie.Need-loop-again Inv-loop μ-loop
 loop-again c =
-    ⊎-elim
-    (λ w. rw (w .4) (building-added (c .before .before .before .loop .inv) (omega arith) (omega arith) (omega (arith, w .0 .taken)) (w .3 .ensures)))
-    (λ w. rw (w .1) (building-passed (c .before .before .before .loop .inv) (omega arith) (omega arith) (omega (arith, w .0 .left))))
-    (c .if1 .came)
+    let added = building-added (c .before .before .before .before .before .before .before .before .before .before .before .before .loop .inv .0) (c .before .before .before .before .before .before .before .before .before .before .before .loop-test .taken) (omega arith) (omega (arith, c .before .before .before .before .before .before .before .before .before .if1 .taken)) (c .before .before .before .before .add .ensures) in
+    (added (omega arith), omega arith)
+
+loop-less-2 : tie.Need-loop-less-2 Inv-loop μ-loop
+loop-less-2 c = omega arith
+
+loop-again-2 : tie.Need-loop-again-2 Inv-loop μ-loop
+loop-again-2 c = (building-passed (c .before .before .before .loop .inv .0) (c .before .before .loop-test .taken) (omega arith) (omega (arith, c .if1 .left)), c .before .before .before .loop .inv .1)
+
+same-length : tie.Need-same-length Inv-loop μ-loop
+same-length c = c .before .loop .inv .0 .long
+
+same-length-2 : tie.Need-same-length-2 Inv-loop μ-loop
+same-length-2 c = c .before .loop .inv .1
 
 returns : tie.Need-returns Inv-loop μ-loop
-returns c = building-end (c .before .loop .inv) (omega arith)
+returns c = building-end (c .before .loop .inv .0) (omega arith)
 
 pub table-of-spec : {M : Type 1} → statement M
 table-of-spec =
@@ -70,8 +80,9 @@ table-of-spec =
     (tie.spec
     Inv-loop
     μ-loop
-    empty-requires
     loop-holds
+    add-at
+    add-i
     add-if1
     mul-if1
     shared-slice-read-if1
@@ -81,8 +92,10 @@ table-of-spec =
     mul-add-2
     shared-slice-read-add-2
     add-requires
-    add-at
-    add-i
     loop-less
     loop-again
+    loop-less-2
+    loop-again-2
+    same-length
+    same-length-2
     returns)

@@ -7,26 +7,23 @@ use Rattle.report.proofs.lines.put_report.Statement.{statement}
 use Rattle.report.proofs.lines.put_report.Tie as tie
 
 put-opening-requires : tie.Need-put-opening-requires
-put-opening-requires c κs = opening-asks _ _ _ _ _ _ (c .before .before .pre .0) (c .before .before .pre .1 .1)
+put-opening-requires c κs = opening-asks _ _ _ _ (c .before .before .before .before .pre .0) (c .before .before .before .before .pre .1 .1)
 
 put-types-requires : tie.Need-put-types-requires
 put-types-requires c κs =
-    let writable = c .before .before .before .before .before .before .pre .0 in
-    let counts = c .before .before .before .before .before .before .pre .1 .0 in
-    let room = c .before .before .before .before .before .before .pre .1 .1 in
-    let opening = c .before .before .before .put-opening .ensures in
-    (counts, (types-good _ _ _ _ _ _ writable room, omega (arith, types-room _ _ _ _ _ _ writable room opening)))
+    let writable = c .before .before .before .before .before .before .before .before .pre .0 in
+    let long = c .before .before .before .before .before .before .before .before .pre .1 .0 in
+    let room = c .before .before .before .before .before .before .before .before .pre .1 .1 in
+    (long, (types-good _ _ _ _ writable room, omega (arith, types-room _ _ _ _ writable room (c .before .before .before .put-opening .ensures))))
 
 slice-aggregate-put-bytes : tie.Need-slice-aggregate-put-bytes
 slice-aggregate-put-bytes c = search needs
 
 put-bytes-requires : tie.Need-put-bytes-requires
 put-bytes-requires c κs =
-    let writable = c .before .before .before .before .before .before .before .before .before .before .before .pre .0 in
-    let room = c .before .before .before .before .before .before .before .before .before .before .before .pre .1 .1 in
-    let opening = c .before .before .before .before .before .before .before .before .put-opening .ensures in
-    let periods = c .before .before .before .before .put-types .ensures in
-    omega (arith, closing-room _ _ _ _ _ _ writable room opening periods)
+    let writable = c .before .before .before .before .before .before .before .before .before .before .before .before .before .pre .0 in
+    let room = c .before .before .before .before .before .before .before .before .before .before .before .before .before .pre .1 .1 in
+    omega (arith, closing-room _ _ _ _ writable room (c .before .before .before .before .before .before .before .before .put-opening .ensures) (c .before .before .before .before .put-types .ensures))
 
 add-result : tie.Need-add-result
 add-result c = omega (arith, put-bytes-requires (c .before .before .before) (c .before .before .put-bytes .lifetimes))
@@ -36,11 +33,7 @@ same-length c = search needs
 
 returns : tie.Need-returns
 unfolding closing
-returns c =
-    let opening = c .before .before .before .before .before .before .before .before .before .before .before .put-opening .ensures in
-    let periods = c .before .before .before .before .before .before .before .put-types .ensures in
-    let closing = c .before .before .put-bytes .ensures in
-    put-report _ _ _ _ _ _ opening periods closing
+returns c = put-report _ _ _ _ (c .before .before .before .before .before .before .before .before .before .before .before .put-opening .ensures) (c .before .before .before .before .before .before .before .put-types .ensures) (c .before .before .put-bytes .ensures)
 
 pub put-report-spec : {M : Type 1} → statement M
 put-report-spec =

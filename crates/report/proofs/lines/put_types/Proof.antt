@@ -1,6 +1,8 @@
 -- `report::lines::put_types` meets its contract: the lines of the three types stand one behind the other, each where the last one ended.
+use Rattle.periods.specs.declared.BusyType.{BusyType}
 use Rattle.report.proofs.Writing.{busy-room, tentative-room, unavailable-room, put-types}
 use Rattle.report.specs.Bytes.{periodHead}
+use Rattle.report.specs.Writing.{packed}
 use native.Mathlib.Omega.{arith}
 use borrow.Author.Needs.{needs}
 use Rattle.report.proofs.lines.put_types.Statement.{statement}
@@ -10,44 +12,47 @@ slice-aggregate-put-table : tie.Need-slice-aggregate-put-table
 slice-aggregate-put-table c = search needs
 
 put-table-requires : tie.Need-put-table-requires
-unfolding periodHead
-put-table-requires c κs = (c .before .before .before .pre .0 .0, (c .before .before .before .pre .1 .0 .0, busy-room _ _ _ _ _ (c .before .before .before .pre .1 .1)))
+unfolding periodHead packed
+put-table-requires c κs =
+    let long = c .before .before .before .before .before .pre .0 in
+    let good = c .before .before .before .before .before .pre .1 .0 in
+    let room = c .before .before .before .before .before .pre .1 .1 in
+    ((omega (arith, long .0), long .1), (good BusyType.Busy, busy-room (packed _ _ _ _ _) _ _ room))
 
 slice-aggregate-put-table-2 : tie.Need-slice-aggregate-put-table-2
 slice-aggregate-put-table-2 c = search needs
 
 put-table-requires-2 : tie.Need-put-table-requires-2
-unfolding periodHead
+unfolding periodHead packed
 put-table-requires-2 c κs =
-    let few = c .before .before .before .before .before .before .before .before .pre .0 .1 in
-    let good = c .before .before .before .before .before .before .before .before .pre .1 .0 .1 in
-    let room = c .before .before .before .before .before .before .before .before .pre .1 .1 in
+    let long = c .before .before .before .before .before .before .before .before .before .before .pre .0 in
+    let good = c .before .before .before .before .before .before .before .before .before .before .pre .1 .0 in
+    let room = c .before .before .before .before .before .before .before .before .before .before .pre .1 .1 in
     let busy = c .before .before .before .before .put-table .ensures in
-    (few, (good, omega (arith, tentative-room _ _ _ _ _ room busy)))
+    ((omega (arith, long .0), long .1), (good BusyType.Tentative, omega (arith, tentative-room (packed _ _ _ _ _) _ _ room busy)))
 
 slice-aggregate-put-table-3 : tie.Need-slice-aggregate-put-table-3
 slice-aggregate-put-table-3 c = search needs
 
+add-put-table : tie.Need-add-put-table
+add-put-table c = search needs
+
 put-table-requires-3 : tie.Need-put-table-requires-3
-unfolding periodHead
+unfolding periodHead packed
 put-table-requires-3 c κs =
-    let few = c .before .before .before .before .before .before .before .before .before .before .before .before .before .pre .0 .2 in
-    let good = c .before .before .before .before .before .before .before .before .before .before .before .before .before .pre .1 .0 .2 in
-    let room = c .before .before .before .before .before .before .before .before .before .before .before .before .before .pre .1 .1 in
+    let long = c .before .before .before .before .before .before .before .before .before .before .before .before .before .before .before .pre .0 in
+    let good = c .before .before .before .before .before .before .before .before .before .before .before .before .before .before .before .pre .1 .0 in
+    let room = c .before .before .before .before .before .before .before .before .before .before .before .before .before .before .before .pre .1 .1 in
     let busy = c .before .before .before .before .before .before .before .before .before .put-table .ensures in
     let tentative = c .before .before .before .before .put-table2 .ensures in
-    (few, (good, omega (arith, unavailable-room _ _ _ _ _ room busy tentative)))
+    ((omega (arith, long .0), long .1), (good BusyType.Unavailable, omega (arith, unavailable-room (packed _ _ _ _ _) _ _ room busy tentative)))
 
 same-length : tie.Need-same-length
 same-length c = search needs
 
 returns : tie.Need-returns
-unfolding periodHead
-returns c =
-    let busy = c .before .before .before .before .before .before .before .before .before .before .before .before .put-table .ensures in
-    let tentative = c .before .before .before .before .before .before .before .put-table2 .ensures in
-    let unavailable = c .before .before .put-table3 .ensures in
-    put-types _ _ _ busy tentative unavailable
+unfolding periodHead packed
+returns c = put-types (packed _ _ _ _ _) (c .before .before .before .before .before .before .before .before .before .before .before .before .put-table .ensures) (c .before .before .before .before .before .before .before .put-table2 .ensures) (c .before .before .put-table3 .ensures)
 
 pub put-types-spec : {M : Type 1} → statement M
 put-types-spec =
@@ -58,6 +63,7 @@ put-types-spec =
     slice-aggregate-put-table-2
     put-table-requires-2
     slice-aggregate-put-table-3
+    add-put-table
     put-table-requires-3
     same-length
     returns)

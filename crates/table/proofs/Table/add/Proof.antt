@@ -1,18 +1,15 @@
 -- `table::Table::add` meets its contract. The three steps make the definition: rows that end before, the widened span, the rows behind it.
 use Rattle.table.proofs.Columns.{ends-secondIn, added}
-use Rattle.table.specs.Tables.{Sound}
+use native.Mathlib.Omega.{arith}
 use borrow.Author.Needs.{needs}
 use Rattle.table.proofs.Table.add.Statement.{statement}
 use Rattle.table.proofs.Table.add.Tie as tie
-
-sound : (c : tie.Start) → Sound (c .args .t1)
-sound c = search needs
 
 skip-requires : tie.Need-skip-requires
 skip-requires c κs = search needs
 
 take-in-requires : tie.Need-take-in-requires
-take-in-requires c κs = (rw (c .before .before .before .before .before .skip .ensures) (ends-secondIn _ _ _), search needs, search needs)
+take-in-requires c κs = (rw (c .before .before .skip .ensures) (ends-secondIn _ _ _), search needs, search needs)
 
 splice-requires : tie.Need-splice-requires
 splice-requires c κs = search needs
@@ -29,13 +26,19 @@ sub-self c = search needs
 add-self-2 : tie.Need-add-self-2
 add-self-2 c = search needs
 
+same-length : tie.Need-same-length
+same-length c = search needs
+
+same-length-2 : tie.Need-same-length-2
+same-length-2 c = search needs
+
 returns : tie.Need-returns
 returns c =
-    let skipped = c .before .before .before .before .before .before .before .before .before .before .skip .ensures in
-    let widened = c .before .before .before .before .take-in .ensures in
-    let starts = c .before .before .splice .ensures in
-    let ends = c .splice2 .ensures in
-    added _ (sound (c .before .before .before .before .before .before .before .before .before .before .before .before .before .before)) (search needs) skipped widened starts ends
+    let skipped = c .before .before .before .before .before .before .before .before .before .before .before .skip .ensures in
+    let widened = c .before .before .before .before .before .before .before .before .take-in .ensures in
+    let starts = c .before .before .before .before .before .before .splice .ensures in
+    let ends = c .before .before .splice2 .ensures in
+    added _ (search needs) (search needs) skipped widened starts ends
 
 pub add-spec : {M : Type 1} → statement M
 add-spec =
@@ -48,4 +51,6 @@ add-spec =
     add-self
     sub-self
     add-self-2
+    same-length
+    same-length-2
     returns)

@@ -1,4 +1,4 @@
--- The busy seconds of a list of periods.
+-- The busy seconds of a list of periods: what a table adds up to.
 use Prim.Native.Nat.{ℕ, _+_, _-_}
 use mathlib.Core.List.{List, [], _∷_}
 use Rattle.periods.specs.declared.Period.{Period}

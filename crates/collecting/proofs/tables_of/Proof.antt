@@ -1,0 +1,40 @@
+-- `collecting::tables_of` meets its contract: each table begins behind the one before, and those before it stay.
+use Rattle.tables.proofs.Building.{periods-few}
+use Rattle.collecting.proofs.CollectStages.{busy-fits, tentative-fits, typed}
+use native.Mathlib.Omega.{arith}
+use borrow.Author.Needs.{needs}
+use Rattle.collecting.proofs.tables_of.Statement.{statement}
+use Rattle.collecting.proofs.tables_of.Tie as tie
+
+table-at-requires : tie.Need-table-at-requires
+table-at-requires c κs = (omega (arith, periods-few (c .before .before .before .before .before .args .n) (c .before .before .before .before .before .args .column .now)), (omega arith, omega arith))
+
+table-at-requires-2 : tie.Need-table-at-requires-2
+table-at-requires-2 c κs = (omega (arith, busy-fits (c .before .before .before .before .before .before .before .before .before .before .before .before .pre .0 .0) (c .before .before .before .before .before .before .before .before .before .before .before .before .pre .0 .1) (c .before .before .before .before .before .before .before .before .before .before .before .before .pre .1 .0) (c .before .before .before .before .before .before .table-at .ensures)), (omega arith, omega arith))
+
+add-table-at : tie.Need-add-table-at
+add-table-at c = omega (arith, c .before .before .before .before .before .before .before .before .before .before .before .before .before .table-at .ensures .built .count, c .before .before .before .before .before .before .table-at2 .ensures .built .count, periods-few (c .before .before .before .before .before .before .before .before .before .before .before .before .before .before .before .before .before .before .before .args .n) (c .before .before .before .before .before .before .before .before .before .before .before .before .before .before .before .before .before .before .before .args .column .now))
+
+table-at-requires-3 : tie.Need-table-at-requires-3
+table-at-requires-3 c κs = (omega (arith, tentative-fits (c .before .before .before .before .before .before .before .before .before .before .before .before .before .before .before .before .before .before .before .pre .0 .0) (c .before .before .before .before .before .before .before .before .before .before .before .before .before .before .before .before .before .before .before .pre .0 .1) (c .before .before .before .before .before .before .before .before .before .before .before .before .before .before .before .before .before .before .before .pre .1 .0) (c .before .before .before .before .before .before .before .before .before .before .before .before .before .table-at .ensures) (c .before .before .before .before .before .before .table-at2 .ensures)), (omega arith, omega arith))
+
+same-length : tie.Need-same-length
+same-length c = search needs
+
+same-length-2 : tie.Need-same-length-2
+same-length-2 c = search needs
+
+returns : tie.Need-returns
+returns c = typed (c .before .before .before .before .before .before .before .before .before .before .before .before .before .before .before .before .before .before .before .before .before .before .before .before .pre .0 .0) (c .before .before .before .before .before .before .before .before .before .before .before .before .before .before .before .before .before .before .before .before .before .before .before .before .pre .0 .1) (c .before .before .before .before .before .before .before .before .before .before .before .before .before .before .before .before .before .before .before .before .before .before .before .before .pre .1 .0) (c .before .before .before .before .before .before .before .before .before .before .before .before .before .before .before .before .before .before .table-at .ensures) (c .before .before .before .before .before .before .before .before .before .before .before .table-at2 .ensures) (c .before .before .before .before .table-at3 .ensures)
+
+pub tables-of-spec : {M : Type 1} → statement M
+tables-of-spec =
+    tie.close
+    (tie.spec
+    table-at-requires
+    table-at-requires-2
+    add-table-at
+    table-at-requires-3
+    same-length
+    same-length-2
+    returns)
