@@ -31,8 +31,7 @@ use Rattle.events.specs.declared.DurationGiven.{DurationGiven}
 use Rattle.events.specs.declared.RuleGiven.{RuleGiven}
 use Rattle.events.specs.declared.StatusGiven.{StatusGiven}
 use Rattle.events.specs.declared.TransparencyGiven.{TransparencyGiven}
-use Rattle.events.proofs.ComponentRules.{start-holds, start-none, start-line, end-holds, end-none, end-line, lasts-holds, lasts-none, lasts-line}
-use Rattle.events.proofs.ComponentRules.{repeats-holds, repeats-none, repeats-line, status-holds, status-none, status-line, transparency-said, transparency-holds}
+use Rattle.events.proofs.ComponentRules.{start-laws, end-laws, lasts-laws, repeats-laws, status-laws, transparency-laws}
 use Rattle.events.proofs.ComponentRules.{end-fits-of, end-of-fits, duration-fits-of, duration-of-fits, until-fits-of, until-of-fits}
 use Rattle.events.proofs.ComponentRules.{ending-broken, together, Made, made, made-event, few-lines, the-start, event-iff, between-later, later-between, block-by, block-iff}
 
@@ -108,39 +107,39 @@ by-status TransparencyGiven.Absent s n = refl
 module _ (ss : List PropertyValue) (m : Made (together ss)) where
   not-transparent : (List·Memᴰ (PropertyValue.Transparent true) ss → ⊥)
       → busyBy (together ss .busy .transparency) (together ss .busy .status) ≡ busyByStatus (together ss .busy .status)
-  not-transparent n = by-status _ _ (λ q. n (transparency-said ss true q))
+  not-transparent n = by-status _ _ (λ q. n (transparency-laws ss .said true q))
 
   made-is : EventIs ss (eventMade (m .start) (together ss) (m .ending) (m .repeat))
   unfolding eventMade daysBy intervalBy busyBy busyByStatus
   made-is =
       let few = few-lines ss (m .not-twice) in
       let the-rule : (r : Rule) → List·Memᴰ (PropertyValue.Repeats r) ss → repeatBy (m .start) (RuleGiven.Given r) ≡ RepeatRead.Of (m .repeat) =
-      λ r k. ap (repeatBy (m .start)) (sym (repeats-holds ss r k (few .3))) ∙ m .repeat-read in
+      λ r k. ap (repeatBy (m .start)) (sym (repeats-laws ss .holds r k (few .3))) ∙ m .repeat-read in
       record {
         kind-is = λ s k. ap (λ (t : Time). t .kind) (the-start ss m s k);
         start-is = λ s k. ap (λ (t : Time). t .second) (the-start ss m s k);
         end-is =
             λ t k. end-gives (m .start) t _ (m .ending)
-            (ap (λ (o : TimeGiven). endingBy (m .start) o (together ss .span .lasts)) (sym (end-holds ss t k (few .1))) ∙ m .ending-read);
+            (ap (λ (o : TimeGiven). endingBy (m .start) o (together ss .span .lasts)) (sym (end-laws ss .holds t k (few .1))) ∙ m .ending-read);
         duration-is =
             λ d k. duration-gives (m .start) _ d (m .ending)
-            (ap (λ (o : DurationGiven). endingBy (m .start) (together ss .span .end) o) (sym (lasts-holds ss d k (few .2))) ∙ m .ending-read);
-        no-ending = λ a b. none-gives (m .start) (m .ending) (rw (end-none ss a, lasts-none ss b) at (m .ending-read));
-        days-are = λ r k. ap daysBy (repeats-holds ss r k (few .3));
-        interval-is = λ r k. ap intervalBy (repeats-holds ss r k (few .3));
+            (ap (λ (o : DurationGiven). endingBy (m .start) (together ss .span .end) o) (sym (lasts-laws ss .holds d k (few .2))) ∙ m .ending-read);
+        no-ending = λ a b. none-gives (m .start) (m .ending) (rw (end-laws ss .absent a, lasts-laws ss .absent b) at (m .ending-read));
+        days-are = λ r k. ap daysBy (repeats-laws ss .holds r k (few .3));
+        interval-is = λ r k. ap intervalBy (repeats-laws ss .holds r k (few .3));
         forever = λ r k q. forever-gives (m .start) r (m .repeat) q (the-rule r k);
         count-is = λ r n k q. count-gives (m .start) r n (m .repeat) q (the-rule r k);
         until-is = λ r t k q. until-gives (m .start) r t (m .repeat) q (the-rule r k);
-        no-rule-days = λ n. ap daysBy (repeats-none ss n);
-        no-rule-interval = λ n. ap intervalBy (repeats-none ss n);
-        no-rule-once = λ n. once-gives (m .start) (m .repeat) (ap (repeatBy (m .start)) (sym (repeats-none ss n)) ∙ m .repeat-read);
-        transparent-free = λ k. ap (λ (t : TransparencyGiven). busyBy t (together ss .busy .status)) (transparency-holds ss true k (few .5));
+        no-rule-days = λ n. ap daysBy (repeats-laws ss .absent n);
+        no-rule-interval = λ n. ap intervalBy (repeats-laws ss .absent n);
+        no-rule-once = λ n. once-gives (m .start) (m .repeat) (ap (repeatBy (m .start)) (sym (repeats-laws ss .absent n)) ∙ m .repeat-read);
+        transparent-free = λ k. ap (λ (t : TransparencyGiven). busyBy t (together ss .busy .status)) (transparency-laws ss .holds true k (few .5));
         cancelled-free =
-            λ k. ap (λ (s : StatusGiven). busyBy (together ss .busy .transparency) s) (status-holds ss Status.Cancelled k (few .4))
+            λ k. ap (λ (s : StatusGiven). busyBy (together ss .busy .transparency) s) (status-laws ss .holds Status.Cancelled k (few .4))
             ∙ cancelled-any (together ss .busy .transparency);
-        tentative-so = λ n k. not-transparent n ∙ ap busyByStatus (status-holds ss Status.Tentative k (few .4));
-        other-busy = λ n k. not-transparent n ∙ ap busyByStatus (status-holds ss Status.Other k (few .4));
-        no-status-busy = λ n k. not-transparent n ∙ ap busyByStatus (status-none ss k);
+        tentative-so = λ n k. not-transparent n ∙ ap busyByStatus (status-laws ss .holds Status.Tentative k (few .4));
+        other-busy = λ n k. not-transparent n ∙ ap busyByStatus (status-laws ss .holds Status.Other k (few .4));
+        no-status-busy = λ n k. not-transparent n ∙ ap busyByStatus (status-laws ss .absent k);
       }
 
 read-is : (ss : List PropertyValue) (e : Event) → eventBy (together ss) ≡ EventRead.Of e → EventIs ss e
@@ -161,12 +160,12 @@ module _ (ss : List PropertyValue) (w : EventRules ss) (a b : Event) (p : EventI
       ⊎-elim
       (λ n.
       ⊎-elim (λ k. p .no-ending n k ∙ sym (q .no-ending n k)) (λ d. p .duration-is (d .0) (d .1) ∙ sym (q .duration-is (d .0) (d .1)))
-      (none-or (linesNamed (ascii "DURATION") ss) (lasts-line ss)))
-      (λ t. p .end-is (t .0) (t .1) ∙ sym (q .end-is (t .0) (t .1))) (none-or (linesNamed (ascii "DTEND") ss) (end-line ss))
+      (none-or (linesNamed (ascii "DURATION") ss) (lasts-laws ss .line)))
+      (λ t. p .end-is (t .0) (t .1) ∙ sym (q .end-is (t .0) (t .1))) (none-or (linesNamed (ascii "DTEND") ss) (end-laws ss .line))
 
   -- a rule, or none
   some-rule : (linesNamed (ascii "RRULE") ss ≡ 0) ⊎ ((r : Rule) × List·Memᴰ (PropertyValue.Repeats r) ss)
-  some-rule = none-or (linesNamed (ascii "RRULE") ss) (repeats-line ss)
+  some-rule = none-or (linesNamed (ascii "RRULE") ss) (repeats-laws ss .line)
 
   same-days : a .days ≡ b .days
   same-days = ⊎-elim (λ n. p .no-rule-days n ∙ sym (q .no-rule-days n)) (λ r. p .days-are (r .0) (r .1) ∙ sym (q .days-are (r .0) (r .1))) some-rule
@@ -191,20 +190,20 @@ module _ (ss : List PropertyValue) (w : EventRules ss) (a b : Event) (p : EventI
   opaque-busy : (List·Memᴰ (PropertyValue.Transparent true) ss → ⊥) → a .busy ≡ b .busy
   opaque-busy n =
       ⊎-elim (λ k. p .no-status-busy n k ∙ sym (q .no-status-busy n k)) (λ s. by-stated n (s .0) (s .1))
-      (none-or (linesNamed (ascii "STATUS") ss) (status-line ss))
+      (none-or (linesNamed (ascii "STATUS") ss) (status-laws ss .line))
 
   by-transparency : (t : TransparencyGiven) → together ss .busy .transparency ≡ t → a .busy ≡ b .busy
   by-transparency (TransparencyGiven.Given true) e =
-      let k = transparency-said ss true e in
+      let k = transparency-laws ss .said true e in
       p .transparent-free k ∙ sym (q .transparent-free k)
   by-transparency (TransparencyGiven.Given false) e =
-      opaque-busy (λ k. let h = transparency-holds ss true k (w .few-transparencies) in let z : _≡_ {A = ℕ} 0 1 = cc in absurd (omega arith))
+      opaque-busy (λ k. let h = transparency-laws ss .holds true k (w .few-transparencies) in let z : _≡_ {A = ℕ} 0 1 = cc in absurd (omega arith))
   by-transparency TransparencyGiven.Absent e =
-      opaque-busy (λ k. let h = transparency-holds ss true k (w .few-transparencies) in let z : _≡_ {A = ℕ} 0 1 = cc in absurd (omega arith))
+      opaque-busy (λ k. let h = transparency-laws ss .holds true k (w .few-transparencies) in let z : _≡_ {A = ℕ} 0 1 = cc in absurd (omega arith))
 
   event-is-one : a ≡ b
   event-is-one =
-      let s = start-line ss (omega (arith, w .one-start)) in
+      let s = start-laws ss .line (omega (arith, w .one-start)) in
       event-same a b (p .kind-is (s .0) (s .1) ∙ sym (q .kind-is (s .0) (s .1))) (p .start-is (s .0) (s .1) ∙ sym (q .start-is (s .0) (s .1))) same-ending
       same-days same-interval same-repeat (by-transparency (together ss .busy .transparency) refl)
 
@@ -239,10 +238,10 @@ read-block-is ss b h =
     let few = few-lines ss (w .0) in
     let g = block-gives (together ss .span .start) (together ss .span .end) b (w .1) in
     record {
-      start-is = λ s k. g .0 ∙ ap boundBy (start-holds ss s k (few .0));
-      no-start = λ n. g .0 ∙ ap boundBy (start-none ss n);
-      end-is = λ t k. g .1 ∙ ap boundBy (end-holds ss t k (few .1));
-      no-end = λ n. g .1 ∙ ap boundBy (end-none ss n);
+      start-is = λ s k. g .0 ∙ ap boundBy (start-laws ss .holds s k (few .0));
+      no-start = λ n. g .0 ∙ ap boundBy (start-laws ss .absent n);
+      end-is = λ t k. g .1 ∙ ap boundBy (end-laws ss .holds t k (few .1));
+      no-end = λ n. g .1 ∙ ap boundBy (end-laws ss .absent n);
     }
 
 block-same : (a b : Block) → a .start ≡ b .start → a .end ≡ b .end → a ≡ b
@@ -252,9 +251,9 @@ block-is-one : (ss : List PropertyValue) (a b : Block) → BlockIs ss a → Bloc
 block-is-one ss a b p q =
     block-same a b
     (⊎-elim (λ n. p .no-start n ∙ sym (q .no-start n)) (λ s. p .start-is (s .0) (s .1) ∙ sym (q .start-is (s .0) (s .1)))
-    (none-or (linesNamed (ascii "DTSTART") ss) (start-line ss)))
+    (none-or (linesNamed (ascii "DTSTART") ss) (start-laws ss .line)))
     (⊎-elim (λ n. p .no-end n ∙ sym (q .no-end n)) (λ t. p .end-is (t .0) (t .1) ∙ sym (q .end-is (t .0) (t .1)))
-    (none-or (linesNamed (ascii "DTEND") ss) (end-line ss)))
+    (none-or (linesNamed (ascii "DTEND") ss) (end-laws ss .line)))
 
 -- THE THEOREM of which block: of lines as a VFREEBUSY has them, a block is read exactly where they keep its rules and say this block
 pub block-is-iff : (ss : List PropertyValue) → BlockLines ss → (b : Block)

@@ -48,18 +48,18 @@ or-true-right : (a : Bool) → (a || true) ≡ true
 or-true-right true = refl
 or-true-right false = refl
 
--- b: was it there before? n more follow this one
+-- a: does a property stand twice? b: was this one there before? n lines of it follow this one
 once-more : (a b : Bool) (n : ℕ) → (a || b) ≡ false → suc n ≤ 1 → countIf b (suc n) ≤ 1
 once-more a true n e h = clash (or-true-right a) e
 once-more a false n e h = h
 
-module _ (a b : Bool) (n : ℕ) where
-  fresh : a ≡ false → countIf b (suc n) ≤ 1 → ((a || b) ≡ false) × (countIf true n ≤ 1)
-  fresh e h = go b h
-    where
-      go : (b : Bool) → countIf b (suc n) ≤ 1 → ((a || b) ≡ false) × (suc n ≤ 1)
-      go true h = absurd (omega arith)
-      go false h = (rw e, h)
+still-once : (a b : Bool) (n : ℕ) → a ≡ false → countIf b (suc n) ≤ 1 → (a || b) ≡ false
+still-once a true n e h = absurd (omega arith)
+still-once a false n e h = rw e
+
+one-less : (b : Bool) (n : ℕ) → countIf b (suc n) ≤ 1 → suc n ≤ 1
+one-less true n h = omega arith
+one-less false n h = h
 
 abbrev Counts : ComponentProperties → List PropertyValue → Type 0
 Counts g ss =
@@ -96,24 +96,12 @@ counts-step g PropertyValue.Nothing ss h = h
 counts-step g PropertyValue.Unsupported ss h = h
 counts-step g PropertyValue.Bad ss h = h
 counts-step g (PropertyValue.HasPeriods b) ss h = h
-counts-step g (PropertyValue.Start t) ss h =
-    let f = fresh (g .repeated) _ _ (h .0) (h .1) in
-    (f .0, f .1, h .2, h .3, h .4, h .5, h .6)
-counts-step g (PropertyValue.End t) ss h =
-    let f = fresh (g .repeated) _ _ (h .0) (h .2) in
-    (f .0, h .1, f .1, h .3, h .4, h .5, h .6)
-counts-step g (PropertyValue.Lasts d) ss h =
-    let f = fresh (g .repeated) _ _ (h .0) (h .3) in
-    (f .0, h .1, h .2, f .1, h .4, h .5, h .6)
-counts-step g (PropertyValue.Repeats r) ss h =
-    let f = fresh (g .repeated) _ _ (h .0) (h .4) in
-    (f .0, h .1, h .2, h .3, f .1, h .5, h .6)
-counts-step g (PropertyValue.HasStatus x) ss h =
-    let f = fresh (g .repeated) _ _ (h .0) (h .5) in
-    (f .0, h .1, h .2, h .3, h .4, f .1, h .6)
-counts-step g (PropertyValue.Transparent x) ss h =
-    let f = fresh (g .repeated) _ _ (h .0) (h .6) in
-    (f .0, h .1, h .2, h .3, h .4, h .5, f .1)
+counts-step g (PropertyValue.Start t) ss h = (still-once (g .repeated) _ _ (h .0) (h .1), one-less (timeGiven (g .span .start)) _ (h .1), h .2, h .3, h .4, h .5, h .6)
+counts-step g (PropertyValue.End t) ss h = (still-once (g .repeated) _ _ (h .0) (h .2), h .1, one-less (timeGiven (g .span .end)) _ (h .2), h .3, h .4, h .5, h .6)
+counts-step g (PropertyValue.Lasts d) ss h = (still-once (g .repeated) _ _ (h .0) (h .3), h .1, h .2, one-less (durationGiven (g .span .lasts)) _ (h .3), h .4, h .5, h .6)
+counts-step g (PropertyValue.Repeats r) ss h = (still-once (g .repeated) _ _ (h .0) (h .4), h .1, h .2, h .3, one-less (ruleGiven (g .repeats)) _ (h .4), h .5, h .6)
+counts-step g (PropertyValue.HasStatus x) ss h = (still-once (g .repeated) _ _ (h .0) (h .5), h .1, h .2, h .3, h .4, one-less (statusGiven (g .busy .status)) _ (h .5), h .6)
+counts-step g (PropertyValue.Transparent x) ss h = (still-once (g .repeated) _ _ (h .0) (h .6), h .1, h .2, h .3, h .4, h .5, one-less (transparencyGiven (g .busy .transparency)) _ (h .6))
 
 count-one : (b : Bool) → countIf b 0 ≤ 1
 count-one true = omega arith
@@ -139,20 +127,53 @@ counted (s ∷ ss) g h = counted ss (withProperty g s) (counts-step g s ss h)
 
 -- ---- one property: what the lines say of it, and what is kept of them
 
--- a property: `con` makes what a line of it says, `field` is what is kept, and `given` that, where it is there
-record Kept (A O : Type 0) : Type 0 where
+-- a line s is of the property, or of another, and then its part of what is kept stays
+abbrev Step : (A O : Type 0) → List ℕ → (A → PropertyValue) → (ComponentProperties → O) → ComponentProperties → PropertyValue → Type 0
+Step A O name con field g s = ((sameBytes (propertyName s) name ≡ false) × (field (withProperty g s) ≡ field g)) ⊎ ((a : A) × (s ≡ con a))
+
+-- the part of a property in what is kept: what a line says of it, or none
+pub record Part (A O : Type 0) : Type 0 where
+  pub given : A → O
+  pub none : O
+
+-- it tells what was given, and that something was
+record Tells {A O : Type 0} (p : Part A O) : Type 0 where
+  same : (a b : A) → p .given a ≡ p .given b → a ≡ b
+  apart : (a : A) → p .none ≡ p .given a → ⊥
+
+-- a property: `con` makes what a line of it says, and `field` is its part
+record Kept (A O : Type 0) (p : Part A O) : Type 0 where
   name : List ℕ
   con : A → PropertyValue
-  given : A → O
   field : ComponentProperties → O
-  same : (a b : A) → given a ≡ given b → a ≡ b
+  tells : Tells p
   named : (a : A) → sameBytes (propertyName (con a)) name ≡ true
-  sets : (g : ComponentProperties) (a : A) → field (withProperty g (con a)) ≡ given a
-  step : (g : ComponentProperties) (s : PropertyValue)
-      → ((sameBytes (propertyName s) name ≡ false) × (field (withProperty g s) ≡ field g)) ⊎ ((a : A) × (s ≡ con a))
+  first : field noProperties ≡ p .none
+  sets : (g : ComponentProperties) (a : A) → field (withProperty g (con a)) ≡ p .given a
+  step : (g : ComponentProperties) (s : PropertyValue) → Step A O name con field g s
 
-module _ {A O : Type 0} (k : Kept A O) where
-  open Kept k using (name, con, given, field, same, named, sets, step)
+abbrev kept-of : {A O : Type 0} {p : Part A O} (name : List ℕ) (con : A → PropertyValue) (field : ComponentProperties → O) → Tells p
+    → ((a : A) → sameBytes (propertyName (con a)) name ≡ true) → field noProperties ≡ p .none
+    → ((g : ComponentProperties) (a : A) → field (withProperty g (con a)) ≡ p .given a)
+    → ((g : ComponentProperties) (s : PropertyValue) → Step A O name con field g s) → Kept A O p
+kept-of name con field tells named first sets step =
+    record { name = name; con = con; field = field; tells = tells; named = named; first = first; sets = sets; step = step }
+
+-- what the lines of a component say together
+abbrev pub together : List PropertyValue → ComponentProperties
+together ss = withProperties noProperties ss
+
+-- THE LAWS of a property: its part of what the lines say together, by the lines of it
+pub record KeptLaws {A O : Type 0} (p : Part A O) (name : List ℕ) (con : A → PropertyValue) (part : O) (ss : List PropertyValue) : Type 0 where
+  pub said : (a : A) → part ≡ p .given a → List·Memᴰ (con a) ss
+  pub holds : (a : A) → List·Memᴰ (con a) ss → linesNamed name ss ≤ 1 → part ≡ p .given a
+  pub absent : linesNamed name ss ≡ 0 → part ≡ p .none
+  pub line : 1 ≤ linesNamed name ss → (a : A) × List·Memᴰ (con a) ss
+  pub counts : (a : A) → List·Memᴰ (con a) ss → 1 ≤ linesNamed name ss
+
+module _ {A O : Type 0} {p : Part A O} (k : Kept A O p) where
+  open Part p using (given)
+  open Kept k using (name, con, field, tells, named, first, sets, step)
 
   abbrev many : List PropertyValue → ℕ
   many ss = linesNamed name ss
@@ -182,19 +203,19 @@ module _ {A O : Type 0} (k : Kept A O) where
       ⊎-elim (λ w. stays ss (withProperty g s) (omega (arith, many-less s ss)) ∙ w .1) (λ w. absurd (omega (arith, many-more (w .0) s ss (w .1)))) (step g s)
 
   -- what is kept was said by a line
-  said : (ss : List PropertyValue) (g : ComponentProperties) (a : A) → field (withProperties g ss) ≡ given a → (field g ≡ given a) ⊎ List·Memᴰ (con a) ss
+  said-by : (ss : List PropertyValue) (g : ComponentProperties) (a : A) → field (withProperties g ss) ≡ given a → (field g ≡ given a) ⊎ List·Memᴰ (con a) ss
   unfolding withProperties
-  said [] g a e = inl e
-  said (s ∷ ss) g a e =
+  said-by [] g a e = inl e
+  said-by (s ∷ ss) g a e =
       ⊎-elim
       (λ h.
       ⊎-elim (λ w. inl (sym (w .1) ∙ h))
       (λ w.
       let q : field (withProperty g s) ≡ given (w .0) = ap (λ (x : PropertyValue). field (withProperty g x)) (w .1) ∙ sets g (w .0) in
-      let z : w .0 ≡ a = same (w .0) a (sym q ∙ h) in
+      let z : w .0 ≡ a = tells .same (w .0) a (sym q ∙ h) in
       inr (List·Memᴰ·head (ap con (sym z) ∙ sym (w .1))))
       (step g s))
-      (λ m. inr (List·Memᴰ·tail m)) (said ss (withProperty g s) a e)
+      (λ m. inr (List·Memᴰ·tail m)) (said-by ss (withProperty g s) a e)
 
   -- what a line says is kept, where there is one line at most
   kept : (ss : List PropertyValue) (g : ComponentProperties) (a : A) → List·Memᴰ (con a) ss → many ss ≤ 1 → field (withProperties g ss) ≡ given a
@@ -215,194 +236,93 @@ module _ {A O : Type 0} (k : Kept A O) where
   line-counts (s ∷ ss) a (List·Memᴰ·head e) = omega (arith, many-more a s ss (sym e))
   line-counts (s ∷ ss) a (List·Memᴰ·tail m) = omega (arith, many-less s ss, line-counts ss a m)
 
--- the six properties of an event
+  kept-laws : (ss : List PropertyValue) → KeptLaws p name con (field (together ss)) ss
+  kept-laws ss =
+      record {
+        said = λ a e. ⊎-elim (λ h. absurd (tells .apart a (sym first ∙ h))) (λ m. m) (said-by ss noProperties a e);
+        holds = λ a m h. kept ss noProperties a m h;
+        absent = λ h. stays ss noProperties (omega arith) ∙ first;
+        line = λ h. some-line noProperties ss h;
+        counts = λ a m. line-counts ss a m;
+      }
 
-start-same : (a b : Time) → TimeGiven.Given a ≡ TimeGiven.Given b → a ≡ b
-start-same a b e = cc
+-- ---- the six properties of an event
 
-start-step : (g : ComponentProperties) (s : PropertyValue)
-    → ((sameBytes (propertyName s) (ascii "DTSTART") ≡ false) × (withProperty g s .span .start ≡ g .span .start)) ⊎ ((a : Time) × (s ≡ PropertyValue.Start a))
+-- a line is of one of them, or of none
+steps : (g : ComponentProperties) (s : PropertyValue)
+    → Step Time TimeGiven (ascii "DTSTART") (λ a. PropertyValue.Start a) (λ x. x .span .start) g s
+    × Step Time TimeGiven (ascii "DTEND") (λ a. PropertyValue.End a) (λ x. x .span .end) g s
+    × Step Duration DurationGiven (ascii "DURATION") (λ a. PropertyValue.Lasts a) (λ x. x .span .lasts) g s
+    × Step Rule RuleGiven (ascii "RRULE") (λ a. PropertyValue.Repeats a) (λ x. x .repeats) g s
+    × Step Status StatusGiven (ascii "STATUS") (λ a. PropertyValue.HasStatus a) (λ x. x .busy .status) g s
+    × Step Bool TransparencyGiven (ascii "TRANSP") (λ a. PropertyValue.Transparent a) (λ x. x .busy .transparency) g s
 unfolding withProperty withSpan withBusy propertyName
-start-step g PropertyValue.Nothing = inl (refl, refl)
-start-step g PropertyValue.Unsupported = inl (refl, refl)
-start-step g PropertyValue.Bad = inl (refl, refl)
-start-step g (PropertyValue.Start t) = inr (t, refl)
-start-step g (PropertyValue.End t) = inl (refl, refl)
-start-step g (PropertyValue.Lasts d) = inl (refl, refl)
-start-step g (PropertyValue.Repeats r) = inl (refl, refl)
-start-step g (PropertyValue.HasStatus x) = inl (refl, refl)
-start-step g (PropertyValue.Transparent x) = inl (refl, refl)
-start-step g (PropertyValue.HasPeriods b) = inl (refl, refl)
+steps g PropertyValue.Nothing = (inl (refl, refl), inl (refl, refl), inl (refl, refl), inl (refl, refl), inl (refl, refl), inl (refl, refl))
+steps g PropertyValue.Unsupported = (inl (refl, refl), inl (refl, refl), inl (refl, refl), inl (refl, refl), inl (refl, refl), inl (refl, refl))
+steps g PropertyValue.Bad = (inl (refl, refl), inl (refl, refl), inl (refl, refl), inl (refl, refl), inl (refl, refl), inl (refl, refl))
+steps g (PropertyValue.Start t) = (inr (t, refl), inl (refl, refl), inl (refl, refl), inl (refl, refl), inl (refl, refl), inl (refl, refl))
+steps g (PropertyValue.End t) = (inl (refl, refl), inr (t, refl), inl (refl, refl), inl (refl, refl), inl (refl, refl), inl (refl, refl))
+steps g (PropertyValue.Lasts d) = (inl (refl, refl), inl (refl, refl), inr (d, refl), inl (refl, refl), inl (refl, refl), inl (refl, refl))
+steps g (PropertyValue.Repeats r) = (inl (refl, refl), inl (refl, refl), inl (refl, refl), inr (r, refl), inl (refl, refl), inl (refl, refl))
+steps g (PropertyValue.HasStatus x) = (inl (refl, refl), inl (refl, refl), inl (refl, refl), inl (refl, refl), inr (x, refl), inl (refl, refl))
+steps g (PropertyValue.Transparent x) = (inl (refl, refl), inl (refl, refl), inl (refl, refl), inl (refl, refl), inl (refl, refl), inr (x, refl))
+steps g (PropertyValue.HasPeriods b) = (inl (refl, refl), inl (refl, refl), inl (refl, refl), inl (refl, refl), inl (refl, refl), inl (refl, refl))
 
-start-kept : Kept Time TimeGiven
-unfolding withProperty withSpan propertyName
-start-kept =
-    record {
-      name = ascii "DTSTART";
-      con = λ a. PropertyValue.Start a;
-      given = λ a. TimeGiven.Given a;
-      field = λ g. g .span .start;
-      same = start-same;
-      named = λ a. refl;
-      sets = λ g a. refl;
-      step = start-step;
-    }
+-- the parts, by what they hold
+abbrev pub time-part : Part Time TimeGiven
+time-part = record { given = λ a. TimeGiven.Given a; none = TimeGiven.Absent }
 
-end-same : (a b : Time) → TimeGiven.Given a ≡ TimeGiven.Given b → a ≡ b
-end-same a b e = cc
+time-tells : Tells time-part
+time-tells = record { same = λ a b e. cc; apart = λ a e. let z : _≡_ {A = ℕ} 0 1 = cc in absurd (omega arith) }
 
-end-step : (g : ComponentProperties) (s : PropertyValue)
-    → ((sameBytes (propertyName s) (ascii "DTEND") ≡ false) × (withProperty g s .span .end ≡ g .span .end)) ⊎ ((a : Time) × (s ≡ PropertyValue.End a))
-unfolding withProperty withSpan withBusy propertyName
-end-step g PropertyValue.Nothing = inl (refl, refl)
-end-step g PropertyValue.Unsupported = inl (refl, refl)
-end-step g PropertyValue.Bad = inl (refl, refl)
-end-step g (PropertyValue.Start t) = inl (refl, refl)
-end-step g (PropertyValue.End t) = inr (t, refl)
-end-step g (PropertyValue.Lasts d) = inl (refl, refl)
-end-step g (PropertyValue.Repeats r) = inl (refl, refl)
-end-step g (PropertyValue.HasStatus x) = inl (refl, refl)
-end-step g (PropertyValue.Transparent x) = inl (refl, refl)
-end-step g (PropertyValue.HasPeriods b) = inl (refl, refl)
+abbrev pub duration-part : Part Duration DurationGiven
+duration-part = record { given = λ a. DurationGiven.Given a; none = DurationGiven.Absent }
 
-end-kept : Kept Time TimeGiven
-unfolding withProperty withSpan propertyName
-end-kept =
-    record {
-      name = ascii "DTEND";
-      con = λ a. PropertyValue.End a;
-      given = λ a. TimeGiven.Given a;
-      field = λ g. g .span .end;
-      same = end-same;
-      named = λ a. refl;
-      sets = λ g a. refl;
-      step = end-step;
-    }
+duration-tells : Tells duration-part
+duration-tells = record { same = λ a b e. cc; apart = λ a e. let z : _≡_ {A = ℕ} 0 1 = cc in absurd (omega arith) }
 
-lasts-same : (a b : Duration) → DurationGiven.Given a ≡ DurationGiven.Given b → a ≡ b
-lasts-same a b e = cc
+abbrev pub rule-part : Part Rule RuleGiven
+rule-part = record { given = λ a. RuleGiven.Given a; none = RuleGiven.Absent }
 
-lasts-step : (g : ComponentProperties) (s : PropertyValue)
-    → ((sameBytes (propertyName s) (ascii "DURATION") ≡ false) × (withProperty g s .span .lasts ≡ g .span .lasts)) ⊎ ((a : Duration) × (s ≡ PropertyValue.Lasts a))
-unfolding withProperty withSpan withBusy propertyName
-lasts-step g PropertyValue.Nothing = inl (refl, refl)
-lasts-step g PropertyValue.Unsupported = inl (refl, refl)
-lasts-step g PropertyValue.Bad = inl (refl, refl)
-lasts-step g (PropertyValue.Start t) = inl (refl, refl)
-lasts-step g (PropertyValue.End t) = inl (refl, refl)
-lasts-step g (PropertyValue.Lasts d) = inr (d, refl)
-lasts-step g (PropertyValue.Repeats r) = inl (refl, refl)
-lasts-step g (PropertyValue.HasStatus x) = inl (refl, refl)
-lasts-step g (PropertyValue.Transparent x) = inl (refl, refl)
-lasts-step g (PropertyValue.HasPeriods b) = inl (refl, refl)
+rule-tells : Tells rule-part
+rule-tells = record { same = λ a b e. cc; apart = λ a e. let z : _≡_ {A = ℕ} 0 1 = cc in absurd (omega arith) }
 
-lasts-kept : Kept Duration DurationGiven
-unfolding withProperty withSpan propertyName
-lasts-kept =
-    record {
-      name = ascii "DURATION";
-      con = λ a. PropertyValue.Lasts a;
-      given = λ a. DurationGiven.Given a;
-      field = λ g. g .span .lasts;
-      same = lasts-same;
-      named = λ a. refl;
-      sets = λ g a. refl;
-      step = lasts-step;
-    }
+abbrev pub status-part : Part Status StatusGiven
+status-part = record { given = λ a. StatusGiven.Given a; none = StatusGiven.Absent }
 
-repeats-same : (a b : Rule) → RuleGiven.Given a ≡ RuleGiven.Given b → a ≡ b
-repeats-same a b e = cc
+status-tells : Tells status-part
+status-tells = record { same = λ a b e. cc; apart = λ a e. let z : _≡_ {A = ℕ} 0 1 = cc in absurd (omega arith) }
 
-repeats-step : (g : ComponentProperties) (s : PropertyValue)
-    → ((sameBytes (propertyName s) (ascii "RRULE") ≡ false) × (withProperty g s .repeats ≡ g .repeats)) ⊎ ((a : Rule) × (s ≡ PropertyValue.Repeats a))
-unfolding withProperty withSpan withBusy propertyName
-repeats-step g PropertyValue.Nothing = inl (refl, refl)
-repeats-step g PropertyValue.Unsupported = inl (refl, refl)
-repeats-step g PropertyValue.Bad = inl (refl, refl)
-repeats-step g (PropertyValue.Start t) = inl (refl, refl)
-repeats-step g (PropertyValue.End t) = inl (refl, refl)
-repeats-step g (PropertyValue.Lasts d) = inl (refl, refl)
-repeats-step g (PropertyValue.Repeats r) = inr (r, refl)
-repeats-step g (PropertyValue.HasStatus x) = inl (refl, refl)
-repeats-step g (PropertyValue.Transparent x) = inl (refl, refl)
-repeats-step g (PropertyValue.HasPeriods b) = inl (refl, refl)
+abbrev pub transparency-part : Part Bool TransparencyGiven
+transparency-part = record { given = λ a. TransparencyGiven.Given a; none = TransparencyGiven.Absent }
 
-repeats-kept : Kept Rule RuleGiven
-unfolding withProperty withSpan propertyName
-repeats-kept =
-    record {
-      name = ascii "RRULE";
-      con = λ a. PropertyValue.Repeats a;
-      given = λ a. RuleGiven.Given a;
-      field = λ g. g .repeats;
-      same = repeats-same;
-      named = λ a. refl;
-      sets = λ g a. refl;
-      step = repeats-step;
-    }
+transparency-tells : Tells transparency-part
+transparency-tells = record { same = λ a b e. cc; apart = λ a e. let z : _≡_ {A = ℕ} 0 1 = cc in absurd (omega arith) }
 
-status-same : (a b : Status) → StatusGiven.Given a ≡ StatusGiven.Given b → a ≡ b
-status-same a b e = cc
+-- each property, with its name and its place
+start-kept : Kept Time TimeGiven time-part
+unfolding noProperties withProperty withSpan propertyName
+start-kept = kept-of (ascii "DTSTART") (λ a. PropertyValue.Start a) (λ g. g .span .start) time-tells (λ a. refl) refl (λ g a. refl) (λ g s. steps g s .0)
 
-status-step : (g : ComponentProperties) (s : PropertyValue)
-    → ((sameBytes (propertyName s) (ascii "STATUS") ≡ false) × (withProperty g s .busy .status ≡ g .busy .status)) ⊎ ((a : Status) × (s ≡ PropertyValue.HasStatus a))
-unfolding withProperty withSpan withBusy propertyName
-status-step g PropertyValue.Nothing = inl (refl, refl)
-status-step g PropertyValue.Unsupported = inl (refl, refl)
-status-step g PropertyValue.Bad = inl (refl, refl)
-status-step g (PropertyValue.Start t) = inl (refl, refl)
-status-step g (PropertyValue.End t) = inl (refl, refl)
-status-step g (PropertyValue.Lasts d) = inl (refl, refl)
-status-step g (PropertyValue.Repeats r) = inl (refl, refl)
-status-step g (PropertyValue.HasStatus x) = inr (x, refl)
-status-step g (PropertyValue.Transparent x) = inl (refl, refl)
-status-step g (PropertyValue.HasPeriods b) = inl (refl, refl)
+end-kept : Kept Time TimeGiven time-part
+unfolding noProperties withProperty withSpan propertyName
+end-kept = kept-of (ascii "DTEND") (λ a. PropertyValue.End a) (λ g. g .span .end) time-tells (λ a. refl) refl (λ g a. refl) (λ g s. steps g s .1)
 
-status-kept : Kept Status StatusGiven
-unfolding withProperty withBusy propertyName
-status-kept =
-    record {
-      name = ascii "STATUS";
-      con = λ a. PropertyValue.HasStatus a;
-      given = λ a. StatusGiven.Given a;
-      field = λ g. g .busy .status;
-      same = status-same;
-      named = λ a. refl;
-      sets = λ g a. refl;
-      step = status-step;
-    }
+lasts-kept : Kept Duration DurationGiven duration-part
+unfolding noProperties withProperty withSpan propertyName
+lasts-kept = kept-of (ascii "DURATION") (λ a. PropertyValue.Lasts a) (λ g. g .span .lasts) duration-tells (λ a. refl) refl (λ g a. refl) (λ g s. steps g s .2)
 
-transparency-same : (a b : Bool) → TransparencyGiven.Given a ≡ TransparencyGiven.Given b → a ≡ b
-transparency-same a b e = cc
+repeats-kept : Kept Rule RuleGiven rule-part
+unfolding noProperties withProperty propertyName
+repeats-kept = kept-of (ascii "RRULE") (λ a. PropertyValue.Repeats a) (λ g. g .repeats) rule-tells (λ a. refl) refl (λ g a. refl) (λ g s. steps g s .3)
 
-transparency-step : (g : ComponentProperties) (s : PropertyValue)
-    → ((sameBytes (propertyName s) (ascii "TRANSP") ≡ false) × (withProperty g s .busy .transparency ≡ g .busy .transparency))
-    ⊎ ((a : Bool) × (s ≡ PropertyValue.Transparent a))
-unfolding withProperty withSpan withBusy propertyName
-transparency-step g PropertyValue.Nothing = inl (refl, refl)
-transparency-step g PropertyValue.Unsupported = inl (refl, refl)
-transparency-step g PropertyValue.Bad = inl (refl, refl)
-transparency-step g (PropertyValue.Start t) = inl (refl, refl)
-transparency-step g (PropertyValue.End t) = inl (refl, refl)
-transparency-step g (PropertyValue.Lasts d) = inl (refl, refl)
-transparency-step g (PropertyValue.Repeats r) = inl (refl, refl)
-transparency-step g (PropertyValue.HasStatus x) = inl (refl, refl)
-transparency-step g (PropertyValue.Transparent x) = inr (x, refl)
-transparency-step g (PropertyValue.HasPeriods b) = inl (refl, refl)
+status-kept : Kept Status StatusGiven status-part
+unfolding noProperties withProperty withBusy propertyName
+status-kept = kept-of (ascii "STATUS") (λ a. PropertyValue.HasStatus a) (λ g. g .busy .status) status-tells (λ a. refl) refl (λ g a. refl) (λ g s. steps g s .4)
 
-transparency-kept : Kept Bool TransparencyGiven
-unfolding withProperty withBusy propertyName
-transparency-kept =
-    record {
-      name = ascii "TRANSP";
-      con = λ a. PropertyValue.Transparent a;
-      given = λ a. TransparencyGiven.Given a;
-      field = λ g. g .busy .transparency;
-      same = transparency-same;
-      named = λ a. refl;
-      sets = λ g a. refl;
-      step = transparency-step;
-    }
+transparency-kept : Kept Bool TransparencyGiven transparency-part
+unfolding noProperties withProperty withBusy propertyName
+transparency-kept = kept-of (ascii "TRANSP") (λ a. PropertyValue.Transparent a) (λ g. g .busy .transparency) transparency-tells (λ a. refl) refl (λ g a. refl) (λ g s. steps g s .5)
 
 -- ---- kinds, and the tests of DTEND, DURATION and UNTIL
 
@@ -486,10 +406,6 @@ module _ (s : Time) where
   until-of-fits t f = rw (is-same-kind t s (f .same-kind), le-leb _ _ (f .not-before))
 
 -- ---- a VEVENT
-
--- what the lines of a component say together
-abbrev pub together : List PropertyValue → ComponentProperties
-together ss = withProperties noProperties ss
 
 -- what must stand in g for an event to be read
 pub record Made (g : ComponentProperties) : Type 0 where
@@ -593,106 +509,30 @@ module _ (ss : List PropertyValue) where
   unfolding noProperties timeGiven durationGiven ruleGiven statusGiven transparencyGiven
   lines-few a b c d e f = counted ss noProperties (refl, a, b, c, d, e, f)
 
-  -- the laws of what is kept, at each of the six properties
-  start-said : (t : Time) → together ss .span .start ≡ TimeGiven.Given t → List·Memᴰ (PropertyValue.Start t) ss
-  unfolding noProperties start-kept
-  start-said t q = ⊎-elim (λ h. let z : _≡_ {A = ℕ} 0 1 = cc in absurd (omega arith)) (λ m. m) (said start-kept ss noProperties t q)
-
-  pub start-holds : (t : Time) → List·Memᴰ (PropertyValue.Start t) ss → linesNamed (ascii "DTSTART") ss ≤ 1 → together ss .span .start ≡ TimeGiven.Given t
+  -- the laws of each of the six properties
+  pub start-laws : KeptLaws time-part (ascii "DTSTART") (λ a. PropertyValue.Start a) (together ss .span .start) ss
   unfolding start-kept
-  start-holds t m h = kept start-kept ss noProperties t m h
+  start-laws = kept-laws start-kept ss
 
-  pub start-none : linesNamed (ascii "DTSTART") ss ≡ 0 → together ss .span .start ≡ TimeGiven.Absent
-  unfolding noProperties start-kept
-  start-none h = stays start-kept ss noProperties (omega arith)
-
-  pub start-line : 1 ≤ linesNamed (ascii "DTSTART") ss → (t : Time) × List·Memᴰ (PropertyValue.Start t) ss
-  unfolding start-kept
-  start-line h = some-line start-kept noProperties ss h
-
-  start-counts : (t : Time) → List·Memᴰ (PropertyValue.Start t) ss → 1 ≤ linesNamed (ascii "DTSTART") ss
-  unfolding start-kept
-  start-counts t m = line-counts start-kept ss t m
-
-  end-said : (t : Time) → together ss .span .end ≡ TimeGiven.Given t → List·Memᴰ (PropertyValue.End t) ss
-  unfolding noProperties end-kept
-  end-said t q = ⊎-elim (λ h. let z : _≡_ {A = ℕ} 0 1 = cc in absurd (omega arith)) (λ m. m) (said end-kept ss noProperties t q)
-
-  pub end-holds : (t : Time) → List·Memᴰ (PropertyValue.End t) ss → linesNamed (ascii "DTEND") ss ≤ 1 → together ss .span .end ≡ TimeGiven.Given t
+  pub end-laws : KeptLaws time-part (ascii "DTEND") (λ a. PropertyValue.End a) (together ss .span .end) ss
   unfolding end-kept
-  end-holds t m h = kept end-kept ss noProperties t m h
+  end-laws = kept-laws end-kept ss
 
-  pub end-none : linesNamed (ascii "DTEND") ss ≡ 0 → together ss .span .end ≡ TimeGiven.Absent
-  unfolding noProperties end-kept
-  end-none h = stays end-kept ss noProperties (omega arith)
-
-  pub end-line : 1 ≤ linesNamed (ascii "DTEND") ss → (t : Time) × List·Memᴰ (PropertyValue.End t) ss
-  unfolding end-kept
-  end-line h = some-line end-kept noProperties ss h
-
-  end-counts : (t : Time) → List·Memᴰ (PropertyValue.End t) ss → 1 ≤ linesNamed (ascii "DTEND") ss
-  unfolding end-kept
-  end-counts t m = line-counts end-kept ss t m
-
-  lasts-said : (d : Duration) → together ss .span .lasts ≡ DurationGiven.Given d → List·Memᴰ (PropertyValue.Lasts d) ss
-  unfolding noProperties lasts-kept
-  lasts-said d q = ⊎-elim (λ h. let z : _≡_ {A = ℕ} 0 1 = cc in absurd (omega arith)) (λ m. m) (said lasts-kept ss noProperties d q)
-
-  pub lasts-holds : (d : Duration) → List·Memᴰ (PropertyValue.Lasts d) ss → linesNamed (ascii "DURATION") ss ≤ 1 → together ss .span .lasts ≡ DurationGiven.Given d
+  pub lasts-laws : KeptLaws duration-part (ascii "DURATION") (λ a. PropertyValue.Lasts a) (together ss .span .lasts) ss
   unfolding lasts-kept
-  lasts-holds d m h = kept lasts-kept ss noProperties d m h
+  lasts-laws = kept-laws lasts-kept ss
 
-  pub lasts-none : linesNamed (ascii "DURATION") ss ≡ 0 → together ss .span .lasts ≡ DurationGiven.Absent
-  unfolding noProperties lasts-kept
-  lasts-none h = stays lasts-kept ss noProperties (omega arith)
-
-  pub lasts-line : 1 ≤ linesNamed (ascii "DURATION") ss → (d : Duration) × List·Memᴰ (PropertyValue.Lasts d) ss
-  unfolding lasts-kept
-  lasts-line h = some-line lasts-kept noProperties ss h
-
-  lasts-counts : (d : Duration) → List·Memᴰ (PropertyValue.Lasts d) ss → 1 ≤ linesNamed (ascii "DURATION") ss
-  unfolding lasts-kept
-  lasts-counts d m = line-counts lasts-kept ss d m
-
-  repeats-said : (r : Rule) → together ss .repeats ≡ RuleGiven.Given r → List·Memᴰ (PropertyValue.Repeats r) ss
-  unfolding noProperties repeats-kept
-  repeats-said r q = ⊎-elim (λ h. let z : _≡_ {A = ℕ} 0 1 = cc in absurd (omega arith)) (λ m. m) (said repeats-kept ss noProperties r q)
-
-  pub repeats-holds : (r : Rule) → List·Memᴰ (PropertyValue.Repeats r) ss → linesNamed (ascii "RRULE") ss ≤ 1 → together ss .repeats ≡ RuleGiven.Given r
+  pub repeats-laws : KeptLaws rule-part (ascii "RRULE") (λ a. PropertyValue.Repeats a) (together ss .repeats) ss
   unfolding repeats-kept
-  repeats-holds r m h = kept repeats-kept ss noProperties r m h
+  repeats-laws = kept-laws repeats-kept ss
 
-  pub repeats-none : linesNamed (ascii "RRULE") ss ≡ 0 → together ss .repeats ≡ RuleGiven.Absent
-  unfolding noProperties repeats-kept
-  repeats-none h = stays repeats-kept ss noProperties (omega arith)
-
-  pub repeats-line : 1 ≤ linesNamed (ascii "RRULE") ss → (r : Rule) × List·Memᴰ (PropertyValue.Repeats r) ss
-  unfolding repeats-kept
-  repeats-line h = some-line repeats-kept noProperties ss h
-
-  repeats-counts : (r : Rule) → List·Memᴰ (PropertyValue.Repeats r) ss → 1 ≤ linesNamed (ascii "RRULE") ss
-  unfolding repeats-kept
-  repeats-counts r m = line-counts repeats-kept ss r m
-
-  pub status-holds : (v : Status) → List·Memᴰ (PropertyValue.HasStatus v) ss → linesNamed (ascii "STATUS") ss ≤ 1 → together ss .busy .status ≡ StatusGiven.Given v
+  pub status-laws : KeptLaws status-part (ascii "STATUS") (λ a. PropertyValue.HasStatus a) (together ss .busy .status) ss
   unfolding status-kept
-  status-holds v m h = kept status-kept ss noProperties v m h
+  status-laws = kept-laws status-kept ss
 
-  pub status-none : linesNamed (ascii "STATUS") ss ≡ 0 → together ss .busy .status ≡ StatusGiven.Absent
-  unfolding noProperties status-kept
-  status-none h = stays status-kept ss noProperties (omega arith)
-
-  pub status-line : 1 ≤ linesNamed (ascii "STATUS") ss → (v : Status) × List·Memᴰ (PropertyValue.HasStatus v) ss
-  unfolding status-kept
-  status-line h = some-line status-kept noProperties ss h
-
-  pub transparency-said : (v : Bool) → together ss .busy .transparency ≡ TransparencyGiven.Given v → List·Memᴰ (PropertyValue.Transparent v) ss
-  unfolding noProperties transparency-kept
-  transparency-said v q = ⊎-elim (λ h. let z : _≡_ {A = ℕ} 0 1 = cc in absurd (omega arith)) (λ m. m) (said transparency-kept ss noProperties v q)
-
-  pub transparency-holds : (v : Bool) → List·Memᴰ (PropertyValue.Transparent v) ss → linesNamed (ascii "TRANSP") ss ≤ 1 → together ss .busy .transparency ≡ TransparencyGiven.Given v
+  pub transparency-laws : KeptLaws transparency-part (ascii "TRANSP") (λ a. PropertyValue.Transparent a) (together ss .busy .transparency) ss
   unfolding transparency-kept
-  transparency-holds v m h = kept transparency-kept ss noProperties v m h
+  transparency-laws = kept-laws transparency-kept ss
 
   module _ (m : Made (together ss)) where
     few : (linesNamed (ascii "DTSTART") ss ≤ 1)
@@ -705,36 +545,36 @@ module _ (ss : List PropertyValue) where
 
     -- a DTSTART line says the start
     pub the-start : (s : Time) → List·Memᴰ (PropertyValue.Start s) ss → m .start ≡ s
-    the-start s k = start-same (m .start) s (sym (m .start-given) ∙ start-holds s k (few .0))
+    the-start s k = let q : TimeGiven.Given (m .start) ≡ TimeGiven.Given s = sym (m .start-given) ∙ start-laws .holds s k (few .0) in cc
 
     made-not-both : (a b : ℕ) → linesNamed (ascii "DTEND") ss ≡ a → linesNamed (ascii "DURATION") ss ≡ b → a ≤ 1 → b ≤ 1 → a + b ≤ 1
     made-not-both zero b p q h k = omega arith
     made-not-both (suc a) zero p q h k = omega arith
     made-not-both (suc a) (suc b) p q h k =
-        let e = end-line (omega arith) in
-        let d = lasts-line (omega arith) in
-        let f : together ss .span .end ≡ TimeGiven.Given (e .0) = end-holds (e .0) (e .1) (few .1) in
-        let g : together ss .span .lasts ≡ DurationGiven.Given (d .0) = lasts-holds (d .0) (d .1) (few .2) in
+        let e = end-laws .line (omega arith) in
+        let d = lasts-laws .line (omega arith) in
+        let f : together ss .span .end ≡ TimeGiven.Given (e .0) = end-laws .holds (e .0) (e .1) (few .1) in
+        let g : together ss .span .lasts ≡ DurationGiven.Given (d .0) = lasts-laws .holds (d .0) (d .1) (few .2) in
         both-read (m .start) (e .0) (d .0) (m .ending) (rw (f, g) at (m .ending-read))
 
     made-end : (s e : Time) → List·Memᴰ (PropertyValue.Start s) ss → List·Memᴰ (PropertyValue.End e) ss → EndFits s e
     made-end s e k l =
-        let f : together ss .span .end ≡ TimeGiven.Given e = end-holds e l (few .1) in
+        let f : together ss .span .end ≡ TimeGiven.Given e = end-laws .holds e l (few .1) in
         subst (λ (x : Time). EndFits x e) (the-start s k) (end-read (m .start) e (together ss .span .lasts) (m .ending) (rw f at (m .ending-read)))
 
     made-duration : (s : Time) (d : Duration) → List·Memᴰ (PropertyValue.Start s) ss → List·Memᴰ (PropertyValue.Lasts d) ss → DurationFits s d
     made-duration s d k l =
-        let f : together ss .span .lasts ≡ DurationGiven.Given d = lasts-holds d l (few .2) in
+        let f : together ss .span .lasts ≡ DurationGiven.Given d = lasts-laws .holds d l (few .2) in
         subst (λ (x : Time). DurationFits x d) (the-start s k) (duration-read (m .start) (together ss .span .end) d (m .ending) (rw f at (m .ending-read)))
 
     made-until : (s : Time) (r : Rule) (t : Time) → List·Memᴰ (PropertyValue.Start s) ss → List·Memᴰ (PropertyValue.Repeats r) ss → r .limit ≡ Limit.Until t → UntilFits s t
     made-until s r t k l q =
-        let f : together ss .repeats ≡ RuleGiven.Given r = repeats-holds r l (few .3) in
+        let f : together ss .repeats ≡ RuleGiven.Given r = repeats-laws .holds r l (few .3) in
         subst (λ (x : Time). UntilFits x t) (the-start s k) (until-read (m .start) r t (m .repeat) q (rw f at (m .repeat-read)))
 
     made-rules : EventRules ss
     made-rules =
-        let k : 1 ≤ linesNamed (ascii "DTSTART") ss = start-counts (m .start) (start-said (m .start) (m .start-given)) in
+        let k : 1 ≤ linesNamed (ascii "DTSTART") ss = start-laws .counts (m .start) (start-laws .said (m .start) (m .start-given)) in
         record {
           one-start = omega (arith, few .0);
           few-ends = few .1;
@@ -751,21 +591,21 @@ module _ (ss : List PropertyValue) where
   module _ (w : EventRules ss) where
     no-two : (e : Time) (d : Duration) → together ss .span .end ≡ TimeGiven.Given e → together ss .span .lasts ≡ DurationGiven.Given d → ⊥
     no-two e d p q =
-        let a : 1 ≤ linesNamed (ascii "DTEND") ss = end-counts e (end-said e p) in
-        let b : 1 ≤ linesNamed (ascii "DURATION") ss = lasts-counts d (lasts-said d q) in
+        let a : 1 ≤ linesNamed (ascii "DTEND") ss = end-laws .counts e (end-laws .said e p) in
+        let b : 1 ≤ linesNamed (ascii "DURATION") ss = lasts-laws .counts d (lasts-laws .said d q) in
         absurd (omega (arith, w .not-both))
 
     rules-made : Made (together ss)
     rules-made =
-        let s = start-line (omega (arith, w .one-start)) in
+        let s = start-laws .line (omega (arith, w .one-start)) in
         let y =
-        ending-made (s .0) (together ss .span .end) (together ss .span .lasts) (λ e q. w .end-fits (s .0) e (s .1) (end-said e q))
-        (λ d q. w .duration-fits (s .0) d (s .1) (lasts-said d q)) no-two in
-        let z = repeat-made (s .0) (together ss .repeats) (λ r t q l. w .until-fits (s .0) r t (s .1) (repeats-said r q) l) in
+        ending-made (s .0) (together ss .span .end) (together ss .span .lasts) (λ e q. w .end-fits (s .0) e (s .1) (end-laws .said e q))
+        (λ d q. w .duration-fits (s .0) d (s .1) (lasts-laws .said d q)) no-two in
+        let z = repeat-made (s .0) (together ss .repeats) (λ r t q l. w .until-fits (s .0) r t (s .1) (repeats-laws .said r q) l) in
         record {
           not-twice = lines-few (omega (arith, w .one-start)) (w .few-ends) (w .few-durations) (w .few-rules) (w .few-statuses) (w .few-transparencies);
           start = s .0;
-          start-given = start-holds (s .0) (s .1) (omega (arith, w .one-start));
+          start-given = start-laws .holds (s .0) (s .1) (omega (arith, w .one-start));
           ending = y .0;
           ending-read = y .1;
           repeat = z .0;
@@ -842,14 +682,14 @@ module _ (ss : List PropertyValue) where
       record {
         few-starts = n .0;
         few-ends = n .1;
-        end-later = λ s e k l. from-later s e x (rw (start-holds ss s k (n .0), end-holds ss e l (n .1)) at (w .1));
+        end-later = λ s e k l. from-later s e x (rw (start-laws ss .holds s k (n .0), end-laws ss .holds e l (n .1)) at (w .1));
       }
 
   rules-block : BlockLines ss → BlockRules ss → (x : Block) × (blockBy (together ss) ≡ BlockRead.Of x)
   rules-block n w =
       let b =
       block-from (together ss .span .start) (together ss .span .end)
-      (λ s e p q. w .end-later s e (start-said ss s p) (end-said ss e q)) in
+      (λ s e p q. w .end-later s e (start-laws ss .said s p) (end-laws ss .said e q)) in
       let t : together ss .repeated ≡ false =
       lines-few ss (w .few-starts) (w .few-ends) (omega (arith, n .no-durations)) (omega (arith, n .no-rules)) (omega (arith, n .no-statuses))
       (omega (arith, n .no-transparencies)) in
