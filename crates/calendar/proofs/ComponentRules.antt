@@ -1,22 +1,22 @@
 -- THE THEOREM of refusal 10: no component is broken exactly where each keeps its rules, and otherwise the first that does not is named.
 use Prim.Native.Nat.{ℕ}
 use mathlib.Core.Path.{_≡_, refl, ap}
-use mathlib.Core.Bool.{Bool, true, false, cond, _||_}
+use mathlib.Core.Bool.{Bool, true, false, cond}
 use mathlib.Core.Logic.{_↔_}
 use mathlib.Core.List.{List, [], _∷_}
 use Rattle.ascii.specs.Names.{sameName, sameBytes}
 use Rattle.ascii.specs.Words.{ascii}
 use Rattle.ascii.proofs.Bools.{clash}
 use Rattle.line.specs.Grammar.{ContentLine}
-use Rattle.line.specs.Reading.{hasParameter, hasTwice, hasList}
 use Rattle.values.specs.Times.{timeOf}
-use Rattle.values.specs.Period.{allPeriods, periodItems}
 use Rattle.values.specs.declared.times.Context.{Context}
-use Rattle.values.specs.declared.times.TimeRead.{TimeRead}
-use Rattle.property.specs.Properties.{propertyOf, timeIn, startBy, endBy, unlessZoned, busyOf, typeValue, valueAs, beforePeriods, withPeriods, propertyValueOf}
+use Rattle.values.specs.declared.times.Time.{Time}
+use Rattle.periods.specs.declared.BusyType.{BusyType}
+use Rattle.property.specs.Properties.{propertyOf, timeIn, busyOf, valueAs, beforePeriods, propertyValueOf}
 use Rattle.property.specs.declared.Scope.{Scope}
 use Rattle.property.specs.declared.Property.{Property}
 use Rattle.property.specs.declared.PropertyValue.{PropertyValue}
+use Rattle.property.proofs.Properties.{start-keeps, end-keeps, zoned-keeps, type-keeps, periods-keep}
 use Rattle.nesting.specs.Components.{Numbered, Component, propertiesIn}
 use Rattle.events.specs.ComponentRules.{propertyName, linesNamed, BlockLines}
 use Rattle.events.specs.declared.Event.{Event}
@@ -48,60 +48,29 @@ bad-line : BlockLine PropertyValue.Bad
 unfolding propertyName
 bad-line = record { no-duration = refl; no-rule = refl; no-status = refl; no-transparency = refl }
 
-start-line : (r : TimeRead) → BlockLine (startBy r)
-unfolding startBy propertyName
-start-line (TimeRead.Of t) = record { no-duration = refl; no-rule = refl; no-status = refl; no-transparency = refl }
-start-line TimeRead.Bad = bad-line
+start-line : (t : Time) → BlockLine (PropertyValue.Start t)
+unfolding propertyName
+start-line t = record { no-duration = refl; no-rule = refl; no-status = refl; no-transparency = refl }
 
-end-line : (r : TimeRead) → BlockLine (endBy r)
-unfolding endBy propertyName
-end-line (TimeRead.Of t) = record { no-duration = refl; no-rule = refl; no-status = refl; no-transparency = refl }
-end-line TimeRead.Bad = bad-line
+end-line : (t : Time) → BlockLine (PropertyValue.End t)
+unfolding propertyName
+end-line t = record { no-duration = refl; no-rule = refl; no-status = refl; no-transparency = refl }
 
-zoned-line : (x : ContentLine) (s : PropertyValue) → BlockLine s → BlockLine (unlessZoned x s)
-unfolding unlessZoned
-zoned-line x s h = go (hasParameter (ascii "TZID") x)
-  where
-    go : (b : Bool) → BlockLine (cond b PropertyValue.Unsupported s)
-    go true = unsupported-line
-    go false = h
-
-periods-line : (v : List ℕ) (s : PropertyValue) → BlockLine s → BlockLine (withPeriods v s)
-unfolding withPeriods
-periods-line v PropertyValue.Nothing h = h
-periods-line v PropertyValue.Unsupported h = h
-periods-line v PropertyValue.Bad h = h
-periods-line v (PropertyValue.Start t) h = h
-periods-line v (PropertyValue.End t) h = h
-periods-line v (PropertyValue.Lasts d) h = h
-periods-line v (PropertyValue.Repeats r) h = h
-periods-line v (PropertyValue.HasStatus s) h = h
-periods-line v (PropertyValue.Transparent t) h = h
-periods-line v (PropertyValue.HasPeriods b) h = go (allPeriods (periodItems v))
-  where
-    go : (t : Bool) → BlockLine (cond t (PropertyValue.HasPeriods b) PropertyValue.Bad)
-    go true = h
-    go false = bad-line
-
-type-line : (x : ContentLine) → BlockLine (typeValue x)
-unfolding typeValue propertyName
-type-line x = go (hasTwice (ascii "FBTYPE") x || hasList (ascii "FBTYPE") x)
-  where
-    go : (b : Bool) → BlockLine (cond b PropertyValue.Bad (PropertyValue.HasPeriods (busyOf x)))
-    go true = bad-line
-    go false = record { no-duration = refl; no-rule = refl; no-status = refl; no-transparency = refl }
+periods-line : (b : BusyType) → BlockLine (PropertyValue.HasPeriods b)
+unfolding propertyName
+periods-line b = record { no-duration = refl; no-rule = refl; no-status = refl; no-transparency = refl }
 
 block-line : (c : Context) (x : ContentLine) → BlockLine (propertyValueOf c Scope.FreeBusy x)
 unfolding propertyValueOf beforePeriods propertyOf valueAs
 block-line c x =
-    periods-line (x .value) (beforePeriods c Scope.FreeBusy x)
+    periods-keep BlockLine bad-line (x .value) (beforePeriods c Scope.FreeBusy x)
     (go (sameName (x .name) (ascii "DTSTART")) (sameName (x .name) (ascii "DTEND")) (sameName (x .name) (ascii "FREEBUSY")))
   where
     go : (s e p : Bool)
         → BlockLine (valueAs (cond s Property.Start (cond e Property.End (cond p Property.Periods Property.Unread))) c Scope.FreeBusy x)
-    go true e p = zoned-line x (startBy (timeIn Scope.FreeBusy (timeOf c x))) (start-line (timeIn Scope.FreeBusy (timeOf c x)))
-    go false true p = zoned-line x (endBy (timeIn Scope.FreeBusy (timeOf c x))) (end-line (timeIn Scope.FreeBusy (timeOf c x)))
-    go false false true = type-line x
+    go true e p = zoned-keeps BlockLine unsupported-line x _ (start-keeps BlockLine bad-line (timeIn Scope.FreeBusy (timeOf c x)) (λ t h. start-line t))
+    go false true p = zoned-keeps BlockLine unsupported-line x _ (end-keeps BlockLine bad-line (timeIn Scope.FreeBusy (timeOf c x)) (λ t h. end-line t))
+    go false false true = type-keeps BlockLine bad-line x (periods-line (busyOf x))
     go false false false = nothing-line
 
 -- one line more that is not of the property

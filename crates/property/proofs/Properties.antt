@@ -70,6 +70,29 @@ pub by-length : (s : Scope) (m : List ℕ) (n : ℕ) → length m ≡ n → prop
 unfolding propertyOf
 by-length s m n h = length-picked m (wordsIn s) ∙ ap (λ (k : ℕ). picked m (ofLength k (wordsIn s))) h
 
+-- the words es are left, and decide of the name m
+pub record WordsLeft (s : Scope) (m : List ℕ) (es : List PropertyWord) : Type 0 where
+  pub decide : propertyOf s m ≡ picked m es
+
+pub words-of-length : {s : Scope} {m : List ℕ} (n : ℕ) → length m ≡ n → WordsLeft s m (ofLength n (wordsIn s))
+words-of-length {s} {m} n h = record { decide = by-length s m n h }
+
+-- the first of them is tried, and t says whether it is the name
+module _ {s : Scope} {m : List ℕ} {e : PropertyWord} {es : List PropertyWord} {t : Bool} (q : t ≡ sameName m (e .word)) (w : WordsLeft s m (e ∷ es)) where
+  decided : cond t (e .means) (picked m es) ≡ propertyOf s m
+  decided = ap (λ (b : Bool). cond b (e .means) (picked m es)) q ∙ sym (w .decide)
+
+  pub word-found : t ≡ true → e .means ≡ propertyOf s m
+  word-found h = ap (λ (b : Bool). cond b (e .means) (picked m es)) (sym h) ∙ decided
+
+  pub word-other : t ≡ false → WordsLeft s m es
+  word-other h = record { decide = sym (ap (λ (b : Bool). cond b (e .means) (picked m es)) (sym h) ∙ decided) }
+
+-- the last word is the name, or none is
+pub word-last : {s : Scope} {m : List ℕ} {e : PropertyWord} {t : Bool} {r : Property} → t ≡ sameName m (e .word) → WordsLeft s m (e ∷ [])
+    → r ≡ cond t (e .means) Property.Unread → r ≡ propertyOf s m
+word-last q w h = h ∙ decided q w
+
 -- no word of a VEVENT is as long as that
 pub event-unread : (m : List ℕ) (n : ℕ) → length m ≡ n → (n ≡ 5 → ⊥) → (n ≡ 6 → ⊥) → (n ≡ 7 → ⊥) → (n ≡ 8 → ⊥) → (n ≡ 13 → ⊥)
     → Property.Unread ≡ propertyOf Scope.Event m
@@ -298,6 +321,44 @@ event-periods c x =
     no-periods (propertyOf Scope.Event (x .name)) c Scope.Event x (x .value)
     (picked-none (x .name) (wordsIn Scope.Event) (refl, (refl, (refl, (refl, (refl, (refl, (refl, (refl, (refl, (refl, tt)))))))))))
 
+-- ---- a claim about what a line says holds where it holds of what each reading can come to
+
+module _ (P : PropertyValue → Type 0) where
+  pub start-keeps : P PropertyValue.Bad → (r : TimeRead) → ((t : Time) → r ≡ TimeRead.Of t → P (PropertyValue.Start t)) → P (startBy r)
+  unfolding startBy
+  start-keeps b (TimeRead.Of t) h = h t refl
+  start-keeps b TimeRead.Bad h = b
+
+  pub end-keeps : P PropertyValue.Bad → (r : TimeRead) → ((t : Time) → r ≡ TimeRead.Of t → P (PropertyValue.End t)) → P (endBy r)
+  unfolding endBy
+  end-keeps b (TimeRead.Of t) h = h t refl
+  end-keeps b TimeRead.Bad h = b
+
+  either-keeps : (t : Bool) (a b : PropertyValue) → P a → P b → P (cond t a b)
+  either-keeps true a b h k = h
+  either-keeps false a b h k = k
+
+  pub zoned-keeps : P PropertyValue.Unsupported → (x : ContentLine) (v : PropertyValue) → P v → P (unlessZoned x v)
+  unfolding unlessZoned
+  zoned-keeps u x v h = either-keeps (hasParameter (ascii "TZID") x) _ _ u h
+
+  pub type-keeps : P PropertyValue.Bad → (x : ContentLine) → P (PropertyValue.HasPeriods (busyOf x)) → P (typeValue x)
+  unfolding typeValue
+  type-keeps b x h = either-keeps (hasTwice (ascii "FBTYPE") x || hasList (ascii "FBTYPE") x) _ _ b h
+
+  pub periods-keep : P PropertyValue.Bad → (w : List ℕ) (v : PropertyValue) → P v → P (withPeriods w v)
+  unfolding withPeriods
+  periods-keep b w PropertyValue.Nothing h = h
+  periods-keep b w PropertyValue.Unsupported h = h
+  periods-keep b w PropertyValue.Bad h = h
+  periods-keep b w (PropertyValue.Start t) h = h
+  periods-keep b w (PropertyValue.End t) h = h
+  periods-keep b w (PropertyValue.Lasts d) h = h
+  periods-keep b w (PropertyValue.Repeats r) h = h
+  periods-keep b w (PropertyValue.HasStatus x) h = h
+  periods-keep b w (PropertyValue.Transparent x) h = h
+  periods-keep b w (PropertyValue.HasPeriods x) h = either-keeps (allPeriods (periodItems w)) _ _ h b
+
 -- ---- how large what a line says can be
 
 -- a time is the one that the line gives, in each component
@@ -311,24 +372,6 @@ timeIn-small : (c : Context) (s : Scope) (x : ContentLine) (t : Time) → timeIn
 unfolding timeOf
 timeIn-small c s x t e = readTime-small c (formOf x) (x .value) t (timeIn-same s (timeOf c x) t e)
 
-start-by-small : (r : TimeRead) → ((t : Time) → r ≡ TimeRead.Of t → t .second ≤ lastSecond) → PropertyValueSmall (startBy r)
-unfolding startBy
-start-by-small (TimeRead.Of t) h = h t refl
-start-by-small TimeRead.Bad h = tt
-
-end-by-small : (r : TimeRead) → ((t : Time) → r ≡ TimeRead.Of t → t .second ≤ lastSecond) → PropertyValueSmall (endBy r)
-unfolding endBy
-end-by-small (TimeRead.Of t) h = h t refl
-end-by-small TimeRead.Bad h = tt
-
-zoned-small : (x : ContentLine) (s : PropertyValue) → PropertyValueSmall s → PropertyValueSmall (unlessZoned x s)
-unfolding unlessZoned
-zoned-small x s h = go (hasParameter (ascii "TZID") x)
-  where
-    go : (t : Bool) → PropertyValueSmall (cond t PropertyValue.Unsupported s)
-    go true = tt
-    go false = h
-
 duration-small : (r : DurationRead) → ((d : Duration) → r ≡ DurationRead.Of d → DurationSmall d) → PropertyValueSmall (durationBy r)
 unfolding durationBy
 duration-small (DurationRead.Of d) h = h d refl
@@ -340,46 +383,20 @@ rule-small (RuleRead.Of r) h = h r refl
 rule-small RuleRead.Unsupported h = tt
 rule-small RuleRead.Bad h = tt
 
-type-small : (x : ContentLine) → PropertyValueSmall (typeValue x)
-unfolding typeValue
-type-small x = go (hasTwice (ascii "FBTYPE") x || hasList (ascii "FBTYPE") x)
-  where
-    go : (a : Bool) → PropertyValueSmall (cond a PropertyValue.Bad (PropertyValue.HasPeriods (busyOf x)))
-    go true = tt
-    go false = tt
-
--- looking at the periods leaves it small
-periods-small : (v : List ℕ) (s : PropertyValue) → PropertyValueSmall s → PropertyValueSmall (withPeriods v s)
-unfolding withPeriods
-periods-small v PropertyValue.Nothing h = h
-periods-small v PropertyValue.Unsupported h = h
-periods-small v PropertyValue.Bad h = h
-periods-small v (PropertyValue.Start t) h = h
-periods-small v (PropertyValue.End t) h = h
-periods-small v (PropertyValue.Lasts d) h = h
-periods-small v (PropertyValue.Repeats r) h = h
-periods-small v (PropertyValue.HasStatus s) h = h
-periods-small v (PropertyValue.Transparent b) h = h
-periods-small v (PropertyValue.HasPeriods b) h = go (allPeriods (periodItems v))
-  where
-    go : (t : Bool) → PropertyValueSmall (cond t (PropertyValue.HasPeriods b) PropertyValue.Bad)
-    go true = tt
-    go false = tt
-
 valueAs-small : (p : Property) (c : Context) (s : Scope) (x : ContentLine) → PropertyValueSmall (valueAs p c s x)
 unfolding valueAs
 valueAs-small Property.Start c s x =
-    zoned-small x (startBy (timeIn s (timeOf c x))) (start-by-small (timeIn s (timeOf c x)) (λ t. timeIn-small c s x t))
-valueAs-small Property.End c s x = zoned-small x (endBy (timeIn s (timeOf c x))) (end-by-small (timeIn s (timeOf c x)) (λ t. timeIn-small c s x t))
+    zoned-keeps PropertyValueSmall tt x _ (start-keeps PropertyValueSmall tt (timeIn s (timeOf c x)) (λ t. timeIn-small c s x t))
+valueAs-small Property.End c s x = zoned-keeps PropertyValueSmall tt x _ (end-keeps PropertyValueSmall tt (timeIn s (timeOf c x)) (λ t. timeIn-small c s x t))
 valueAs-small Property.Duration c s x = duration-small (readDuration (x .value)) (λ d. readDuration-small (x .value) d)
 valueAs-small Property.Rule c s x = rule-small (ruleOf c (x .value)) (λ r. ruleOf-small c (x .value) r)
 valueAs-small Property.Status c s x = tt
 valueAs-small Property.Transparency c s x = tt
-valueAs-small Property.Periods c s x = type-small x
+valueAs-small Property.Periods c s x = type-keeps PropertyValueSmall tt x tt
 valueAs-small Property.Unsupported c s x = tt
 valueAs-small Property.Unread c s x = tt
 
 -- what a line says is small: times are within the limits, durations and rules as their readers leave them
 pub propertyValueOf-small : (c : Context) (s : Scope) (x : ContentLine) → PropertyValueSmall (propertyValueOf c s x)
 unfolding propertyValueOf beforePeriods
-propertyValueOf-small c s x = periods-small (x .value) (beforePeriods c s x) (valueAs-small (propertyOf s (x .name)) c s x)
+propertyValueOf-small c s x = periods-keep PropertyValueSmall tt (x .value) (beforePeriods c s x) (valueAs-small (propertyOf s (x .name)) c s x)

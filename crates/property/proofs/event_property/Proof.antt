@@ -1,10 +1,7 @@
 -- `property::event_property` meets its contract: the length of the name decides which words are tried.
-use mathlib.Core.Path.{refl, ap, _∙_}
-use mathlib.Core.Bool.{Bool, cond}
+use mathlib.Core.Path.{refl}
 use denote.Ref.{now}
-use Rattle.property.specs.declared.Scope.{Scope}
-use Rattle.property.specs.declared.Property.{Property}
-use Rattle.property.proofs.Properties.{by-length, event-unread}
+use Rattle.property.proofs.Properties.{words-of-length, word-last, event-unread}
 use borrow.Author.Needs.{needs}
 use Rattle.property.proofs.event_property.Statement.{statement}
 use Rattle.property.proofs.event_property.Tie as tie
@@ -49,25 +46,13 @@ returns-2 : tie.Need-returns-2
 returns-2 c = search needs
 
 returns-3 : tie.Need-returns-3
-returns-3 c =
-    let args = c .before .before .before .before .before .args in
-    let arm = c .before .before .before .match in
-    rw (by-length Scope.Event (now (args .name)) 7 (arm .keys3))
-    (c .property-if .ensures ∙ ap (λ (t : Bool). cond t Property.Start Property.Unread) (c .before .same-name .ensures))
+returns-3 c = word-last (c .before .same-name .ensures) (words-of-length 7 (c .before .before .before .match .keys3)) (c .property-if .ensures)
 
 returns-4 : tie.Need-returns-4
-returns-4 c =
-    let args = c .before .before .before .before .before .args in
-    let arm = c .before .before .before .match in
-    rw (by-length Scope.Event (now (args .name)) 8 (arm .keys4))
-    (c .property-if2 .ensures ∙ ap (λ (t : Bool). cond t Property.Duration Property.Unread) (c .before .same-name2 .ensures))
+returns-4 c = word-last (c .before .same-name2 .ensures) (words-of-length 8 (c .before .before .before .match .keys4)) (c .property-if2 .ensures)
 
 returns-5 : tie.Need-returns-5
-returns-5 c =
-    let args = c .before .before .before .before .before .args in
-    let arm = c .before .before .before .match in
-    rw (by-length Scope.Event (now (args .name)) 13 (arm .keys5))
-    (c .property-if3 .ensures ∙ ap (λ (t : Bool). cond t Property.Unsupported Property.Unread) (c .before .same-name3 .ensures))
+returns-5 c = word-last (c .before .same-name3 .ensures) (words-of-length 13 (c .before .before .before .match .keys5)) (c .property-if3 .ensures)
 
 returns-6 : tie.Need-returns-6
 returns-6 c =

@@ -1,10 +1,7 @@
 -- `property::free_busy_property` meets its contract: the length of the name decides which words are tried.
-use mathlib.Core.Path.{refl, ap, _∙_}
-use mathlib.Core.Bool.{Bool, cond}
+use mathlib.Core.Path.{refl}
 use denote.Ref.{now}
-use Rattle.property.specs.declared.Scope.{Scope}
-use Rattle.property.specs.declared.Property.{Property}
-use Rattle.property.proofs.Properties.{by-length, free-busy-unread}
+use Rattle.property.proofs.Properties.{words-of-length, word-last, free-busy-unread}
 use borrow.Author.Needs.{needs}
 use Rattle.property.proofs.free_busy_property.Statement.{statement}
 use Rattle.property.proofs.free_busy_property.Tie as tie
@@ -37,25 +34,13 @@ property-if-requires-3 : tie.Need-property-if-requires-3
 property-if-requires-3 c κs = search needs
 
 returns : tie.Need-returns
-returns c =
-    let args = c .before .before .before .before .before .args in
-    let arm = c .before .before .before .match in
-    rw (by-length Scope.FreeBusy (now (args .name)) 5 (arm .keys1))
-    (c .property-if .ensures ∙ ap (λ (t : Bool). cond t Property.End Property.Unread) (c .before .same-name .ensures))
+returns c = word-last (c .before .same-name .ensures) (words-of-length 5 (c .before .before .before .match .keys1)) (c .property-if .ensures)
 
 returns-2 : tie.Need-returns-2
-returns-2 c =
-    let args = c .before .before .before .before .before .args in
-    let arm = c .before .before .before .match in
-    rw (by-length Scope.FreeBusy (now (args .name)) 7 (arm .keys2))
-    (c .property-if2 .ensures ∙ ap (λ (t : Bool). cond t Property.Start Property.Unread) (c .before .same-name2 .ensures))
+returns-2 c = word-last (c .before .same-name2 .ensures) (words-of-length 7 (c .before .before .before .match .keys2)) (c .property-if2 .ensures)
 
 returns-3 : tie.Need-returns-3
-returns-3 c =
-    let args = c .before .before .before .before .before .args in
-    let arm = c .before .before .before .match in
-    rw (by-length Scope.FreeBusy (now (args .name)) 8 (arm .keys3))
-    (c .property-if3 .ensures ∙ ap (λ (t : Bool). cond t Property.Periods Property.Unread) (c .before .same-name3 .ensures))
+returns-3 c = word-last (c .before .same-name3 .ensures) (words-of-length 8 (c .before .before .before .match .keys3)) (c .property-if3 .ensures)
 
 returns-4 : tie.Need-returns-4
 returns-4 c = free-busy-unread (now (c .before .before .args .name)) _ refl (c .match .rest .0 .0 .1) (c .match .rest .0 .1) (c .match .rest .1)
