@@ -7,23 +7,21 @@ use native.Mathlib.Omega.{arith}
 use lib.ListN.{getD}
 use Rattle.line.specs.Grammar.{ContentLine}
 use Rattle.line.specs.Reading.{lineOf, valueOf}
-use Rattle.time.specs.declared.duration.Duration.{Duration}
 use Rattle.values.specs.Period.{periodItems, allPeriods}
 use Rattle.values.specs.declared.times.Context.{Context}
-use Rattle.values.specs.declared.times.Time.{Time}
-use Rattle.values.specs.declared.rule.Rule.{Rule}
 use Rattle.periods.specs.declared.BusyType.{BusyType}
 use Rattle.periods.specs.declared.Period.{Period}
 use Rattle.periods.specs.BusyTypes.{BusyPeriod, typed}
 use Rattle.property.specs.Properties.{beforePeriods, withPeriods, propertyValueOf, givesPeriods}
 use Rattle.property.specs.declared.PropertyValue.{PropertyValue}
 use Rattle.property.specs.declared.Scope.{Scope}
-use Rattle.property.specs.declared.Status.{Status}
 use Rattle.property.proofs.Properties.{event-periods}
 use Rattle.nesting.specs.Components.{Numbered, Items, propertiesIn}
 use Rattle.index.specs.Index.{lineBytes, Entry, Indexed}
 use Rattle.structure.specs.Rows.{itemsBy, numberedLine, ItemsAt, RowOf, componentBy}
-use Rattle.structure.specs.Items.{PropertyAt, InnerAt}
+use Rattle.structure.specs.Items.{itemBy, PropertyAt, InnerAt}
+use Rattle.structure.specs.declared.items.Item.{Item}
+use Rattle.structure.proofs.ItemsLaws.{property-at, inner-at, no-item-at}
 use Rattle.events.specs.ComponentProperties.{noProperties, withProperty, withProperties}
 use Rattle.events.specs.declared.ComponentProperties.{ComponentProperties}
 use Rattle.calendar.specs.Meaning.{propertyValuesIn, faultOr, faultIn, periodsBy, blockPeriods}
@@ -40,44 +38,37 @@ use Rattle.contents.proofs.LinesStoring.{Left, left-start, left-then, l
 
 -- ---- a line by what it says
 
--- it says something that is neither a fault nor a period
-pub record Says (v : PropertyValue) : Type 0 where
-  pub no-fault : (n : ℕ) (r : ValueCheck) → faultOr n v r ≡ r
-  pub no-periods : (x : ContentLine) → periodsBy v x ≡ []
-  pub settled : (w : List ℕ) → withPeriods w v ≡ v
+-- it says something that is neither a fault nor a period: a line that is not read, and all that an event or a block is made of
+abbrev pub Plain : PropertyValue → Type 0
+Plain PropertyValue.Nothing = Unit
+Plain PropertyValue.Unsupported = ⊥
+Plain PropertyValue.Bad = ⊥
+Plain (PropertyValue.Start t) = Unit
+Plain (PropertyValue.End t) = Unit
+Plain (PropertyValue.Lasts d) = Unit
+Plain (PropertyValue.Repeats r) = Unit
+Plain (PropertyValue.HasStatus x) = Unit
+Plain (PropertyValue.Transparent x) = Unit
+Plain (PropertyValue.HasPeriods y) = ⊥
 
--- such are a line that is not read, and all that an event or a block is made of
-pub says-nothing : Says PropertyValue.Nothing
-unfolding faultOr periodsBy withPeriods
-says-nothing = record { no-fault = λ n r. refl; no-periods = λ x. refl; settled = λ w. refl }
+module _ (n : ℕ) (r : ValueCheck) (x : ContentLine) (w : List ℕ) where
+  -- it is no fault, gives no period, and stays as it is
+  plain-so : (v : PropertyValue) → Plain v → (faultOr n v r ≡ r) × (periodsBy v x ≡ []) × (withPeriods w v ≡ v)
+  unfolding faultOr periodsBy withPeriods
+  plain-so PropertyValue.Nothing p = (refl, refl, refl)
+  plain-so PropertyValue.Unsupported p = absurd p
+  plain-so PropertyValue.Bad p = absurd p
+  plain-so (PropertyValue.Start t) p = (refl, refl, refl)
+  plain-so (PropertyValue.End t) p = (refl, refl, refl)
+  plain-so (PropertyValue.Lasts d) p = (refl, refl, refl)
+  plain-so (PropertyValue.Repeats q) p = (refl, refl, refl)
+  plain-so (PropertyValue.HasStatus s) p = (refl, refl, refl)
+  plain-so (PropertyValue.Transparent t) p = (refl, refl, refl)
+  plain-so (PropertyValue.HasPeriods y) p = absurd p
 
 pub nothing-said : (g : ComponentProperties) → g ≡ withProperty g PropertyValue.Nothing
 unfolding withProperty
 nothing-said g = refl
-
-pub says-start : (t : Time) → Says (PropertyValue.Start t)
-unfolding faultOr periodsBy withPeriods
-says-start t = record { no-fault = λ n r. refl; no-periods = λ x. refl; settled = λ w. refl }
-
-pub says-end : (t : Time) → Says (PropertyValue.End t)
-unfolding faultOr periodsBy withPeriods
-says-end t = record { no-fault = λ n r. refl; no-periods = λ x. refl; settled = λ w. refl }
-
-pub says-lasts : (d : Duration) → Says (PropertyValue.Lasts d)
-unfolding faultOr periodsBy withPeriods
-says-lasts d = record { no-fault = λ n r. refl; no-periods = λ x. refl; settled = λ w. refl }
-
-pub says-repeats : (r : Rule) → Says (PropertyValue.Repeats r)
-unfolding faultOr periodsBy withPeriods
-says-repeats r = record { no-fault = λ n r. refl; no-periods = λ x. refl; settled = λ w. refl }
-
-pub says-status : (x : Status) → Says (PropertyValue.HasStatus x)
-unfolding faultOr periodsBy withPeriods
-says-status x = record { no-fault = λ n r. refl; no-periods = λ x. refl; settled = λ w. refl }
-
-pub says-transparent : (x : Bool) → Says (PropertyValue.Transparent x)
-unfolding faultOr periodsBy withPeriods
-says-transparent x = record { no-fault = λ n r. refl; no-periods = λ x. refl; settled = λ w. refl }
 
 -- what a line says, by what it says before its periods are looked at
 module _ (c : Context) (o : Scope) (l : List ℕ) {u : PropertyValue} (q : u ≡ beforePeriods c o (lineOf l)) where
@@ -128,6 +119,14 @@ pub record ReadingLines (c : Context) (t : Scope) (s rows : List ℕ) (xs : List
   pub say : withProperties g (propertyValuesIn c t (propertiesBy s i)) ≡ together c t xs
   pub still : Left o₀ n₀ (piecesOf a b (periodsIn c t xs)) o n (piecesOf a b (periodsIn c t (propertiesBy s i)))
 
+-- the line l stands at i and is a property, and u is what it says before its periods are looked at
+pub record LineHere (c : Context) (t : Scope) (s rows : List ℕ) (xs : List Numbered) (a b : ℕ) (o₀ : List ℕ) (n₀ : ℕ) (o : List ℕ) (n : ℕ) (g : ComponentProperties) (i row j m : ℕ)
+    (l : List ℕ) (u : PropertyValue) : Type 0 where
+  pub reading : ReadingLines c t s rows xs a b o₀ n₀ o n g i row j m
+  pub here : PropertyAt s rows i row j m
+  pub line : l ≡ lineBytes s i
+  pub value : u ≡ beforePeriods c t (lineOf l)
+
 module _ (c : Context) (t : Scope) {s rows : List ℕ} {k : ℕ} (r : RowOf s rows k) (a b : ℕ) {o : List ℕ} {n : ℕ} (room : Room o) (few : n ≤ 513) where
   pub reading-start : {g : ComponentProperties} (first behind last : ℕ) → g ≡ noProperties → first ≡ getD rows (4 * k) 0 → behind ≡ getD rows (4 * k + 1) 0
       → last ≡ getD rows (4 * k + 2) 0 → ReadingLines c t s rows (propertiesIn (componentBy s rows k .items)) a b o n o n g first (k + 1) (behind - 1) last
@@ -144,8 +143,9 @@ module _ (c : Context) (t : Scope) {s rows : List ℕ} {k : ℕ} (r : RowOf s ro
 
 module _ {c : Context} {t : Scope} {s rows : List ℕ} {xs : List Numbered} {a b : ℕ} {o₀ : List ℕ} {n₀ : ℕ} {o : List ℕ} {n : ℕ} {g : ComponentProperties} {i row j m : ℕ}
     (z : ReadingLines c t s rows xs a b o₀ n₀ o n g i row j m) where
-  pub reading-inner : {next after : ℕ} → InnerAt s rows i row j m next after → ReadingLines c t s rows xs a b o₀ n₀ o n g next after j m
-  reading-inner h =
+  pub reading-inner : {r : Item} {next after : ℕ} → r ≡ itemBy rows i row j m → r ≡ Item.Inner next after → ReadingLines c t s rows xs a b o₀ n₀ o n g next after j m
+  reading-inner q e =
+      let h = inner-at (z .items) q e in
       record {
         items = h .rest;
         fault = ap (linesFault c t) (sym (next-inner h)) ∙ z .fault;
@@ -153,96 +153,101 @@ module _ {c : Context} {t : Scope} {s rows : List ℕ} {xs : List Numbered} {a b
         still = left-same (z .still) (ap (λ (ys : List Numbered). piecesOf a b (periodsIn c t ys)) (next-inner h));
       }
 
-  pub reading-done : itemsBy s i ≡ Items.none → LinesAre c t xs a b o₀ n₀ o (LinesRead.Of g n)
+  pub reading-done : {r : Item} → r ≡ itemBy rows i row j m → r ≡ Item.Done → LinesAre c t xs a b o₀ n₀ o (LinesRead.Of g n)
   unfolding linesFault faultIn withProperties propertyValuesIn periodsIn
-  reading-done h =
+  reading-done q e =
+      let h = no-properties s i (no-item-at (z .items) q e) in
       good
       (record {
-        no-fault = sym (z .fault) ∙ ap (linesFault c t) (no-properties s i h);
-        say = ap (λ (ys : List Numbered). withProperties g (propertyValuesIn c t ys)) (sym (no-properties s i h)) ∙ z .say;
-        stored = left-none (z .still) (ap (λ (ys : List Numbered). piecesOf a b (periodsIn c t ys)) (no-properties s i h) ∙ piecesOf-none a b);
+        no-fault = sym (z .fault) ∙ ap (linesFault c t) h;
+        say = ap (λ (ys : List Numbered). withProperties g (propertyValuesIn c t ys)) (sym h) ∙ z .say;
+        stored = left-none (z .still) (ap (λ (ys : List Numbered). piecesOf a b (periodsIn c t ys)) h ∙ piecesOf-none a b);
       })
 
-  -- the line at i is a property
-  module _ (h : PropertyAt s rows i row j m) {l : List ℕ} (p : l ≡ lineBytes s i) where
-    -- what it says
-    module _ {v : PropertyValue} (q : propertyValueOf c t (lineOf l) ≡ v) where
-      value-here : propertyValueOf c t (numberedLine s i .line) ≡ v
-      unfolding numberedLine
-      value-here = ap (λ (y : List ℕ). propertyValueOf c t (lineOf y)) (sym p) ∙ q
+  -- the line of a property is known to the index
+  pub line-entry : {r : Item} {index : List ℕ} → r ≡ itemBy rows i row j m → r ≡ Item.Property → Indexed s index → Entry s index i
+  line-entry q e x = x .entries i (property-at (z .items) q e .inside)
 
-      fault-here : faultOr (i + 1) v (linesFault c t (propertiesBy s (i + 1))) ≡ linesFault c t xs
-      unfolding linesFault faultIn numberedLine
-      fault-here =
-          ap (λ (u : PropertyValue). faultOr (i + 1) u (linesFault c t (propertiesBy s (i + 1)))) (sym value-here)
-          ∙ ap (linesFault c t) (sym (next-property h))
-          ∙ z .fault
+  -- its value is read
+  pub line-read : {r : Item} {l : List ℕ} {u : PropertyValue} → r ≡ itemBy rows i row j m → r ≡ Item.Property → l ≡ lineBytes s i → u ≡ beforePeriods c t (lineOf l)
+      → LineHere c t s rows xs a b o₀ n₀ o n g i row j m l u
+  line-read q e p f = record { reading = z; here = property-at (z .items) q e; line = p; value = f }
 
-      say-here : withProperties (withProperty g v) (propertyValuesIn c t (propertiesBy s (i + 1))) ≡ together c t xs
-      unfolding withProperties propertyValuesIn
-      say-here =
-          ap (λ (u : PropertyValue). withProperties (withProperty g u) (propertyValuesIn c t (propertiesBy s (i + 1)))) (sym value-here)
-          ∙ ap (λ (ys : List Numbered). withProperties g (propertyValuesIn c t ys)) (sym (next-property h))
-          ∙ z .say
+module _ {c : Context} {t : Scope} {s rows : List ℕ} {xs : List Numbered} {a b : ℕ} {o₀ : List ℕ} {n₀ : ℕ} {o : List ℕ} {n : ℕ} {g : ComponentProperties} {i row j m : ℕ} {l : List ℕ}
+    {u : PropertyValue} (z : LineHere c t s rows xs a b o₀ n₀ o n g i row j m l u) where
+  -- what it says
+  module _ {v : PropertyValue} (q : propertyValueOf c t (lineOf l) ≡ v) where
+    value-here : propertyValueOf c t (numberedLine s i .line) ≡ v
+    unfolding numberedLine
+    value-here = ap (λ (y : List ℕ). propertyValueOf c t (lineOf y)) (sym (z .line)) ∙ q
 
-      pieces-here : piecesOf a b (periodsIn c t (propertiesBy s i)) ≡ piecesOf a b (periodsBy v (lineOf l)) ++ piecesOf a b (periodsIn c t (propertiesBy s (i + 1)))
-      unfolding periodsIn numberedLine
-      pieces-here =
-          ap (λ (ys : List Numbered). piecesOf a b (periodsIn c t ys)) (next-property h)
-          ∙ ap (λ (y : List ℕ). piecesOf a b (periodsBy (propertyValueOf c t (lineOf y)) (lineOf y) ++ periodsIn c t (propertiesBy s (i + 1)))) (sym p)
-          ∙ ap (λ (y : PropertyValue). piecesOf a b (periodsBy y (lineOf l) ++ periodsIn c t (propertiesBy s (i + 1)))) q
-          ∙ piecesOf-append a b (periodsBy v (lineOf l)) (periodsIn c t (propertiesBy s (i + 1)))
+    fault-here : faultOr (i + 1) v (linesFault c t (propertiesBy s (i + 1))) ≡ linesFault c t xs
+    unfolding linesFault faultIn numberedLine
+    fault-here =
+        ap (λ (u : PropertyValue). faultOr (i + 1) u (linesFault c t (propertiesBy s (i + 1)))) (sym value-here)
+        ∙ ap (linesFault c t) (sym (next-property (z .here)))
+        ∙ z .reading .fault
 
-    -- what it says before its periods are looked at
-    module _ {u : PropertyValue} (q : u ≡ beforePeriods c t (lineOf l)) where
-      pub reading-unsupported : (o′ : List ℕ) → u ≡ PropertyValue.Unsupported → LinesAre c t xs a b o₀ n₀ o′ (LinesRead.Unsupported (i + 1))
-      unfolding faultOr
-      reading-unsupported o′ e = unsupported (sym (fault-here (value-unsupported c t l q e)))
+    say-here : withProperties (withProperty g v) (propertyValuesIn c t (propertiesBy s (i + 1))) ≡ together c t xs
+    unfolding withProperties propertyValuesIn
+    say-here =
+        ap (λ (u : PropertyValue). withProperties (withProperty g u) (propertyValuesIn c t (propertiesBy s (i + 1)))) (sym value-here)
+        ∙ ap (λ (ys : List Numbered). withProperties g (propertyValuesIn c t ys)) (sym (next-property (z .here)))
+        ∙ z .reading .say
 
-      pub reading-bad : (o′ : List ℕ) → u ≡ PropertyValue.Bad → LinesAre c t xs a b o₀ n₀ o′ (LinesRead.Bad (i + 1))
-      unfolding faultOr
-      reading-bad o′ e = bad (sym (fault-here (value-bad c t l q e)))
+    pieces-here : piecesOf a b (periodsIn c t (propertiesBy s i)) ≡ piecesOf a b (periodsBy v (lineOf l)) ++ piecesOf a b (periodsIn c t (propertiesBy s (i + 1)))
+    unfolding periodsIn numberedLine
+    pieces-here =
+        ap (λ (ys : List Numbered). piecesOf a b (periodsIn c t ys)) (next-property (z .here))
+        ∙ ap (λ (y : List ℕ). piecesOf a b (periodsBy (propertyValueOf c t (lineOf y)) (lineOf y) ++ periodsIn c t (propertiesBy s (i + 1)))) (sym (z .line))
+        ∙ ap (λ (y : PropertyValue). piecesOf a b (periodsBy y (lineOf l) ++ periodsIn c t (propertiesBy s (i + 1)))) q
+        ∙ piecesOf-append a b (periodsBy v (lineOf l)) (periodsIn c t (propertiesBy s (i + 1)))
 
-      pub reading-says : {v : PropertyValue} → Says v → {g′ : ComponentProperties} → u ≡ v → g′ ≡ withProperty g v → ReadingLines c t s rows xs a b o₀ n₀ o n g′ (i + 1) row j m
-      reading-says {v} y e f =
-          let w : propertyValueOf c t (lineOf l) ≡ v = value-as c t l q v e ∙ y .settled (valueOf l) in
-          record {
-            items = h .rest;
-            fault = sym (y .no-fault (i + 1) (linesFault c t (propertiesBy s (i + 1)))) ∙ fault-here w;
-            say = ap (λ (x : ComponentProperties). withProperties x (propertyValuesIn c t (propertiesBy s (i + 1)))) f ∙ say-here w;
-            still =
-                left-same (z .still)
-                (pieces-here w
-                ∙ ap (λ (ps : List BusyPeriod). piecesOf a b ps ++ piecesOf a b (periodsIn c t (propertiesBy s (i + 1)))) (y .no-periods (lineOf l))
-                ∙ ap (λ (ps : List BusyPeriod). ps ++ piecesOf a b (periodsIn c t (propertiesBy s (i + 1)))) (piecesOf-none a b));
-          }
+  pub reading-unsupported : (o′ : List ℕ) → u ≡ PropertyValue.Unsupported → LinesAre c t xs a b o₀ n₀ o′ (LinesRead.Unsupported (i + 1))
+  unfolding faultOr
+  reading-unsupported o′ e = unsupported (sym (fault-here (value-unsupported c t l (z .value) e)))
 
-      module _ {y : BusyType} (e : u ≡ PropertyValue.HasPeriods y) {w : List ℕ} (f : w ≡ valueOf l) {o′ : List ℕ} {r : ValueStored} (k : ValueIs y w a b o n o′ r) where
-        pub reading-bad-period : r ≡ ValueStored.Bad → LinesAre c t xs a b o₀ n₀ o′ (LinesRead.Bad (i + 1))
-        unfolding faultOr
-        reading-bad-period x = bad (sym (fault-here (periods-by c t l q y e f false (value-unread k x))))
+  pub reading-bad : (o′ : List ℕ) → u ≡ PropertyValue.Bad → LinesAre c t xs a b o₀ n₀ o′ (LinesRead.Bad (i + 1))
+  unfolding faultOr
+  reading-bad o′ e = bad (sym (fault-here (value-bad c t l (z .value) e)))
 
-        pub reading-periods : (n′ : ℕ) → r ≡ ValueStored.Of n′ → ReadingLines c t s rows xs a b o₀ n₀ o′ n′ g (i + 1) row j m
-        unfolding faultOr withProperty periodsBy lineOf valuePeriods
-        reading-periods n′ x =
-            let (d, st) = value-stored k n′ x in
-            let v : propertyValueOf c t (lineOf l) ≡ PropertyValue.HasPeriods y = periods-by c t l q y e f true d in
-            record {
-              items = h .rest;
-              fault = fault-here v;
-              say = say-here v;
-              still =
-                  left-then (z .still)
-                  (pieces-here v
-                  ∙ ap
-                  (λ (ps : List Period). piecesOf a b (typed y ps) ++ piecesOf a b (periodsIn c t (propertiesBy s (i + 1))))
-                  (sym (ap (λ (ws : List ℕ). periodsFrom ws 0) f ∙ periods-all (valueOf l))))
-                  st;
-            }
+  pub reading-plain : {v : PropertyValue} {g′ : ComponentProperties} → u ≡ v → g′ ≡ withProperty g v → Plain v → ReadingLines c t s rows xs a b o₀ n₀ o n g′ (i + 1) row j m
+  reading-plain {v} e f y =
+      let so = plain-so (i + 1) (linesFault c t (propertiesBy s (i + 1))) (lineOf l) (valueOf l) v y in
+      let w : propertyValueOf c t (lineOf l) ≡ v = value-as c t l (z .value) v e ∙ so .2 in
+      record {
+        items = z .here .rest;
+        fault = sym (so .0) ∙ fault-here w;
+        say = ap (λ (x : ComponentProperties). withProperties x (propertyValuesIn c t (propertiesBy s (i + 1)))) f ∙ say-here w;
+        still =
+            left-same (z .reading .still)
+            (pieces-here w
+            ∙ ap (λ (ps : List BusyPeriod). piecesOf a b ps ++ piecesOf a b (periodsIn c t (propertiesBy s (i + 1)))) (so .1)
+            ∙ ap (λ (ps : List BusyPeriod). ps ++ piecesOf a b (periodsIn c t (propertiesBy s (i + 1)))) (piecesOf-none a b));
+      }
 
--- the line of a property is known to the index
-pub line-entry : {s index rows : List ℕ} {i row j m : ℕ} → Indexed s index → PropertyAt s rows i row j m → Entry s index i
-line-entry x h = x .entries _ (h .inside)
+  module _ {y : BusyType} (e : u ≡ PropertyValue.HasPeriods y) {w : List ℕ} (f : w ≡ valueOf l) {o′ : List ℕ} {r : ValueStored} (k : ValueIs y w a b o n o′ r) where
+    pub reading-bad-period : r ≡ ValueStored.Bad → LinesAre c t xs a b o₀ n₀ o′ (LinesRead.Bad (i + 1))
+    unfolding faultOr
+    reading-bad-period x = bad (sym (fault-here (periods-by c t l (z .value) y e f false (value-unread k x))))
+
+    pub reading-periods : (n′ : ℕ) → r ≡ ValueStored.Of n′ → ReadingLines c t s rows xs a b o₀ n₀ o′ n′ g (i + 1) row j m
+    unfolding faultOr withProperty periodsBy lineOf valuePeriods
+    reading-periods n′ x =
+        let (d, st) = value-stored k n′ x in
+        let v : propertyValueOf c t (lineOf l) ≡ PropertyValue.HasPeriods y = periods-by c t l (z .value) y e f true d in
+        record {
+          items = z .here .rest;
+          fault = fault-here v;
+          say = say-here v;
+          still =
+              left-then (z .reading .still)
+              (pieces-here v
+              ∙ ap
+              (λ (ps : List Period). piecesOf a b (typed y ps) ++ piecesOf a b (periodsIn c t (propertiesBy s (i + 1))))
+              (sym (ap (λ (ws : List ℕ). periodsFrom ws 0) f ∙ periods-all (valueOf l))))
+              st;
+        }
 
 -- ---- what the answers say
 

@@ -25,8 +25,9 @@ use Rattle.property_tests.specs.PropertyTests.{collationOf, textHolds, t
 use Rattle.nesting.specs.Components.{Numbered, Items, none, propertiesIn}
 use Rattle.index.specs.Index.{lineBytes, Entry, Indexed}
 use Rattle.structure.specs.Rows.{itemsBy, numberedLine, ItemsAt, RowOf, componentBy}
-use Rattle.structure.specs.Items.{PropertyAt, InnerAt}
-use Rattle.structure.proofs.RowsLaws.{rows-lines}
+use Rattle.structure.specs.Items.{itemBy, PropertyAt, InnerAt}
+use Rattle.structure.specs.declared.items.Item.{Item}
+use Rattle.structure.proofs.ItemsLaws.{property-at, inner-at, no-item-at}
 use Rattle.ascii.specs.Names.{sameName}
 use Rattle.query.specs.declared.PropertyRecord.{PropertyRecord}
 
@@ -266,14 +267,10 @@ seeking-start f {s} {rows} {c} {i} {e} {m} r p q n =
     let z : e - 1 ≡ r .stop = omega (arith, r .end) in
     rw (p, z, n) (record { left = r .inner; rest = refl })
 
--- ---- what the next step asks
-
-module _ {f : List Numbered → Bool} {s rows : List ℕ} {c i k j m : ℕ} (r : Seeking f s rows c i k j m) where
-  pub seeking-small : i ≤ j
-  seeking-small = rows-lines (r .left .items)
-
-  pub seeking-line : {index : List ℕ} → Indexed s index → PropertyAt s rows i k j m → Entry s index i
-  seeking-line x h = x .entries i (h .inside)
+-- the line of a property is known to the index
+pub seeking-line : {f : List Numbered → Bool} {s rows index : List ℕ} {c i k j m : ℕ} {a : Item} → Seeking f s rows c i k j m → a ≡ itemBy rows i k j m → a ≡ Item.Property
+    → Indexed s index → Entry s index i
+seeking-line r w e x = x .entries _ (property-at (r .left) w e .inside)
 
 module _ {f : List Numbered → Bool} {g : ContentLine → Bool} (t : SomeOf f g) where
   -- ---- one step
@@ -294,24 +291,27 @@ module _ {f : List Numbered → Bool} {g : ContentLine → Bool} (t : SomeOf f g
 
   -- ---- the loop
 
-  module _ {s rows : List ℕ} {c i k j m : ℕ} (r : Seeking f s rows c i k j m) where
-    module _ {l : List ℕ} {b : Bool} (h : PropertyAt s rows i k j m) (p : l ≡ lineBytes s i) (q : b ≡ g (lineOf l)) where
+  -- a is the item at line i
+  module _ {s rows : List ℕ} {c i k j m : ℕ} {a : Item} (r : Seeking f s rows c i k j m) (w : a ≡ itemBy rows i k j m) where
+    module _ {l : List ℕ} {b : Bool} (e : a ≡ Item.Property) (p : l ≡ lineBytes s i) (q : b ≡ g (lineOf l)) where
       line-here : (b || f (propertiesIn (itemsBy s (i + 1)))) ≡ f (propertiesIn (componentBy s rows c .items))
       line-here =
-          ap (λ (x : Bool). x || f (propertiesIn (itemsBy s (i + 1)))) (q ∙ ap (λ (x : List ℕ). g (lineOf x)) p) ∙ sym (line-at h) ∙ r .rest
+          ap (λ (x : Bool). x || f (propertiesIn (itemsBy s (i + 1)))) (q ∙ ap (λ (x : List ℕ). g (lineOf x)) p)
+          ∙ sym (line-at (property-at (r .left) w e))
+          ∙ r .rest
 
       pub seeking-next : b ≡ false → Seeking f s rows c (i + 1) k j m
       seeking-next z =
-          record { left = h .rest; rest = ap (λ (x : Bool). x || f (propertiesIn (itemsBy s (i + 1)))) (sym z) ∙ line-here }
+          record { left = property-at (r .left) w e .rest; rest = ap (λ (x : Bool). x || f (propertiesIn (itemsBy s (i + 1)))) (sym z) ∙ line-here }
 
       pub seeking-found : b ≡ true → true ≡ f (propertiesIn (componentBy s rows c .items))
       seeking-found z = ap (λ (x : Bool). x || f (propertiesIn (itemsBy s (i + 1)))) (sym z) ∙ line-here
 
-    pub seeking-inner : {next row : ℕ} → InnerAt s rows i k j m next row → Seeking f s rows c next row j m
-    seeking-inner h = record { left = h .rest; rest = sym (component-at h) ∙ r .rest }
+    pub seeking-inner : {next row : ℕ} → a ≡ Item.Inner next row → Seeking f s rows c next row j m
+    seeking-inner e = let h = inner-at (r .left) w e in record { left = h .rest; rest = sym (component-at h) ∙ r .rest }
 
-    pub seeking-end : itemsBy s i ≡ none → false ≡ f (propertiesIn (componentBy s rows c .items))
-    seeking-end h = sym (nothing-at s i h) ∙ r .rest
+    pub seeking-end : a ≡ Item.Done → false ≡ f (propertiesIn (componentBy s rows c .items))
+    seeking-end e = sym (nothing-at s i (no-item-at (r .left) w e)) ∙ r .rest
 
 -- both searches ask for one line
 pub named-lines : (n : List ℕ) → SomeOf (someNamed n) (λ x. sameName (x .name) n)

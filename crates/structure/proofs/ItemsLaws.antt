@@ -1,5 +1,5 @@
 -- What a step from item to item tells of the tree.
-use Prim.Native.Nat.{ℕ, _+_, _*_, _≤_, _<_}
+use Prim.Native.Nat.{ℕ, _+_, _-_, _*_, _≤_, _<_}
 use mathlib.Core.Path.{_≡_, refl, sym, ap, subst, _∙_}
 use mathlib.Core.Bool.{Bool, true, false, cond, _&&_}
 use mathlib.Core.List.{List}
@@ -65,8 +65,8 @@ module _ {s rows : List ℕ} {i k j m : ℕ} (h : ItemsAt s rows i k j m) where
       go : ItemAt s rows i k j m Item.Property → PropertyAt s rows i k j m
       go (is-property p) = p
 
-  pub inner-at : {r : Item} (next row : ℕ) → r ≡ itemBy rows i k j m → r ≡ Item.Inner next row → InnerAt s rows i k j m next row
-  inner-at next row q e = go (subst (ItemAt s rows i k j m) e (told q))
+  pub inner-at : {r : Item} {next row : ℕ} → r ≡ itemBy rows i k j m → r ≡ Item.Inner next row → InnerAt s rows i k j m next row
+  inner-at {next = next} {row = row} q e = go (subst (ItemAt s rows i k j m) e (told q))
     where
       go : ItemAt s rows i k j m (Item.Inner next row) → InnerAt s rows i k j m next row
       go (is-inner p) = p
@@ -76,6 +76,13 @@ module _ {s rows : List ℕ} {i k j m : ℕ} (h : ItemsAt s rows i k j m) where
     where
       go : ItemAt s rows i k j m Item.Done → itemsBy s i ≡ none
       go (is-done p) = p
+
+  -- and then less is left to read
+  pub property-less : {r : Item} → r ≡ itemBy rows i k j m → r ≡ Item.Property → j - (i + 1) < j - i
+  property-less q e = omega (arith, property-at q e .onward)
+
+  pub inner-less : {r : Item} {next row : ℕ} → r ≡ itemBy rows i k j m → r ≡ Item.Inner next row → j - next < j - i
+  inner-less q e = let z = inner-at q e in omega (arith, z .onward, z .within)
 
 -- what a step may ask
 pub item-asked : {s rows : List ℕ} {i k j m : ℕ} → ItemsAt s rows i k j m → ((m ≤ 256) × (4 * m ≤ length rows)) × (i ≤ 65536)

@@ -1,8 +1,8 @@
 -- `property_tests::some_line` meets its contract: no line so far holds, so the lines that are left decide.
 use Rattle.property_tests.specs.PropertyTests.{someLine}
 use Rattle.property_tests.proofs.PropertyTests.{holding-lines}
-use Rattle.structure.proofs.ItemsLaws.{property-at, inner-at, no-item-at}
-use Rattle.property_tests.proofs.PropertyTests.{Seeking, row-ends, seeking-start, seeking-small, seeking-line, seeking-next, seeking-found, seeking-inner, seeking-end}
+use Rattle.structure.proofs.ItemsLaws.{item-asked, property-less, inner-less}
+use Rattle.property_tests.proofs.PropertyTests.{Seeking, row-ends, seeking-start, seeking-line, seeking-next, seeking-found, seeking-inner, seeking-end}
 use Prim.Native.Nat.{_-_}
 use mathlib.Core.Path.{refl}
 use native.Mathlib.Omega.{arith}
@@ -40,73 +40,49 @@ loop-holds c =
     seeking-start _ row first behind next
 
 item-at-requires : tie.Need-item-at-requires Inv-loop μ-loop
-item-at-requires c κs = ((c .loop .inv .left .few, c .loop .inv .left .room), omega (arith, seeking-small (c .loop .inv), c .loop .inv .left .inside))
+item-at-requires c κs = item-asked (c .loop .inv .left)
 
 enum-told : tie.Need-enum-told Inv-loop μ-loop
 enum-told c = search needs
 
 line-holds-requires : tie.Need-line-holds-requires Inv-loop μ-loop
 line-holds-requires c κs =
-    let h = c .before .before .before .before .before .before .before .before .before .before .before .before .before .pre in
-    let y =
-    seeking-line
-    (c .before .before .before .loop .inv)
-    (h .1 .1 .1 .1 .0)
-    (property-at (c .before .before .before .loop .inv .left) (c .before .before .item-at .ensures) (c .enum-told .given .1))
-    in
-    (h .0, (h .1 .0, (h .1 .1 .0, (h .1 .1 .1 .0, y))))
+    let pre = c .before .before .before .before .before .before .before .before .before .before .before .before .before .pre in
+    let known = seeking-line (c .before .before .before .loop .inv) (c .before .before .item-at .ensures) (c .enum-told .given .1) (pre .1 .1 .1 .1 .0) in
+    (pre .0, (pre .1 .0, (pre .1 .1 .0, (pre .1 .1 .1 .0, known))))
 
 returns : tie.Need-returns Inv-loop μ-loop
 returns c =
-    seeking-found (holding-lines _ _ _ _)
-    (c .before .before .before .before .before .loop .inv)
-    (property-at (c .before .before .before .before .before .loop .inv .left) (c .before .before .before .before .item-at .ensures) (c .before .before .enum-told .given .1)) refl
-    (c .before .line-holds .ensures) (c .if1 .taken)
+    let step = c .before .before .before .before in
+    seeking-found (holding-lines _ _ _ _) (step .before .loop .inv) (step .item-at .ensures) (c .before .before .enum-told .given .1) refl (c .before .line-holds .ensures) (c .if1 .taken)
 
 add-i : tie.Need-add-i Inv-loop μ-loop
-add-i c = omega (arith, seeking-small (c .before .before .before .before .before .loop .inv), c .before .before .before .before .before .loop .inv .left .inside)
+add-i c = omega (arith, item-asked (c .before .before .before .before .before .loop .inv .left) .1)
 
 loop-less : tie.Need-loop-less Inv-loop μ-loop
 loop-less c =
-    let seeking = c .before .before .before .before .before .loop .inv in
-    let read = c .before .before .before .before .item-at .ensures in
-    let property = c .before .before .enum-told .given .1 in
-    let item = property-at (seeking .left) read property in
-    omega (arith, item .onward)
+    let step = c .before .before .before .before in
+    property-less (step .before .loop .inv .left) (step .item-at .ensures) (c .before .before .enum-told .given .1)
 
 loop-again : tie.Need-loop-again Inv-loop μ-loop
 loop-again c =
-    seeking-next (holding-lines _ _ _ _)
-    (c .before .before .before .before .before .loop .inv)
-    (property-at (c .before .before .before .before .before .loop .inv .left) (c .before .before .before .before .item-at .ensures) (c .before .before .enum-told .given .1)) refl
-    (c .before .line-holds .ensures) (c .if1 .left)
+    let step = c .before .before .before .before in
+    seeking-next (holding-lines _ _ _ _) (step .before .loop .inv) (step .item-at .ensures) (c .before .before .enum-told .given .1) refl (c .before .line-holds .ensures) (c .if1 .left)
 
 enum-known-next : tie.Need-enum-known-next Inv-loop μ-loop
 enum-known-next c = search needs
 
 loop-less-2 : tie.Need-loop-less-2 Inv-loop μ-loop
-loop-less-2 c =
-    let seeking = c .before .before .before .before .loop .inv in
-    let read = c .before .before .before .item-at .ensures in
-    let inner = c .before .next .given .1 in
-    let item = inner-at (seeking .left) _ _ read inner in
-    omega (arith, item .onward, item .within)
+loop-less-2 c = inner-less (c .before .before .before .before .loop .inv .left) (c .before .before .before .item-at .ensures) (c .before .next .given .1)
 
 loop-again-2 : tie.Need-loop-again-2 Inv-loop μ-loop
-loop-again-2 c =
-    seeking-inner (holding-lines _ _ _ _)
-    (c .before .before .before .before .loop .inv)
-    (inner-at (c .before .before .before .before .loop .inv .left) _ _ (c .before .before .before .item-at .ensures) (c .before .next .given .1))
+loop-again-2 c = seeking-inner (holding-lines _ _ _ _) (c .before .before .before .before .loop .inv) (c .before .before .before .item-at .ensures) (c .before .next .given .1)
 
 enum-told-2 : tie.Need-enum-told-2 Inv-loop μ-loop
 enum-told-2 c = search needs
 
 returns-2 : tie.Need-returns-2 Inv-loop μ-loop
-returns-2 c =
-    let seeking = c .before .before .before .loop .inv in
-    let read = c .before .before .item-at .ensures in
-    let done = c .enum-told2 .given .1 in
-    seeking-end (holding-lines _ _ _ _) seeking (no-item-at (seeking .left) read done)
+returns-2 c = seeking-end (holding-lines _ _ _ _) (c .before .before .before .loop .inv) (c .before .before .item-at .ensures) (c .enum-told2 .given .1)
 
 pub some-line-spec : {M : Type 1} → statement M
 some-line-spec =

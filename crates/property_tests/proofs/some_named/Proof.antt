@@ -1,8 +1,8 @@
 -- `property_tests::some_named` meets its contract: no line so far has the name, so the lines that are left decide.
 use Rattle.property_tests.specs.PropertyTests.{someNamed}
 use Rattle.property_tests.proofs.PropertyTests.{named-lines, named-line}
-use Rattle.structure.proofs.ItemsLaws.{property-at, inner-at, no-item-at}
-use Rattle.property_tests.proofs.PropertyTests.{Seeking, row-ends, seeking-start, seeking-small, seeking-line, seeking-next, seeking-found, seeking-inner, seeking-end}
+use Rattle.structure.proofs.ItemsLaws.{item-asked, property-less, inner-less}
+use Rattle.property_tests.proofs.PropertyTests.{Seeking, row-ends, seeking-start, seeking-line, seeking-next, seeking-found, seeking-inner, seeking-end}
 use Prim.Native.Nat.{_-_}
 use mathlib.Core.Path.{refl}
 use native.Mathlib.Omega.{arith}
@@ -35,70 +35,48 @@ loop-holds : tie.Need-loop-holds Inv-loop μ-loop
 loop-holds c = seeking-start _ (c .before .before .before .before .before .before .before .pre .1) (c .before .before .first-line .ensures) (c .before .line-behind .ensures) (c .next-row .ensures)
 
 item-at-requires : tie.Need-item-at-requires Inv-loop μ-loop
-item-at-requires c κs = ((c .loop .inv .left .few, c .loop .inv .left .room), omega (arith, seeking-small (c .loop .inv), c .loop .inv .left .inside))
+item-at-requires c κs = item-asked (c .loop .inv .left)
 
 enum-told : tie.Need-enum-told Inv-loop μ-loop
 enum-told c = search needs
 
 is-called-requires : tie.Need-is-called-requires Inv-loop μ-loop
 is-called-requires c κs =
-    seeking-line
-    (c .before .before .before .loop .inv)
-    (c .before .before .before .before .before .before .before .before .before .before .before .pre .0)
-    (property-at (c .before .before .before .loop .inv .left) (c .before .before .item-at .ensures) (c .enum-told .given .1))
+    let indexed = c .before .before .before .before .before .before .before .before .before .before .before .pre .0 in
+    seeking-line (c .before .before .before .loop .inv) (c .before .before .item-at .ensures) (c .enum-told .given .1) indexed
 
 returns : tie.Need-returns Inv-loop μ-loop
 returns c =
-    seeking-found (named-lines _)
-    (c .before .before .before .before .before .loop .inv)
-    (property-at (c .before .before .before .before .before .loop .inv .left) (c .before .before .before .before .item-at .ensures) (c .before .before .enum-told .given .1)) refl
-    (named-line _ _ (c .before .is-called .ensures)) (c .if1 .taken)
+    let step = c .before .before .before .before in
+    seeking-found (named-lines _) (step .before .loop .inv) (step .item-at .ensures) (c .before .before .enum-told .given .1) refl (named-line _ _ (c .before .is-called .ensures)) (c .if1 .taken)
 
 add-i : tie.Need-add-i Inv-loop μ-loop
-add-i c = omega (arith, seeking-small (c .before .before .before .before .before .loop .inv), c .before .before .before .before .before .loop .inv .left .inside)
+add-i c = omega (arith, item-asked (c .before .before .before .before .before .loop .inv .left) .1)
 
 loop-less : tie.Need-loop-less Inv-loop μ-loop
 loop-less c =
-    let seeking = c .before .before .before .before .before .loop .inv in
-    let read = c .before .before .before .before .item-at .ensures in
-    let property = c .before .before .enum-told .given .1 in
-    let item = property-at (seeking .left) read property in
-    omega (arith, item .onward)
+    let step = c .before .before .before .before in
+    property-less (step .before .loop .inv .left) (step .item-at .ensures) (c .before .before .enum-told .given .1)
 
 loop-again : tie.Need-loop-again Inv-loop μ-loop
 loop-again c =
-    seeking-next (named-lines _)
-    (c .before .before .before .before .before .loop .inv)
-    (property-at (c .before .before .before .before .before .loop .inv .left) (c .before .before .before .before .item-at .ensures) (c .before .before .enum-told .given .1)) refl
-    (named-line _ _ (c .before .is-called .ensures)) (c .if1 .left)
+    let step = c .before .before .before .before in
+    seeking-next (named-lines _) (step .before .loop .inv) (step .item-at .ensures) (c .before .before .enum-told .given .1) refl (named-line _ _ (c .before .is-called .ensures)) (c .if1 .left)
 
 enum-known-next : tie.Need-enum-known-next Inv-loop μ-loop
 enum-known-next c = search needs
 
 loop-less-2 : tie.Need-loop-less-2 Inv-loop μ-loop
-loop-less-2 c =
-    let seeking = c .before .before .before .before .loop .inv in
-    let read = c .before .before .before .item-at .ensures in
-    let inner = c .before .next .given .1 in
-    let item = inner-at (seeking .left) _ _ read inner in
-    omega (arith, item .onward, item .within)
+loop-less-2 c = inner-less (c .before .before .before .before .loop .inv .left) (c .before .before .before .item-at .ensures) (c .before .next .given .1)
 
 loop-again-2 : tie.Need-loop-again-2 Inv-loop μ-loop
-loop-again-2 c =
-    let seeking = c .before .before .before .before .loop .inv in
-    let read = c .before .before .before .item-at .ensures in
-    let inner = c .before .next .given .1 in
-    seeking-inner (named-lines _) seeking (inner-at (seeking .left) _ _ read inner)
+loop-again-2 c = seeking-inner (named-lines _) (c .before .before .before .before .loop .inv) (c .before .before .before .item-at .ensures) (c .before .next .given .1)
 
 enum-told-2 : tie.Need-enum-told-2 Inv-loop μ-loop
 enum-told-2 c = search needs
 
 returns-2 : tie.Need-returns-2 Inv-loop μ-loop
-returns-2 c =
-    let seeking = c .before .before .before .loop .inv in
-    let read = c .before .before .item-at .ensures in
-    let done = c .enum-told2 .given .1 in
-    seeking-end (named-lines _) seeking (no-item-at (seeking .left) read done)
+returns-2 c = seeking-end (named-lines _) (c .before .before .before .loop .inv) (c .before .before .item-at .ensures) (c .enum-told2 .given .1)
 
 pub some-named-spec : {M : Type 1} → statement M
 some-named-spec =

@@ -1,12 +1,15 @@
 -- `contents::lines::read_lines` meets its contract: the lines that are left have the first fault and make the whole of what is said and stored.
 -- Each arm is what one kind of line adds.
 use Prim.Native.Nat.{_-_}
+use lib.ListN.{length}
 use Rattle.nesting.specs.Components.{propertiesIn}
 use Rattle.structure.specs.Rows.{componentBy}
-use Rattle.structure.proofs.ItemsLaws.{item-asked, property-at, inner-at, no-item-at}
-use Rattle.contents.proofs.LinesLaws.{ReadingLines, says-nothing, nothing-said, says-start, says-end, says-lasts, says-repeats, says-status, says-transparent, reading-start, reading-inner, reading-done, reading-unsupported, reading-bad, reading-says, reading-periods, reading-bad-period, line-entry}
+use Rattle.structure.proofs.ItemsLaws.{item-asked, inner-less}
+use Rattle.contents.proofs.LinesLaws.{ReadingLines, LineHere, nothing-said, line-entry, line-read}
+use Rattle.contents.proofs.LinesLaws.{reading-start, reading-inner, reading-done, reading-unsupported, reading-bad, reading-plain, reading-periods, reading-bad-period}
+use Rattle.index.specs.Index.{Entry}
 use Rattle.index.proofs.Index.{entry-here, entry-name}
-use mathlib.Core.Path.{sym, _∙_}
+use mathlib.Core.Path.{_≡_, sym, _∙_}
 use native.Mathlib.Omega.{arith}
 use Rattle.contents.proofs.lines.read_lines.Statement.{statement}
 use Rattle.contents.proofs.lines.read_lines.Tie as tie
@@ -18,6 +21,37 @@ Inv-loop column₀ first s index rows k scope c a b stop last n₀ g₀ i₀ row
 
 abbrev μ-loop : tie.MeasureT-loop
 μ-loop column₀ first s index rows k scope c a b stop last n₀ g₀ i₀ row₀ column n g i row = stop - i
+
+-- the call, and a turn of the loop, from the places below
+abbrev called : tie.At-loop Inv-loop μ-loop → tie.Start Inv-loop μ-loop
+called c = c .before .before .before .before .before .before .before .before .before
+
+abbrev turn : tie.After-enum-told Inv-loop μ-loop → tie.At-loop Inv-loop μ-loop
+turn c = c .before .before .before
+
+-- the column keeps its length
+same-room : (c : tie.At-loop Inv-loop μ-loop) → length (c .loop .column) ≡ length (called c .args .column .now)
+same-room c = c .loop .inv .still .long ∙ sym (called c .pre .0)
+
+-- the line of a property is known to the index
+known : (c : tie.After-enum-told Inv-loop μ-loop) → Entry (called (turn c) .args .s .now) (called (turn c) .args .index .now) (turn c .loop .i)
+known c = line-entry (turn c .loop .inv) (c .before .before .item-at .ensures) (c .enum-told .given .1) (called (turn c) .pre .1 .1 .1 .0)
+
+-- its value is read, and each arm below begins with that
+abbrev Read : tie.After-property-value Inv-loop μ-loop → Type 0
+Read c =
+    let at = turn (c .before .before .before) in
+    let given = called at .args in
+    let lines = propertiesIn (componentBy (given .s .now) (given .rows .now) (given .k) .items) in
+    let stop = at .before .before .before .before .line-behind .result - 1 in
+    LineHere (given .c) (given .scope) (given .s .now) (given .rows .now) lines (given .a) (given .b) (given .column .now) (given .first)
+    (at .loop .column) (at .loop .n) (at .loop .g) (at .loop .i) (at .loop .row) stop (at .before .before .before .next-row .result)
+    (c .before .before .line-at .result .now) (c .property-value .result)
+
+value-read : (c : tie.After-property-value Inv-loop μ-loop) → Read c
+value-read c =
+    let told = c .before .before .before in
+    line-read (turn told .loop .inv) (told .before .before .item-at .ensures) (told .enum-told .given .1) (c .before .before .line-at .ensures) (c .property-value .ensures)
 
 line-behind-requires : tie.Need-line-behind-requires Inv-loop μ-loop
 line-behind-requires c κs = c .before .before .before .before .pre .1 .1 .1 .1 .0 .room
@@ -54,82 +88,42 @@ add-next : tie.Need-add-next Inv-loop μ-loop
 add-next c = omega (arith, item-asked (c .before .before .before .loop .inv .items) .1)
 
 line-at-requires : tie.Need-line-at-requires Inv-loop μ-loop
-line-at-requires c κs =
-    let pre = c .before .before .before .before .before .before .before .before .before .before .before .before .pre in
-    let turn = c .before .before .before .loop in
-    line-entry (pre .1 .1 .1 .0) (property-at (turn .inv .items) (c .before .before .item-at .ensures) (c .enum-told .given .1))
+line-at-requires c κs = known c
 
 name-length-requires : tie.Need-name-length-requires Inv-loop μ-loop
-name-length-requires c κs =
-    let pre = c .before .before .before .before .before .before .before .before .before .before .before .before .before .pre in
-    let turn = c .before .before .before .before .loop in
-    let item-at = c .before .before .before .item-at in
-    entry-here (line-entry (pre .1 .1 .1 .0) (property-at (turn .inv .items) (item-at .ensures) (c .before .enum-told .given .1)))
+name-length-requires c κs = entry-here (known (c .before))
 
 property-value-requires : tie.Need-property-value-requires Inv-loop μ-loop
 property-value-requires c κs =
-    let told = c .before .before .enum-told .given .1 in
-    let line = c .before .line-at .ensures in
-    let size = c .name-length .ensures in
-    let pre = c .before .before .before .before .before .before .before .before .before .before .before .before .before .before .pre in
-    let turn = c .before .before .before .before .before .loop in
-    let item-at = c .before .before .before .before .item-at in
-    (pre .1 .1 .0, entry-name (line-entry (pre .1 .1 .1 .0) (property-at (turn .inv .items) (item-at .ensures) told)) size line)
+    let told = c .before .before in
+    (called (turn told) .pre .1 .1 .0, entry-name (known told) (c .name-length .ensures) (c .before .line-at .ensures))
 
 enum-told-2 : tie.Need-enum-told-2 Inv-loop μ-loop
 enum-told-2 c = search needs
 
 loop-less : tie.Need-loop-less Inv-loop μ-loop
-loop-less c =
-    let turn = c .before .before .before .before .before .before .before .before .loop in
-    let item-at = c .before .before .before .before .before .before .before .item-at in
-    let enum-told = c .before .before .before .before .before .enum-told in
-    omega (arith, (property-at (turn .inv .items) (item-at .ensures) (enum-told .given .1)) .onward)
+loop-less c = omega (arith, value-read (c .before .before) .here .onward)
 
 loop-again : tie.Need-loop-again Inv-loop μ-loop
-loop-again c =
-    let turn = c .before .before .before .before .before .before .before .before .loop in
-    let item-at = c .before .before .before .before .before .before .before .item-at in
-    let enum-told = c .before .before .before .before .before .enum-told in
-    let line-at = c .before .before .before .before .line-at in
-    reading-says (turn .inv) (property-at (turn .inv .items) (item-at .ensures) (enum-told .given .1)) (line-at .ensures) (c .before .before .property-value .ensures)
-    says-nothing (c .enum-told2 .given .1) (nothing-said _)
+loop-again c = reading-plain (value-read (c .before .before)) (c .enum-told2 .given .1) (nothing-said _) tt
 
 enum-told-3 : tie.Need-enum-told-3 Inv-loop μ-loop
 enum-told-3 c = search needs
 
 same-length : tie.Need-same-length Inv-loop μ-loop
-same-length c =
-    let room = c .before .before .before .before .before .before .before .before .before .before .before .before .before .before .before .before .before .pre .0 in
-    let still = c .before .before .before .before .before .before .before .before .loop .inv .still .long in
-    still ∙ sym room
+same-length c = same-room (c .before .before .before .before .before .before .before .before)
 
 returns : tie.Need-returns Inv-loop μ-loop
-returns c =
-    let turn = c .before .before .before .before .before .before .before .before .loop in
-    let item-at = c .before .before .before .before .before .before .before .item-at in
-    let enum-told = c .before .before .before .before .before .enum-told in
-    let line-at = c .before .before .before .before .line-at in
-    reading-unsupported (turn .inv) (property-at (turn .inv .items) (item-at .ensures) (enum-told .given .1)) (line-at .ensures)
-    (c .before .before .property-value .ensures) _ (c .enum-told3 .given .1)
+returns c = reading-unsupported (value-read (c .before .before)) _ (c .enum-told3 .given .1)
 
 enum-told-4 : tie.Need-enum-told-4 Inv-loop μ-loop
 enum-told-4 c = search needs
 
 same-length-2 : tie.Need-same-length-2 Inv-loop μ-loop
-same-length-2 c =
-    let turn = c .before .before .before .before .before .before .before .before .loop in
-    let pre = c .before .before .before .before .before .before .before .before .before .before .before .before .before .before .before .before .before .pre in
-    turn .inv .still .long ∙ sym (pre .0)
+same-length-2 c = same-room (c .before .before .before .before .before .before .before .before)
 
 returns-2 : tie.Need-returns-2 Inv-loop μ-loop
-returns-2 c =
-    let turn = c .before .before .before .before .before .before .before .before .loop in
-    let item-at = c .before .before .before .before .before .before .before .item-at in
-    let enum-told = c .before .before .before .before .before .enum-told in
-    let line-at = c .before .before .before .before .line-at in
-    reading-bad (turn .inv) (property-at (turn .inv .items) (item-at .ensures) (enum-told .given .1)) (line-at .ensures) (c .before .before .property-value .ensures) _
-    (c .enum-told4 .given .1)
+returns-2 c = reading-bad (value-read (c .before .before)) _ (c .enum-told4 .given .1)
 
 enum-known-t : tie.Need-enum-known-t Inv-loop μ-loop
 enum-known-t c = search needs
@@ -138,21 +132,10 @@ with-start-requires : tie.Need-with-start-requires Inv-loop μ-loop
 with-start-requires c κs = search needs
 
 loop-less-2 : tie.Need-loop-less-2 Inv-loop μ-loop
-loop-less-2 c =
-    let turn = c .before .before .before .before .before .before .before .before .before .before .loop in
-    let item-at = c .before .before .before .before .before .before .before .before .before .item-at in
-    let enum-told = c .before .before .before .before .before .before .before .enum-told in
-    omega (arith, (property-at (turn .inv .items) (item-at .ensures) (enum-told .given .1)) .onward)
+loop-less-2 c = omega (arith, value-read (c .before .before .before .before) .here .onward)
 
 loop-again-2 : tie.Need-loop-again-2 Inv-loop μ-loop
-loop-again-2 c =
-    let turn = c .before .before .before .before .before .before .before .before .before .before .loop in
-    let item-at = c .before .before .before .before .before .before .before .before .before .item-at in
-    let enum-told = c .before .before .before .before .before .before .before .enum-told in
-    let line-at = c .before .before .before .before .before .before .line-at in
-    let property-value = c .before .before .before .before .property-value in
-    reading-says (turn .inv) (property-at (turn .inv .items) (item-at .ensures) (enum-told .given .1)) (line-at .ensures) (property-value .ensures) (says-start _)
-    (c .before .before .t .given .1) (c .with-start .ensures)
+loop-again-2 c = reading-plain (value-read (c .before .before .before .before)) (c .before .before .t .given .1) (c .with-start .ensures) tt
 
 enum-known-t-2 : tie.Need-enum-known-t-2 Inv-loop μ-loop
 enum-known-t-2 c = search needs
@@ -161,21 +144,10 @@ with-end-requires : tie.Need-with-end-requires Inv-loop μ-loop
 with-end-requires c κs = search needs
 
 loop-less-3 : tie.Need-loop-less-3 Inv-loop μ-loop
-loop-less-3 c =
-    let turn = c .before .before .before .before .before .before .before .before .before .before .loop in
-    let item-at = c .before .before .before .before .before .before .before .before .before .item-at in
-    let enum-told = c .before .before .before .before .before .before .before .enum-told in
-    omega (arith, (property-at (turn .inv .items) (item-at .ensures) (enum-told .given .1)) .onward)
+loop-less-3 c = omega (arith, value-read (c .before .before .before .before) .here .onward)
 
 loop-again-3 : tie.Need-loop-again-3 Inv-loop μ-loop
-loop-again-3 c =
-    let turn = c .before .before .before .before .before .before .before .before .before .before .loop in
-    let item-at = c .before .before .before .before .before .before .before .before .before .item-at in
-    let enum-told = c .before .before .before .before .before .before .before .enum-told in
-    let line-at = c .before .before .before .before .before .before .line-at in
-    let property-value = c .before .before .before .before .property-value in
-    reading-says (turn .inv) (property-at (turn .inv .items) (item-at .ensures) (enum-told .given .1)) (line-at .ensures) (property-value .ensures) (says-end _)
-    (c .before .before .t2 .given .1) (c .with-end .ensures)
+loop-again-3 c = reading-plain (value-read (c .before .before .before .before)) (c .before .before .t2 .given .1) (c .with-end .ensures) tt
 
 enum-known-d : tie.Need-enum-known-d Inv-loop μ-loop
 enum-known-d c = search needs
@@ -184,21 +156,10 @@ with-lasts-requires : tie.Need-with-lasts-requires Inv-loop μ-loop
 with-lasts-requires c κs = search needs
 
 loop-less-4 : tie.Need-loop-less-4 Inv-loop μ-loop
-loop-less-4 c =
-    let turn = c .before .before .before .before .before .before .before .before .before .before .loop in
-    let item-at = c .before .before .before .before .before .before .before .before .before .item-at in
-    let enum-told = c .before .before .before .before .before .before .before .enum-told in
-    omega (arith, (property-at (turn .inv .items) (item-at .ensures) (enum-told .given .1)) .onward)
+loop-less-4 c = omega (arith, value-read (c .before .before .before .before) .here .onward)
 
 loop-again-4 : tie.Need-loop-again-4 Inv-loop μ-loop
-loop-again-4 c =
-    let turn = c .before .before .before .before .before .before .before .before .before .before .loop in
-    let item-at = c .before .before .before .before .before .before .before .before .before .item-at in
-    let enum-told = c .before .before .before .before .before .before .before .enum-told in
-    let line-at = c .before .before .before .before .before .before .line-at in
-    let property-value = c .before .before .before .before .property-value in
-    reading-says (turn .inv) (property-at (turn .inv .items) (item-at .ensures) (enum-told .given .1)) (line-at .ensures) (property-value .ensures) (says-lasts _)
-    (c .before .before .d .given .1) (c .with-lasts .ensures)
+loop-again-4 c = reading-plain (value-read (c .before .before .before .before)) (c .before .before .d .given .1) (c .with-lasts .ensures) tt
 
 enum-known-r : tie.Need-enum-known-r Inv-loop μ-loop
 enum-known-r c = search needs
@@ -207,21 +168,10 @@ with-repeats-requires : tie.Need-with-repeats-requires Inv-loop μ-loop
 with-repeats-requires c κs = search needs
 
 loop-less-5 : tie.Need-loop-less-5 Inv-loop μ-loop
-loop-less-5 c =
-    let turn = c .before .before .before .before .before .before .before .before .before .before .loop in
-    let item-at = c .before .before .before .before .before .before .before .before .before .item-at in
-    let enum-told = c .before .before .before .before .before .before .before .enum-told in
-    omega (arith, (property-at (turn .inv .items) (item-at .ensures) (enum-told .given .1)) .onward)
+loop-less-5 c = omega (arith, value-read (c .before .before .before .before) .here .onward)
 
 loop-again-5 : tie.Need-loop-again-5 Inv-loop μ-loop
-loop-again-5 c =
-    let turn = c .before .before .before .before .before .before .before .before .before .before .loop in
-    let item-at = c .before .before .before .before .before .before .before .before .before .item-at in
-    let enum-told = c .before .before .before .before .before .before .before .enum-told in
-    let line-at = c .before .before .before .before .before .before .line-at in
-    let property-value = c .before .before .before .before .property-value in
-    reading-says (turn .inv) (property-at (turn .inv .items) (item-at .ensures) (enum-told .given .1)) (line-at .ensures) (property-value .ensures) (says-repeats _)
-    (c .before .before .r .given .1) (c .with-repeats .ensures)
+loop-again-5 c = reading-plain (value-read (c .before .before .before .before)) (c .before .before .r .given .1) (c .with-repeats .ensures) tt
 
 enum-known-x : tie.Need-enum-known-x Inv-loop μ-loop
 enum-known-x c = search needs
@@ -230,21 +180,10 @@ with-status-requires : tie.Need-with-status-requires Inv-loop μ-loop
 with-status-requires c κs = search needs
 
 loop-less-6 : tie.Need-loop-less-6 Inv-loop μ-loop
-loop-less-6 c =
-    let turn = c .before .before .before .before .before .before .before .before .before .before .loop in
-    let item-at = c .before .before .before .before .before .before .before .before .before .item-at in
-    let enum-told = c .before .before .before .before .before .before .before .enum-told in
-    omega (arith, (property-at (turn .inv .items) (item-at .ensures) (enum-told .given .1)) .onward)
+loop-less-6 c = omega (arith, value-read (c .before .before .before .before) .here .onward)
 
 loop-again-6 : tie.Need-loop-again-6 Inv-loop μ-loop
-loop-again-6 c =
-    let turn = c .before .before .before .before .before .before .before .before .before .before .loop in
-    let item-at = c .before .before .before .before .before .before .before .before .before .item-at in
-    let enum-told = c .before .before .before .before .before .before .before .enum-told in
-    let line-at = c .before .before .before .before .before .before .line-at in
-    let property-value = c .before .before .before .before .property-value in
-    reading-says (turn .inv) (property-at (turn .inv .items) (item-at .ensures) (enum-told .given .1)) (line-at .ensures) (property-value .ensures) (says-status _)
-    (c .before .before .x .given .1) (c .with-status .ensures)
+loop-again-6 c = reading-plain (value-read (c .before .before .before .before)) (c .before .before .x .given .1) (c .with-status .ensures) tt
 
 enum-known-x-2 : tie.Need-enum-known-x-2 Inv-loop μ-loop
 enum-known-x-2 c = search needs
@@ -253,21 +192,10 @@ with-transparency-requires : tie.Need-with-transparency-requires Inv-loop μ-loo
 with-transparency-requires c κs = search needs
 
 loop-less-7 : tie.Need-loop-less-7 Inv-loop μ-loop
-loop-less-7 c =
-    let turn = c .before .before .before .before .before .before .before .before .before .before .loop in
-    let item-at = c .before .before .before .before .before .before .before .before .before .item-at in
-    let enum-told = c .before .before .before .before .before .before .before .enum-told in
-    omega (arith, (property-at (turn .inv .items) (item-at .ensures) (enum-told .given .1)) .onward)
+loop-less-7 c = omega (arith, value-read (c .before .before .before .before) .here .onward)
 
 loop-again-7 : tie.Need-loop-again-7 Inv-loop μ-loop
-loop-again-7 c =
-    let turn = c .before .before .before .before .before .before .before .before .before .before .loop in
-    let item-at = c .before .before .before .before .before .before .before .before .before .item-at in
-    let enum-told = c .before .before .before .before .before .before .before .enum-told in
-    let line-at = c .before .before .before .before .before .before .line-at in
-    let property-value = c .before .before .before .before .property-value in
-    reading-says (turn .inv) (property-at (turn .inv .items) (item-at .ensures) (enum-told .given .1)) (line-at .ensures) (property-value .ensures) (says-transparent _)
-    (c .before .before .x2 .given .1) (c .with-transparency .ensures)
+loop-again-7 c = reading-plain (value-read (c .before .before .before .before)) (c .before .before .x2 .given .1) (c .with-transparency .ensures) tt
 
 enum-known-busy : tie.Need-enum-known-busy Inv-loop μ-loop
 enum-known-busy c = search needs
@@ -277,82 +205,50 @@ value-requires c κs = search needs
 
 store-value-requires : tie.Need-store-value-requires Inv-loop μ-loop
 store-value-requires c κs =
-    let turn = c .before .before .before .before .before .before .before .before .before .before .before .loop in
-    let pre = c .before .before .before .before .before .before .before .before .before .before .before .before .before .before .before .before .before .before .before .before .pre in
-    (turn .inv .still .long, (turn .inv .still .few, pre .1 .1 .1 .1 .1))
+    let at = c .before .before .before .before .before .before .before .before .before .before .before in
+    (at .loop .inv .still .long, (at .loop .inv .still .few, called at .pre .1 .1 .1 .1 .1))
 
 enum-known-m : tie.Need-enum-known-m Inv-loop μ-loop
 enum-known-m c = search needs
 
 loop-less-8 : tie.Need-loop-less-8 Inv-loop μ-loop
-loop-less-8 c =
-    let turn = c .before .before .before .before .before .before .before .before .before .before .before .before .before .before .before .before .before .loop in
-    let item-at = c .before .before .before .before .before .before .before .before .before .before .before .before .before .before .before .before .item-at in
-    let enum-told = c .before .before .before .before .before .before .before .before .before .before .before .before .before .before .enum-told in
-    omega (arith, (property-at (turn .inv .items) (item-at .ensures) (enum-told .given .1)) .onward)
+loop-less-8 c = omega (arith, value-read (c .before .before .before .before .before .before .before .before .before .before .before) .here .onward)
 
 loop-again-8 : tie.Need-loop-again-8 Inv-loop μ-loop
 loop-again-8 c =
-    let turn = c .before .before .before .before .before .before .before .before .before .before .before .before .before .before .before .before .before .loop in
-    let item-at = c .before .before .before .before .before .before .before .before .before .before .before .before .before .before .before .before .item-at in
-    let enum-told = c .before .before .before .before .before .before .before .before .before .before .before .before .before .before .enum-told in
-    let line-at = c .before .before .before .before .before .before .before .before .before .before .before .before .before .line-at in
-    let property-value = c .before .before .before .before .before .before .before .before .before .before .before .property-value in
-    let busy = c .before .before .before .before .before .before .before .before .before .busy in
-    let value = c .before .before .before .before .before .before .value in
-    let store-value = c .before .before .before .before .before .store-value in
-    reading-periods (turn .inv) (property-at (turn .inv .items) (item-at .ensures) (enum-told .given .1)) (line-at .ensures) (property-value .ensures) (busy .given .1)
-    (value .ensures) (store-value .ensures) _ (c .before .m .given .1)
+    let stored = c .before .before .before .before .before in
+    let read = value-read (stored .before .before .before .before .before .before) in
+    reading-periods read (stored .before .before .before .before .busy .given .1) (stored .before .value .ensures) (stored .store-value .ensures) _ (c .before .m .given .1)
 
 enum-told-5 : tie.Need-enum-told-5 Inv-loop μ-loop
 enum-told-5 c = search needs
 
 same-length-3 : tie.Need-same-length-3 Inv-loop μ-loop
-same-length-3 c =
-    let began = c .before .before .before .before .before .before .before .before .before .before .before .before .before .before .before .before in
-    let turn = began .loop in
-    let pre = began .before .before .before .before .before .before .before .before .before .pre in
-    omega (arith, turn .inv .still .long, pre .0)
+same-length-3 c = omega (arith, same-room (c .before .before .before .before .before .before .before .before .before .before .before .before .before .before .before .before))
 
 returns-3 : tie.Need-returns-3 Inv-loop μ-loop
 returns-3 c =
-    let turn = c .before .before .before .before .before .before .before .before .before .before .before .before .before .before .before .before .loop in
-    let item-at = c .before .before .before .before .before .before .before .before .before .before .before .before .before .before .before .item-at in
-    let enum-told = c .before .before .before .before .before .before .before .before .before .before .before .before .before .enum-told in
-    let line-at = c .before .before .before .before .before .before .before .before .before .before .before .before .line-at in
-    let property-value = c .before .before .before .before .before .before .before .before .before .before .property-value in
-    let busy = c .before .before .before .before .before .before .before .before .busy in
-    let value = c .before .before .before .before .before .value in
-    let store-value = c .before .before .before .before .store-value in
-    reading-bad-period (turn .inv) (property-at (turn .inv .items) (item-at .ensures) (enum-told .given .1)) (line-at .ensures) (property-value .ensures) (busy .given .1)
-    (value .ensures) (store-value .ensures) (c .enum-told5 .given .1)
+    let stored = c .before .before .before .before in
+    let read = value-read (stored .before .before .before .before .before .before) in
+    reading-bad-period read (stored .before .before .before .before .busy .given .1) (stored .before .value .ensures) (stored .store-value .ensures) (c .enum-told5 .given .1)
 
 enum-known-next : tie.Need-enum-known-next Inv-loop μ-loop
 enum-known-next c = search needs
 
 loop-less-9 : tie.Need-loop-less-9 Inv-loop μ-loop
-loop-less-9 c =
-    let reading = c .before .before .before .before .loop .inv in
-    let read = c .before .before .before .item-at .ensures in
-    let inner = c .before .next .given .1 in
-    let item = inner-at (reading .items) _ _ read inner in
-    omega (arith, item .onward, item .within)
+loop-less-9 c = inner-less (c .before .before .before .before .loop .inv .items) (c .before .before .before .item-at .ensures) (c .before .next .given .1)
 
 loop-again-9 : tie.Need-loop-again-9 Inv-loop μ-loop
-loop-again-9 c =
-    let reading = c .before .before .before .before .loop .inv in
-    let read = c .before .before .before .item-at .ensures in
-    let inner = c .before .next .given .1 in
-    reading-inner reading (inner-at (reading .items) _ _ read inner)
+loop-again-9 c = reading-inner (c .before .before .before .before .loop .inv) (c .before .before .before .item-at .ensures) (c .before .next .given .1)
 
 enum-told-6 : tie.Need-enum-told-6 Inv-loop μ-loop
 enum-told-6 c = search needs
 
 same-length-4 : tie.Need-same-length-4 Inv-loop μ-loop
-same-length-4 c = c .before .before .before .loop .inv .still .long ∙ sym (c .before .before .before .before .before .before .before .before .before .before .before .before .pre .0)
+same-length-4 c = same-room (c .before .before .before)
 
 returns-4 : tie.Need-returns-4 Inv-loop μ-loop
-returns-4 c = reading-done (c .before .before .before .loop .inv) (no-item-at (c .before .before .before .loop .inv .items) (c .before .before .item-at .ensures) (c .enum-told6 .given .1))
+returns-4 c = reading-done (c .before .before .before .loop .inv) (c .before .before .item-at .ensures) (c .enum-told6 .given .1)
 
 pub read-lines-spec : {M : Type 1} → statement M
 read-lines-spec =
