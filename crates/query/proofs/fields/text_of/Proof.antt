@@ -1,10 +1,18 @@
 -- `query::fields::text_of` meets its contract: the text lies inside, and its length byte says how many bytes it has.
 use Rattle.query.proofs.Records.{place-inside, text-is}
+use Prim.Native.Nat.{_+_, _≤_}
 use mathlib.Core.Path.{refl}
+use lib.ListN.{length}
 use native.Mathlib.Omega.{arith}
 use borrow.Author.Needs.{needs}
 use Rattle.query.proofs.fields.text_of.Statement.{statement}
 use Rattle.query.proofs.fields.text_of.Tie as tie
+
+-- the text lies inside
+inside : (c : tie.After-byte-at) → c .before .text-place .result + 1 + c .byte-at .result ≤ length (c .before .before .before .args .s .now)
+inside c =
+    let called = c .before .before .before in
+    place-inside _ (called .args .q) _ (called .pre .0) (called .pre .1) (c .before .text-place .ensures) (c .byte-at .ensures .is)
 
 text-place-requires : tie.Need-text-place-requires
 text-place-requires c κs = search needs
@@ -16,13 +24,7 @@ byte-at-requires : tie.Need-byte-at-requires
 byte-at-requires c κs = search needs
 
 add-e : tie.Need-add-e
-add-e c =
-    let sections = c .before .before .before .args .q in
-    let fits = c .before .before .before .pre .0 in
-    let among = c .before .before .before .pre .1 in
-    let place = c .before .text-place .ensures in
-    let size = c .byte-at .ensures .is in
-    omega (arith, place-inside _ sections _ fits among place size)
+add-e c = omega (arith, inside c)
 
 sub-result : tie.Need-sub-result
 sub-result c = search needs
@@ -31,13 +33,7 @@ part-result-start : tie.Need-part-result-start
 part-result-start c = search needs
 
 part-result-end : tie.Need-part-result-end
-part-result-end c =
-    let sections = c .before .before .before .args .q in
-    let fits = c .before .before .before .pre .0 in
-    let among = c .before .before .before .pre .1 in
-    let place = c .before .text-place .ensures in
-    let size = c .byte-at .ensures .is in
-    omega (arith, place-inside _ sections _ fits among place size)
+part-result-end c = omega (arith, inside c)
 
 returns : tie.Need-returns
 returns c = text-is _ (c .before .before .before .before .args .q) _ (c .before .before .text-place .ensures) (c .before .byte-at .ensures .is)

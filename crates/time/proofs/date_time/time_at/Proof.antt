@@ -1,10 +1,18 @@
 -- `time::date_time::time_at` meets its contract: each way out is a case of the three numbers.
-use Rattle.time.specs.DateTime.{timeAt}
+use Rattle.time.specs.DateTime.{pairAt, timeAt}
+use Rattle.time.specs.declared.date_time.Number.{Number}
 use Rattle.time.proofs.DateTime.{three-first, three-second, three-third, three-all}
-use mathlib.Core.Path.{sym, _∙_}
+use mathlib.Core.Path.{_≡_, sym, _∙_}
 use borrow.Author.Needs.{needs}
 use Rattle.time.proofs.date_time.time_at.Statement.{statement}
 use Rattle.time.proofs.date_time.time_at.Tie as tie
+
+-- the first two numbers, where they were read
+hour : (c : tie.After-hour) → pairAt (c .before .before .before .before .args .s .now) 9 ≡ Number.Of (c .hour .given .0 .0)
+hour c = sym (c .before .before .pair-at .ensures) ∙ c .hour .given .1
+
+minute : (c : tie.After-minute) → pairAt (c .before .before .before .before .before .before .before .before .args .s .now) 11 ≡ Number.Of (c .minute .given .0 .0)
+minute c = sym (c .before .before .pair-at2 .ensures) ∙ c .minute .given .1
 
 pair-at-requires : tie.Need-pair-at-requires
 pair-at-requires c κs = search needs
@@ -42,31 +50,20 @@ returns c = three-first _ _ _ _ (sym (c .before .before .pair-at .ensures) ∙ c
 
 returns-2 : tie.Need-returns-2
 unfolding timeAt
-returns-2 c =
-    let at-hour = c .before .before .before .before in
-    let hour = sym (at-hour .before .before .pair-at .ensures) ∙ at-hour .hour .given .1 in
-    let no-minute = sym (c .before .before .pair-at2 .ensures) ∙ c .enum-told2 .given .1 in
-    three-second _ _ _ _ hour no-minute
+returns-2 c = three-second _ _ _ _ (hour (c .before .before .before .before)) (sym (c .before .before .pair-at2 .ensures) ∙ c .enum-told2 .given .1)
 
 returns-3 : tie.Need-returns-3
 unfolding timeAt
 returns-3 c =
-    let at-minute = c .before .before .before .before in
-    let at-hour = at-minute .before .before .before .before in
-    let hour = sym (at-hour .before .before .pair-at .ensures) ∙ at-hour .hour .given .1 in
-    let minute = sym (at-minute .before .before .pair-at2 .ensures) ∙ at-minute .minute .given .1 in
-    let no-second = sym (c .before .before .pair-at3 .ensures) ∙ c .enum-told3 .given .1 in
-    three-third _ _ _ _ hour minute no-second
+    let last = c .before .before .before .before in
+    three-third _ _ _ _ (hour (last .before .before .before .before)) (minute last) (sym (c .before .before .pair-at3 .ensures) ∙ c .enum-told3 .given .1)
 
 returns-4 : tie.Need-returns-4
 unfolding timeAt
 returns-4 c =
-    let at-minute = c .before .before .before .before .before .before in
-    let at-hour = at-minute .before .before .before .before in
-    let hour = sym (at-hour .before .before .pair-at .ensures) ∙ at-hour .hour .given .1 in
-    let minute = sym (at-minute .before .before .pair-at2 .ensures) ∙ at-minute .minute .given .1 in
-    let second = sym (c .before .before .before .before .pair-at3 .ensures) ∙ c .before .before .second .given .1 in
-    c .checked-time .ensures ∙ three-all _ _ _ _ hour minute second
+    let last = c .before .before .before .before .before .before in
+    let third = sym (c .before .before .before .before .pair-at3 .ensures) ∙ c .before .before .second .given .1 in
+    c .checked-time .ensures ∙ three-all _ _ _ _ (hour (last .before .before .before .before)) (minute last) third
 
 pub time-at-spec : {M : Type 1} → statement M
 time-at-spec =
