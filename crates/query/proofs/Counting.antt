@@ -1,6 +1,6 @@
 -- Tests of every number below a bound, and of some number below it: what a loop over them keeps, and what they say.
 use Prim.Native.Nat.{ℕ, zero, suc, _+_, _≤_, _<_}
-use mathlib.Core.Path.{_≡_, refl, subst}
+use mathlib.Core.Path.{_≡_, refl, sym, subst, _∙_}
 use mathlib.Core.Bool.{Bool, true, false, _||_}
 use native.Mathlib.Numerals.{add-one}
 use native.Mathlib.Omega.{arith}
@@ -54,36 +54,50 @@ module _ (f : ℕ → Bool) where
   none-all zero h = refl
   none-all (suc n) h = or-neither (none-all n (λ i k. h i (omega arith))) (h n (omega arith))
 
-  -- the loop over every number: it held so far
-  pub every-next : (i : ℕ) → everyBelow i f ≡ true → f i ≡ true → everyBelow (i + 1) f ≡ true
-  unfolding everyBelow
-  every-next i p q = rw add-one (and-both p q)
+-- ---- what a loop over n numbers keeps, at number k; t says whether the test holds of k
 
-  pub every-stop : (n i : ℕ) → i < n → f i ≡ false → everyBelow n f ≡ false
-  every-stop n i h e = not-so (everyBelow n f) (λ q. clash (every-at n i h q) e)
+-- it held of every one before
+pub record EveryBefore (f : ℕ → Bool) (n k : ℕ) : Type 0 where
+  pub within : k ≤ n
+  pub so-far : everyBelow k f ≡ true
 
-  pub every-end : (n i : ℕ) → i ≤ n → n ≤ i → everyBelow i f ≡ true → everyBelow n f ≡ true
-  every-end n i h k e = let q : i ≡ n = omega arith in subst (λ (m : ℕ). everyBelow m f ≡ true) q e
+pub every-start : {f : ℕ → Bool} {n : ℕ} → EveryBefore f n 0
+unfolding everyBelow
+every-start = record { within = omega arith; so-far = refl }
 
-  -- the loop that looks for one: none so far
-  pub none-next : (i : ℕ) → someBelow i f ≡ false → f i ≡ false → someBelow (i + 1) f ≡ false
-  unfolding someBelow
-  none-next i p q = rw add-one (or-neither p q)
+module _ {f : ℕ → Bool} {n k : ℕ} (w : EveryBefore f n k) where
+  module _ {t : Bool} (h : k < n) (q : t ≡ f k) where
+    pub every-next : t ≡ true → EveryBefore f n (k + 1)
+    unfolding everyBelow
+    every-next e = record { within = omega arith; so-far = rw add-one (and-both (w .so-far) (sym q ∙ e)) }
 
-  pub some-found : (n i : ℕ) → i < n → f i ≡ true → someBelow n f ≡ true
-  some-found n i h e = go (someBelow n f) refl
-    where
-      go : (t : Bool) → someBelow n f ≡ t → someBelow n f ≡ true
-      go true q = q
-      go false q = clash e (none-at n i h q)
+    pub every-stop : t ≡ false → false ≡ everyBelow n f
+    every-stop e = sym (not-so (everyBelow n f) (λ y. clash (every-at f n k h y) (sym q ∙ e)))
 
-  pub none-end : (n i : ℕ) → i ≤ n → n ≤ i → someBelow i f ≡ false → someBelow n f ≡ false
-  none-end n i h k e = let q : i ≡ n = omega arith in subst (λ (m : ℕ). someBelow m f ≡ false) q e
+  pub every-end : n ≤ k → true ≡ everyBelow n f
+  every-end h = let e : k ≡ n = omega (arith, w .within) in sym (subst (λ (m : ℕ). everyBelow m f ≡ true) e (w .so-far))
 
-  pub every-start : everyBelow 0 f ≡ true
-  unfolding everyBelow
-  every-start = refl
+-- it held of none before
+pub record NoneBefore (f : ℕ → Bool) (n k : ℕ) : Type 0 where
+  pub within : k ≤ n
+  pub so-far : someBelow k f ≡ false
 
-  pub none-start : someBelow 0 f ≡ false
-  unfolding someBelow
-  none-start = refl
+pub none-start : {f : ℕ → Bool} {n : ℕ} → NoneBefore f n 0
+unfolding someBelow
+none-start = record { within = omega arith; so-far = refl }
+
+module _ {f : ℕ → Bool} {n k : ℕ} (w : NoneBefore f n k) where
+  module _ {t : Bool} (h : k < n) (q : t ≡ f k) where
+    pub none-next : t ≡ false → NoneBefore f n (k + 1)
+    unfolding someBelow
+    none-next e = record { within = omega arith; so-far = rw add-one (or-neither (w .so-far) (sym q ∙ e)) }
+
+    pub some-found : t ≡ true → true ≡ someBelow n f
+    some-found e = sym (go (someBelow n f) refl)
+      where
+        go : (y : Bool) → someBelow n f ≡ y → someBelow n f ≡ true
+        go true y = y
+        go false y = clash (sym q ∙ e) (none-at f n k h y)
+
+  pub none-end : n ≤ k → false ≡ someBelow n f
+  none-end h = let e : k ≡ n = omega (arith, w .within) in sym (subst (λ (m : ℕ). someBelow m f ≡ false) e (w .so-far))

@@ -14,6 +14,8 @@ use Rattle.ascii.proofs.Bools.{and-left, and-right, clash}
 use Rattle.query.specs.Records.{componentAt, propertyAt, parameterAt, textOf}
 use Rattle.query.specs.declared.Sections.{Sections}
 use Rattle.query.specs.declared.ComponentRecord.{ComponentRecord}
+use Rattle.query.specs.declared.PropertyRecord.{PropertyRecord}
+use Rattle.query.specs.declared.ParameterRecord.{ParameterRecord}
 use Rattle.query.specs.Fits.{Fits}
 use Rattle.query.specs.Sections.{sectionsOf}
 use Rattle.query.specs.declared.SectionsRead.{SectionsRead}
@@ -48,6 +50,17 @@ module _ (s : List ℕ) (q : Sections) where
 
   abbrev pub propertyOff : ℕ → Bool
   propertyOff = λ k. ltb 0 (propertyAt s q k .range)
+
+-- the tests of a record that was read
+module _ (s : List ℕ) (q : Sections) (k i : ℕ) where
+  pub child-of : {r : ComponentRecord} → r ≡ componentAt s q k → (ltb 0 k && eqb (r .parent) i) ≡ childOf s q i k
+  child-of e = ap (λ (r : ComponentRecord). ltb 0 k && eqb (r .parent) i) e
+
+  pub property-of : {r : PropertyRecord} → r ≡ propertyAt s q k → eqb (r .component) i ≡ propertyOf s q i k
+  property-of e = ap (λ (r : PropertyRecord). eqb (r .component) i) e
+
+  pub parameter-of : {r : ParameterRecord} → r ≡ parameterAt s q k → eqb (r .property) i ≡ parameterOf s q i k
+  parameter-of e = ap (λ (r : ParameterRecord). eqb (r .property) i) e
 
 -- ---- one record
 

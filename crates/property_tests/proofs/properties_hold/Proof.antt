@@ -1,25 +1,22 @@
 -- `property_tests::properties_hold` meets its contract: every record so far passes, and the first that does not decides.
-use Prim.Native.Nat.{_-_, _≤_}
-use mathlib.Core.Bool.{true}
+use Prim.Native.Nat.{_-_}
 use borrow.Author.Tests.{not-true, not-false}
 use Rattle.nesting.specs.Components.{propertiesIn}
 use Rattle.structure.specs.Rows.{componentBy}
-use Rattle.query.specs.Counting.{everyBelow}
-use Rattle.query.proofs.Counting.{every-start, every-stop, every-next, every-end}
+use Rattle.query.proofs.Counting.{EveryBefore, every-start, every-next, every-stop, every-end}
 use Rattle.property_tests.specs.PropertyTests.{propertyPasses, propertiesHold}
-use mathlib.Core.Path.{_≡_, sym, _∙_}
 use native.Mathlib.Omega.{arith}
 use Rattle.property_tests.proofs.properties_hold.Statement.{statement}
 use Rattle.property_tests.proofs.properties_hold.Tie as tie
 
 abbrev Inv-loop : tie.InvT-loop
-Inv-loop query q j s index rows k n i₀ i = (i ≤ q .properties .count) × (everyBelow i (propertyPasses query q j (propertiesIn (componentBy s rows k .items))) ≡ true)
+Inv-loop query q j s index rows k n i₀ i = EveryBefore (propertyPasses query q j (propertiesIn (componentBy s rows k .items))) (q .properties .count) i
 
 abbrev μ-loop : tie.MeasureT-loop
 μ-loop query q j s index rows k n i₀ i = n - i
 
 loop-holds : tie.Need-loop-holds Inv-loop μ-loop
-loop-holds c = (omega arith, every-start _)
+loop-holds c = every-start
 
 property-passes-requires : tie.Need-property-passes-requires Inv-loop μ-loop
 property-passes-requires c κs =
@@ -31,7 +28,7 @@ property-passes-requires c κs =
 
 returns : tie.Need-returns Inv-loop μ-loop
 unfolding propertiesHold
-returns c = sym (every-stop _ _ _ (c .before .before .loop-test .taken) (sym (c .before .property-passes .ensures) ∙ not-true _ (c .if1 .taken)))
+returns c = every-stop (c .before .before .before .loop .inv) (c .before .before .loop-test .taken) (c .before .property-passes .ensures) (not-true _ (c .if1 .taken))
 
 add-i : tie.Need-add-i Inv-loop μ-loop
 add-i c = omega arith
@@ -40,11 +37,11 @@ loop-less : tie.Need-loop-less Inv-loop μ-loop
 loop-less c = omega arith
 
 loop-again : tie.Need-loop-again Inv-loop μ-loop
-loop-again c = (omega arith, every-next _ _ (c .before .before .before .loop .inv .1) (sym (c .before .property-passes .ensures) ∙ not-false _ (c .if1 .left)))
+loop-again c = every-next (c .before .before .before .loop .inv) (c .before .before .loop-test .taken) (c .before .property-passes .ensures) (not-false _ (c .if1 .left))
 
 returns-2 : tie.Need-returns-2 Inv-loop μ-loop
 unfolding propertiesHold
-returns-2 c = sym (every-end _ _ _ (c .before .loop .inv .0) (c .loop-test .left) (c .before .loop .inv .1))
+returns-2 c = every-end (c .before .loop .inv) (c .loop-test .left)
 
 pub properties-hold-spec : {M : Type 1} → statement M
 properties-hold-spec =

@@ -1,23 +1,21 @@
 -- `query_check::components_misplaced` meets its contract: no component so far has a misplaced range, and every name is the number of a text.
-use Rattle.query.specs.Counting.{someBelow}
 use Rattle.query_check.specs.WellFormed.{componentMisplaced, componentsMisplaced}
 use Rattle.query_check.proofs.WellFormed.{component-text, componentOff}
-use mathlib.Core.Bool.{false}
-use Prim.Native.Nat.{_≤_, _-_}
-use Rattle.query.proofs.Counting.{none-start, none-next, none-end, some-found}
-use mathlib.Core.Path.{_≡_, sym, ap, _∙_}
+use Prim.Native.Nat.{_-_}
+use Rattle.query.proofs.Counting.{NoneBefore, none-start, none-next, some-found, none-end}
+use mathlib.Core.Path.{ap, _∙_}
 use native.Mathlib.Omega.{arith}
 use Rattle.query_check.proofs.components_misplaced.Statement.{statement}
 use Rattle.query_check.proofs.components_misplaced.Tie as tie
 
 abbrev Inv-loop : tie.InvT-loop
-Inv-loop s q n k₀ k = (k ≤ q .components .count) × (someBelow k (componentOff s q) ≡ false)
+Inv-loop s q n k₀ k = NoneBefore (componentOff s q) (q .components .count) k
 
 abbrev μ-loop : tie.MeasureT-loop
 μ-loop s q n k₀ k = n - k
 
 loop-holds : tie.Need-loop-holds Inv-loop μ-loop
-loop-holds c = (omega arith, none-start _)
+loop-holds c = none-start
 
 component-at-requires : tie.Need-component-at-requires Inv-loop μ-loop
 component-at-requires c κs = (c .before .before .before .before .pre .0, c .loop-test .taken)
@@ -34,12 +32,9 @@ component-misplaced-requires c κs =
 returns : tie.Need-returns Inv-loop μ-loop
 unfolding componentsMisplaced
 returns c =
-    let sections = c .before .before .before .before .before .before .before .args .q in
-    let inside = c .before .before .before .loop-test .taken in
-    let read = c .before .before .component-at .ensures in
-    let tested = c .before .component-misplaced .ensures in
-    let misplaced = c .if1 .taken in
-    sym (some-found (componentOff _ sections) _ _ inside (sym (tested ∙ ap (componentMisplaced _ sections) read) ∙ misplaced))
+    let inside = c .before .before .before in
+    let tested = c .before .component-misplaced .ensures ∙ ap (componentMisplaced _ _) (c .before .before .component-at .ensures) in
+    some-found (inside .before .loop .inv) (inside .loop-test .taken) tested (c .if1 .taken)
 
 add-k : tie.Need-add-k Inv-loop μ-loop
 add-k c = omega arith
@@ -49,16 +44,13 @@ loop-less c = omega arith
 
 loop-again : tie.Need-loop-again Inv-loop μ-loop
 loop-again c =
-    let sections = c .before .before .before .before .before .before .before .args .q in
-    let none-before = c .before .before .before .before .loop .inv .1 in
-    let read = c .before .before .component-at .ensures in
-    let tested = c .before .component-misplaced .ensures in
-    let in-place = c .if1 .left in
-    (omega arith, none-next (componentOff _ sections) _ none-before (sym (tested ∙ ap (componentMisplaced _ sections) read) ∙ in-place))
+    let inside = c .before .before .before in
+    let tested = c .before .component-misplaced .ensures ∙ ap (componentMisplaced _ _) (c .before .before .component-at .ensures) in
+    none-next (inside .before .loop .inv) (inside .loop-test .taken) tested (c .if1 .left)
 
 returns-2 : tie.Need-returns-2 Inv-loop μ-loop
 unfolding componentsMisplaced
-returns-2 c = sym (none-end (componentOff _ (c .before .before .before .before .args .q)) _ _ (c .before .loop .inv .0) (c .loop-test .left) (c .before .loop .inv .1))
+returns-2 c = none-end (c .before .loop .inv) (c .loop-test .left)
 
 pub components-misplaced-spec : {M : Type 1} → statement M
 components-misplaced-spec =

@@ -1,35 +1,27 @@
 -- `query_check::ranges_good` meets its contract: every range so far is good, and the first that is not decides.
 use borrow.Author.Tests.{not-true, not-false}
-use mathlib.Core.Bool.{true}
-use Prim.Native.Nat.{_≤_, _-_}
-use Rattle.query.specs.Counting.{everyBelow}
-use Rattle.query.proofs.Counting.{every-start, every-stop, every-next, every-end}
+use Prim.Native.Nat.{_-_}
+use Rattle.query.proofs.Counting.{EveryBefore, every-start, every-next, every-stop, every-end}
 use Rattle.query_check.specs.WellFormed.{rangeRecordGood, rangesGood}
-use mathlib.Core.Path.{_≡_, sym, _∙_}
 use native.Mathlib.Omega.{arith}
 use Rattle.query_check.proofs.ranges_good.Statement.{statement}
 use Rattle.query_check.proofs.ranges_good.Tie as tie
 
 abbrev Inv-loop : tie.InvT-loop
-Inv-loop s q n k₀ k = (k ≤ q .ranges .count) × (everyBelow k (rangeRecordGood s q) ≡ true)
+Inv-loop s q n k₀ k = EveryBefore (rangeRecordGood s q) (q .ranges .count) k
 
 abbrev μ-loop : tie.MeasureT-loop
 μ-loop s q n k₀ k = n - k
 
 loop-holds : tie.Need-loop-holds Inv-loop μ-loop
-loop-holds c = (omega arith, every-start _)
+loop-holds c = every-start
 
 range-record-good-requires : tie.Need-range-record-good-requires Inv-loop μ-loop
 range-record-good-requires c κs = (c .before .before .before .before .pre, c .loop-test .taken)
 
 returns : tie.Need-returns Inv-loop μ-loop
 unfolding rangesGood
-returns c =
-    let sections = c .before .before .before .before .before .before .args .q in
-    let inside = c .before .before .loop-test .taken in
-    let tested = c .before .range-record-good .ensures in
-    let bad = not-true _ (c .if1 .taken) in
-    sym (every-stop (rangeRecordGood _ sections) _ _ inside (sym tested ∙ bad))
+returns c = every-stop (c .before .before .before .loop .inv) (c .before .before .loop-test .taken) (c .before .range-record-good .ensures) (not-true _ (c .if1 .taken))
 
 add-k : tie.Need-add-k Inv-loop μ-loop
 add-k c = omega arith
@@ -38,16 +30,11 @@ loop-less : tie.Need-loop-less Inv-loop μ-loop
 loop-less c = omega arith
 
 loop-again : tie.Need-loop-again Inv-loop μ-loop
-loop-again c =
-    let sections = c .before .before .before .before .before .before .args .q in
-    let good-before = c .before .before .before .loop .inv .1 in
-    let tested = c .before .range-record-good .ensures in
-    let good = not-false _ (c .if1 .left) in
-    (omega arith, every-next (rangeRecordGood _ sections) _ good-before (sym tested ∙ good))
+loop-again c = every-next (c .before .before .before .loop .inv) (c .before .before .loop-test .taken) (c .before .range-record-good .ensures) (not-false _ (c .if1 .left))
 
 returns-2 : tie.Need-returns-2 Inv-loop μ-loop
 unfolding rangesGood
-returns-2 c = sym (every-end (rangeRecordGood _ (c .before .before .before .before .args .q)) _ _ (c .before .loop .inv .0) (c .loop-test .left) (c .before .loop .inv .1))
+returns-2 c = every-end (c .before .loop .inv) (c .loop-test .left)
 
 pub ranges-good-spec : {M : Type 1} → statement M
 ranges-good-spec =
