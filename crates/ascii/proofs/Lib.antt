@@ -2,3 +2,4 @@ pub mod Bools
 pub mod Lists
 pub mod Bytes
 pub mod Names
+pub mod Rows

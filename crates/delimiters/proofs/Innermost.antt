@@ -16,21 +16,14 @@ use Rattle.delimiters.specs.declared.NestingStep.the-variants.{Opens, St
 -- ---- the function that says what a line does
 
 module _ (n : List ℕ) (d k : ℕ) {m r : Delimiter} {v w : List ℕ} {t : Bool} (p : r ≡ m) (g : w ≡ v) where
-  pub step-opens : r ≡ Begins → t ≡ mayBegin w d k → t ≡ true → Opens ≡ nestingStepBy m v n d k
+  -- by the test of its value
+  pub step-begins : r ≡ Begins → t ≡ mayBegin w d k → {b : Bool} → t ≡ b → cond b Opens Breaks ≡ nestingStepBy m v n d k
   unfolding nestingStepBy
-  step-opens b e h = rw (sym p ∙ b, sym g, sym e ∙ h)
+  step-begins f e {b} h = rw (sym p ∙ f, sym g, sym e ∙ h)
 
-  pub step-begin-breaks : r ≡ Begins → t ≡ mayBegin w d k → t ≡ false → Breaks ≡ nestingStepBy m v n d k
+  pub step-ends : r ≡ Ends → t ≡ sameName w n → {b : Bool} → t ≡ b → cond b Closes Breaks ≡ nestingStepBy m v n d k
   unfolding nestingStepBy
-  step-begin-breaks b e h = rw (sym p ∙ b, sym g, sym e ∙ h)
-
-  pub step-closes : r ≡ Ends → t ≡ sameName w n → t ≡ true → Closes ≡ nestingStepBy m v n d k
-  unfolding nestingStepBy
-  step-closes b e h = rw (sym p ∙ b, sym g, sym e ∙ h)
-
-  pub step-end-breaks : r ≡ Ends → t ≡ sameName w n → t ≡ false → Breaks ≡ nestingStepBy m v n d k
-  unfolding nestingStepBy
-  step-end-breaks b e h = rw (sym p ∙ b, sym g, sym e ∙ h)
+  step-ends f e {b} h = rw (sym p ∙ f, sym g, sym e ∙ h)
 
 pub step-stays : (v n : List ℕ) (d k : ℕ) {m r : Delimiter} → r ≡ m → r ≡ Property → Stays ≡ nestingStepBy m v n d k
 unfolding nestingStepBy

@@ -7,9 +7,9 @@ use mathlib.Core.List.{List, [], _∷_}
 use native.Mathlib.Omega.{arith}
 use native.Mathlib.Nat.{add-zero, zero-add}
 use lib.Dec.{eqb, ltb}
-use lib.ListN.{length, getD, set, length-set}
-use lib.Seq.{getD-set-same, getD-set-other}
+use lib.ListN.{getD}
 use borrow.Author.Tests.{ltb-true, ltb-false}
+use Rattle.ascii.proofs.Rows.{Putting, putting-all}
 use Rattle.time.specs.declared.date_time.Kind.{Kind}
 use Rattle.time.specs.declared.duration.Duration.{Duration}
 use Rattle.periods.specs.declared.BusyType.{BusyType}
@@ -27,38 +27,9 @@ use Rattle.events.specs.declared.rows.TaggedNumber.{TaggedNumber}
 
 -- ---- writing a row
 
--- the first p numbers of the row stand at their places
-pub record Putting (old : List ℕ) (k : ℕ) (row new : List ℕ) (p : ℕ) : Type 0 where
-  pub long : length new ≡ length old
-  pub few : p ≤ 12
-  pub here : (x : ℕ) → x < p → getD new (12 * k + x) 0 ≡ getD row x 0
-  pub before : (x : ℕ) → x < 12 * k → getD new x 0 ≡ getD old x 0
-  pub behind : (x : ℕ) → 12 * k + 12 ≤ x → getD new x 0 ≡ getD old x 0
-
-pub putting-start : (old : List ℕ) (k : ℕ) (row : List ℕ) → Putting old k row old 0
-putting-start old k row =
-    record { long = refl; few = omega arith; here = λ x h. absurd (omega arith); before = λ x h. refl; behind = λ x h. refl }
-
-module _ {old : List ℕ} {k : ℕ} {row new : List ℕ} {p : ℕ} (g : Putting old k row new p) where
-  pub putting-next : 12 * k + 12 ≤ length old → p < 12 → Putting old k row (set new (12 * k + p) (getD row p 0)) (p + 1)
-  putting-next r h =
-      record {
-        long = length-set new (12 * k + p) (getD row p 0) ∙ g .long;
-        few = omega arith;
-        here = λ x l. go x l (ltb x p) refl;
-        before = λ x l. getD-set-other new (12 * k + p) x (getD row p 0) 0 (λ e. omega arith) ∙ g .before x l;
-        behind = λ x l. getD-set-other new (12 * k + p) x (getD row p 0) 0 (λ e. omega arith) ∙ g .behind x l;
-      }
-    where
-      go : (x : ℕ) → x < p + 1 → (t : Bool) → ltb x p ≡ t → getD (set new (12 * k + p) (getD row p 0)) (12 * k + x) 0 ≡ getD row x 0
-      go x l true q =
-          getD-set-other new (12 * k + p) (12 * k + x) (getD row p 0) 0 (λ e. omega (arith, ltb-true)) ∙ g .here x (omega (arith, ltb-true))
-      go x l false q =
-          let z : x ≡ p = omega (arith, ltb-false) in
-          rw z (getD-set-same new (12 * k + p) (getD row p 0) 0 (omega (arith, g .long)))
-
-  pub putting-end : 12 ≤ p → EntryPut old k row new
-  putting-end h = record { here = λ x l. g .here x (omega arith); before = g .before; behind = g .behind }
+-- the whole row stands at its place
+pub putting-end : {old : List ℕ} {k : ℕ} {row new : List ℕ} {p : ℕ} → Putting old 12 (12 * k) row new p → 12 ≤ p → EntryPut old k row new
+putting-end g h = record { here = putting-all g h; before = g .before; behind = g .behind }
 
 -- ---- other rows
 

@@ -12,10 +12,10 @@ use Rattle.ascii.specs.Bytes.{isNameByte, isControl}
 use Rattle.ascii.specs.Names.{isName, every}
 use Rattle.ascii.proofs.Bools.{and-left, and-right, and-both, clash}
 use Rattle.line.specs.Grammar.{Parameter, ContentLine, contentLine, parameter, isQuotable, isUnquoted, isValueByte, ParameterValue, ParameterValues, Parameters, LineGrammar, quoted, unquoted, one, comma, none, semicolon, colon}
-use Rattle.line.specs.Scanner.{afterValue, step, isEnding, scan, isWellFormed}
+use Rattle.line.specs.Scanner.{afterValue, step, scan, isWellFormed}
 use Rattle.line.specs.declared.scan.State.{State}
 use Rattle.line.specs.declared.scan.State.the-variants.{Start, Name, ParameterStart, ParameterName, ValueStart, Unquoted, Quoted, AfterQuoted, Value, Wrong}
-use Rattle.line.proofs.Scanner.{scan-step, scan-stays, or-none, name-stays, parameter-name-stays, Ends, at-comma, at-semicolon, at-colon, ends-start, ends-unquoted, ends-quoted, quote-opens, quote-closes, starts-name, starts-parameter-name, scan-name, semicolon-ends, colon-ends, equals-ends, value-ends, wrong-stays}
+use Rattle.line.proofs.Scanner.{scan-step, scan-stays, or-none, name-stays, parameter-name-stays, Ends, at-comma, at-semicolon, at-colon, ends-start, ends-unquoted, ends-quoted, quote-opens, quote-closes, starts-name, starts-parameter-name, scan-name, semicolon-ends, colon-ends, equals-ends, value-ends, wrong-stays, ending-value}
 
 -- ---- the classes of bytes
 
@@ -321,17 +321,8 @@ module _ (b : ℕ) (s : List ℕ) (allowed : (q : State) → scan q s ≡ true �
   allowed-byte Wrong h = clash h (wrong-stays (b ∷ s))
 
 allowed-end : (q : State) → scan q [] ≡ true → Allowed q []
-unfolding scan isEnding
-allowed-end Start h = clash h refl
-allowed-end Name h = clash h refl
-allowed-end ParameterStart h = clash h refl
-allowed-end ParameterName h = clash h refl
-allowed-end ValueStart h = clash h refl
-allowed-end Unquoted h = clash h refl
-allowed-end Quoted h = clash h refl
-allowed-end AfterQuoted h = clash h refl
-allowed-end Value h = refl
-allowed-end Wrong h = clash h refl
+unfolding scan
+allowed-end q h = subst (λ (p : State). Allowed p []) (sym (ending-value q h)) refl
 
 scan-allowed : (s : List ℕ) (q : State) → scan q s ≡ true → Allowed q s
 scan-allowed [] q h = allowed-end q h

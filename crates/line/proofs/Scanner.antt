@@ -176,7 +176,7 @@ colon-next l i h e =
     ap (λ (q : State). scan q (drop (i + 1) l)) (sym (ap (λ (b : ℕ). step Name b) e ∙ colon-ends)) ∙ scan-next Name l i h
 
 -- a line may end in its value alone
-ending-value : (q : State) → isEnding q ≡ true → q ≡ Value
+pub ending-value : (q : State) → isEnding q ≡ true → q ≡ Value
 unfolding isEnding
 ending-value Start e = clash e refl
 ending-value Name e = clash e refl

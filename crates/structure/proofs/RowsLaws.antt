@@ -7,8 +7,9 @@ use native.Mathlib.Omega.{arith}
 use native.Mathlib.Nat.{add-zero}
 use borrow.Author.Tests.{ltb-true, ltb-false, lt-ltb, le-ltb}
 use lib.Dec.{ltb}
-use lib.ListN.{length, drop, getD, set, length-set, length-map, List·getD-map}
-use lib.Seq.{drop-cons, getD-set-same, getD-set-other}
+use lib.ListN.{length, drop, getD, length-map, List·getD-map}
+use lib.Seq.{drop-cons}
+use Rattle.ascii.proofs.Rows.{Putting, putting-all}
 use Rattle.ascii.specs.Names.{sameName}
 use Rattle.ascii.specs.Bytes.{upper}
 use Rattle.ascii.specs.Words.{ascii}
@@ -138,38 +139,9 @@ kind-other v q r t u = sym (kind-by v (sym t ∙ q) (sym u ∙ r))
 
 -- ---- writing a row
 
--- the first p numbers of the row stand at their places
-pub record Putting (old : List ℕ) (at : ℕ) (row new : List ℕ) (p : ℕ) : Type 0 where
-  pub long : length new ≡ length old
-  pub few : p ≤ 4
-  pub here : (x : ℕ) → x < p → getD new (at + x) 0 ≡ getD row x 0
-  pub before : (x : ℕ) → x < at → getD new x 0 ≡ getD old x 0
-  pub behind : (x : ℕ) → at + 4 ≤ x → getD new x 0 ≡ getD old x 0
-
-pub putting-start : (old : List ℕ) (at : ℕ) (row : List ℕ) → Putting old at row old 0
-putting-start old at row =
-    record { long = refl; few = omega arith; here = λ x h. absurd (omega arith); before = λ x h. refl; behind = λ x h. refl }
-
-module _ {old : List ℕ} {at : ℕ} {row new : List ℕ} {p : ℕ} (g : Putting old at row new p) where
-  pub putting-next : at + 4 ≤ length old → p < 4 → Putting old at row (set new (at + p) (getD row p 0)) (p + 1)
-  putting-next r h =
-      record {
-        long = length-set new (at + p) (getD row p 0) ∙ g .long;
-        few = omega arith;
-        here = λ x l. go x l (ltb x p) refl;
-        before = λ x l. getD-set-other new (at + p) x (getD row p 0) 0 (λ e. omega arith) ∙ g .before x l;
-        behind = λ x l. getD-set-other new (at + p) x (getD row p 0) 0 (λ e. omega arith) ∙ g .behind x l;
-      }
-    where
-      go : (x : ℕ) → x < p + 1 → (t : Bool) → ltb x p ≡ t → getD (set new (at + p) (getD row p 0)) (at + x) 0 ≡ getD row x 0
-      go x l true q =
-          getD-set-other new (at + p) (at + x) (getD row p 0) 0 (λ e. omega (arith, ltb-true)) ∙ g .here x (omega (arith, ltb-true))
-      go x l false q =
-          let z : x ≡ p = omega (arith, ltb-false) in
-          rw z (getD-set-same new (at + p) (getD row p 0) 0 (omega (arith, g .long)))
-
-  pub putting-end : 4 ≤ p → RowPut old at row new
-  putting-end h = record { here = λ x l. g .here x (omega arith); before = g .before; behind = g .behind }
+-- the whole row stands at its place
+pub putting-end : {old : List ℕ} {at : ℕ} {row new : List ℕ} {p : ℕ} → Putting old 4 at row new p → 4 ≤ p → RowPut old at row new
+putting-end g h = record { here = putting-all g h; before = g .before; behind = g .behind }
 
 -- ---- what a reader learns
 

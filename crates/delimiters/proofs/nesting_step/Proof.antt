@@ -1,5 +1,5 @@
 -- `delimiters::nesting_step` meets its contract: each arm is one case of the delimiter that the line is.
-use Rattle.delimiters.proofs.Innermost.{step-opens, step-begin-breaks, step-closes, step-end-breaks, step-stays, step-wrong}
+use Rattle.delimiters.proofs.Innermost.{step-begins, step-ends, step-stays, step-wrong}
 use borrow.Author.Needs.{needs}
 use Rattle.delimiters.proofs.nesting_step.Statement.{statement}
 use Rattle.delimiters.proofs.nesting_step.Tie as tie
@@ -33,39 +33,23 @@ enum-told-4 c = search needs
 
 returns : tie.Need-returns
 returns c =
-    let delimiter = c .before .before .before .before .before .delimiter-of .ensures in
-    let begins = c .before .before .before .enum-told .given .1 in
-    let value = c .before .before .value .ensures in
-    let tested = c .before .may-begin .ensures in
-    let may = c .if1 .taken in
-    step-opens _ _ _ delimiter value begins tested may
+    let told = c .before .before .before in
+    step-begins _ _ _ (told .before .before .delimiter-of .ensures) (c .before .before .value .ensures) (told .enum-told .given .1) (c .before .may-begin .ensures) (c .if1 .taken)
 
 returns-2 : tie.Need-returns-2
 returns-2 c =
-    let delimiter = c .before .before .before .before .before .delimiter-of .ensures in
-    let begins = c .before .before .before .enum-told .given .1 in
-    let value = c .before .before .value .ensures in
-    let tested = c .before .may-begin .ensures in
-    let may-not = c .if1 .left in
-    step-begin-breaks _ _ _ delimiter value begins tested may-not
+    let told = c .before .before .before in
+    step-begins _ _ _ (told .before .before .delimiter-of .ensures) (c .before .before .value .ensures) (told .enum-told .given .1) (c .before .may-begin .ensures) (c .if1 .left)
 
 returns-3 : tie.Need-returns-3
 returns-3 c =
-    let delimiter = c .before .before .before .before .before .delimiter-of .ensures in
-    let ends = c .before .before .before .enum-told2 .given .1 in
-    let value = c .before .before .value2 .ensures in
-    let tested = c .before .same-name .ensures in
-    let same = c .if2 .taken in
-    step-closes _ _ _ delimiter value ends tested same
+    let told = c .before .before .before in
+    step-ends _ _ _ (told .before .before .delimiter-of .ensures) (c .before .before .value2 .ensures) (told .enum-told2 .given .1) (c .before .same-name .ensures) (c .if2 .taken)
 
 returns-4 : tie.Need-returns-4
 returns-4 c =
-    let delimiter = c .before .before .before .before .before .delimiter-of .ensures in
-    let ends = c .before .before .before .enum-told2 .given .1 in
-    let value = c .before .before .value2 .ensures in
-    let tested = c .before .same-name .ensures in
-    let other = c .if2 .left in
-    step-end-breaks _ _ _ delimiter value ends tested other
+    let told = c .before .before .before in
+    step-ends _ _ _ (told .before .before .delimiter-of .ensures) (c .before .before .value2 .ensures) (told .enum-told2 .given .1) (c .before .same-name .ensures) (c .if2 .left)
 
 returns-5 : tie.Need-returns-5
 returns-5 c = step-stays _ _ _ _ (c .before .before .delimiter-of .ensures) (c .enum-told3 .given .1)

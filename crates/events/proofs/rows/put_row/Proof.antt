@@ -1,12 +1,13 @@
 -- `events::rows::put_row` meets its contract: the loop keeps that the first p numbers stand at their places and all outside the row are as they were.
-use Prim.Native.Nat.{_-_}
-use Rattle.events.proofs.EntryRows.{Putting, putting-start, putting-next, putting-end}
+use Prim.Native.Nat.{_-_, _*_}
+use Rattle.ascii.proofs.Rows.{Putting, putting-start, putting-next}
+use Rattle.events.proofs.EntryRows.{putting-end}
 use native.Mathlib.Omega.{arith}
 use Rattle.events.proofs.rows.put_row.Statement.{statement}
 use Rattle.events.proofs.rows.put_row.Tie as tie
 
 abbrev Inv-loop : tie.InvT-loop
-Inv-loop column₀ k row first p₀ column p = Putting column₀ k row column p
+Inv-loop column₀ k row first p₀ column p = Putting column₀ 12 (12 * k) row column p
 
 abbrev μ-loop : tie.MeasureT-loop
 μ-loop column₀ k row first p₀ column p = 12 - p
@@ -15,7 +16,7 @@ mul-first : tie.Need-mul-first Inv-loop μ-loop
 mul-first c = omega arith
 
 loop-holds : tie.Need-loop-holds Inv-loop μ-loop
-loop-holds c = putting-start _ _ _
+loop-holds c = putting-start _ _ _ _
 
 mul-column : tie.Need-mul-column Inv-loop μ-loop
 mul-column c = omega arith

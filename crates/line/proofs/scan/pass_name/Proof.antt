@@ -35,11 +35,8 @@ loop-less c = omega arith
 
 loop-again : tie.Need-loop-again Inv-loop μ-loop
 loop-again c =
-    let leads = c .before .before .before .before .loop .inv in
-    let inside = c .before .before .before .loop-test .taken in
-    let tested = c .before .is-name-byte .ensures in
-    let good = c .if1 .left in
-    leads-next ParameterName isNameByte parameter-name-stays _ _ _ _ inside tested good leads
+    let inside = c .before .before .before in
+    leads-next ParameterName isNameByte parameter-name-stays _ _ _ _ (inside .loop-test .taken) (c .before .is-name-byte .ensures) (c .if1 .left) (inside .before .loop .inv)
 
 returns-2 : tie.Need-returns-2 Inv-loop μ-loop
 returns-2 c = c .before .loop .inv

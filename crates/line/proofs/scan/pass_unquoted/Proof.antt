@@ -36,11 +36,8 @@ loop-less c = omega arith
 
 loop-again : tie.Need-loop-again Inv-loop μ-loop
 loop-again c =
-    let leads = c .before .before .before .before .loop .inv in
-    let inside = c .before .before .before .loop-test .taken in
-    let tested = c .before .is-unquoted .ensures in
-    let good = c .if1 .left in
-    leads-next Unquoted isUnquoted unquoted-stays _ _ _ _ inside tested good leads
+    let inside = c .before .before .before in
+    leads-next Unquoted isUnquoted unquoted-stays _ _ _ _ (inside .loop-test .taken) (c .before .is-unquoted .ensures) (c .if1 .left) (inside .before .loop .inv)
 
 returns-2 : tie.Need-returns-2 Inv-loop μ-loop
 returns-2 c = c .before .loop .inv

@@ -1,12 +1,13 @@
 -- `structure::rows::put_row` meets its contract: the loop keeps that the first p numbers stand at their places and all outside the row are as they were.
 use Prim.Native.Nat.{_-_, _*_}
-use Rattle.structure.proofs.RowsLaws.{Putting, putting-start, putting-next, putting-end}
+use Rattle.ascii.proofs.Rows.{Putting, putting-start, putting-next}
+use Rattle.structure.proofs.RowsLaws.{putting-end}
 use native.Mathlib.Omega.{arith}
 use Rattle.structure.proofs.rows.put_row.Statement.{statement}
 use Rattle.structure.proofs.rows.put_row.Tie as tie
 
 abbrev Inv-loop : tie.InvT-loop
-Inv-loop rows₀ k row at p₀ rows p = Putting rows₀ (4 * k) row rows p
+Inv-loop rows₀ k row at p₀ rows p = Putting rows₀ 4 (4 * k) row rows p
 
 abbrev μ-loop : tie.MeasureT-loop
 μ-loop rows₀ k row at p₀ rows p = 4 - p
@@ -15,7 +16,7 @@ mul-at : tie.Need-mul-at Inv-loop μ-loop
 mul-at c = omega arith
 
 loop-holds : tie.Need-loop-holds Inv-loop μ-loop
-loop-holds c = putting-start _ _ _
+loop-holds c = putting-start _ _ _ _
 
 mul-rows : tie.Need-mul-rows Inv-loop μ-loop
 mul-rows c = omega arith
