@@ -1,7 +1,7 @@
 -- The lines that the component rules count are the lines with that name, where no value is bad or unsupported.
 use Prim.Native.Nat.{ℕ}
 use mathlib.Core.Path.{_≡_, refl, sym, ap, _∙_, subst}
-use mathlib.Core.Bool.{Bool, true, false, cond, _||_, _||_}
+use mathlib.Core.Bool.{Bool, true, false, cond, _||_}
 use mathlib.Core.List.{List, [], _∷_, map, List·Memᴰ, List·Memᴰ·head, List·Memᴰ·tail}
 use native.Mathlib.Omega.{arith}
 use Rattle.ascii.specs.Bytes.{upper}
@@ -9,19 +9,15 @@ use Rattle.ascii.specs.Names.{sameName, sameBytes}
 use Rattle.ascii.specs.Words.{ascii}
 use Rattle.ascii.proofs.Names.{sameName-iff}
 use Rattle.line.specs.Grammar.{ContentLine}
-use Rattle.line.specs.Reading.{hasParameter, hasTwice, hasList}
 use Rattle.time.specs.Duration.{readDuration}
-use Rattle.time.specs.declared.duration.DurationRead.{DurationRead}
 use Rattle.values.specs.Rule.{ruleOf}
-use Rattle.values.specs.Period.{allPeriods, periodItems}
 use Rattle.values.specs.Times.{timeOf}
 use Rattle.values.specs.declared.times.Context.{Context}
-use Rattle.values.specs.declared.times.TimeRead.{TimeRead}
-use Rattle.values.specs.declared.rule.RuleRead.{RuleRead}
-use Rattle.property.specs.Properties.{propertyOf, timeIn, startBy, endBy, unlessZoned, durationBy, ruleValue, busyOf, typeValue, valueAs, beforePeriods, withPeriods, propertyValueOf}
+use Rattle.property.specs.Properties.{propertyOf, timeIn, unlessZoned, typeValue, valueAs, beforePeriods, withPeriods, propertyValueOf}
 use Rattle.property.specs.declared.Scope.{Scope}
 use Rattle.property.specs.declared.Property.{Property}
 use Rattle.property.specs.declared.PropertyValue.{PropertyValue}
+use Rattle.property.proofs.Properties.{start-keeps, end-keeps, duration-keeps, rule-keeps, zoned-keeps, type-keeps, periods-keep}
 use Rattle.nesting.specs.Components.{Numbered, Component, propertiesIn}
 use Rattle.events.specs.ComponentRules.{propertyName, countIf, linesNamed}
 use Rattle.calendar.specs.Meaning.{componentScope, propertyValuesIn, faultOr, faultIn, valueFault}
@@ -62,42 +58,32 @@ module _ (c : Context) (s : Scope) (x : ContentLine) where
   abbrev valueOfLine : Property → PropertyValue
   valueOfLine p = withPeriods (x .value) (valueAs p c s x)
 
-  start-name : Good (valueOfLine Property.Start) → propertyName (valueOfLine Property.Start) ≡ ascii "DTSTART"
-  unfolding valueAs unlessZoned startBy withPeriods propertyName
-  start-name h = go (hasParameter (ascii "TZID") x) (timeIn s (timeOf c x)) h
-    where
-      go : (z : Bool) (r : TimeRead) → Good (withPeriods (x .value) (cond z PropertyValue.Unsupported (startBy r)))
-          → propertyName (withPeriods (x .value) (cond z PropertyValue.Unsupported (startBy r))) ≡ ascii "DTSTART"
-      go true r h = absurd h
-      go false (TimeRead.Of t) h = refl
-      go false TimeRead.Bad h = absurd h
+  -- where it is good, it has this name
+  abbrev NamedSo : List ℕ → PropertyValue → Type 0
+  NamedSo w v = Good v → propertyName v ≡ w
 
-  end-name : Good (valueOfLine Property.End) → propertyName (valueOfLine Property.End) ≡ ascii "DTEND"
-  unfolding valueAs unlessZoned endBy withPeriods propertyName
-  end-name h = go (hasParameter (ascii "TZID") x) (timeIn s (timeOf c x)) h
-    where
-      go : (z : Bool) (r : TimeRead) → Good (withPeriods (x .value) (cond z PropertyValue.Unsupported (endBy r)))
-          → propertyName (withPeriods (x .value) (cond z PropertyValue.Unsupported (endBy r))) ≡ ascii "DTEND"
-      go true r h = absurd h
-      go false (TimeRead.Of t) h = refl
-      go false TimeRead.Bad h = absurd h
+  -- looking at the periods leaves the name
+  named-line : (w : List ℕ) (v : PropertyValue) → NamedSo w v → NamedSo w (withPeriods (x .value) v)
+  named-line w v h = periods-keep (NamedSo w) (λ k. absurd k) (x .value) v h
 
-  duration-name : Good (valueOfLine Property.Duration) → propertyName (valueOfLine Property.Duration) ≡ ascii "DURATION"
-  unfolding valueAs durationBy withPeriods propertyName
-  duration-name h = go (readDuration (x .value)) h
-    where
-      go : (r : DurationRead) → Good (withPeriods (x .value) (durationBy r)) → propertyName (withPeriods (x .value) (durationBy r)) ≡ ascii "DURATION"
-      go (DurationRead.Of d) h = refl
-      go DurationRead.Bad h = absurd h
+  named-time : (w : List ℕ) (v : PropertyValue) → NamedSo w v → NamedSo w (withPeriods (x .value) (unlessZoned x v))
+  named-time w v h = named-line w (unlessZoned x v) (zoned-keeps (NamedSo w) (λ k. absurd k) x v h)
 
-  rule-name : Good (valueOfLine Property.Rule) → propertyName (valueOfLine Property.Rule) ≡ ascii "RRULE"
-  unfolding valueAs ruleValue withPeriods propertyName
-  rule-name h = go (ruleOf c (x .value)) h
-    where
-      go : (r : RuleRead) → Good (withPeriods (x .value) (ruleValue r)) → propertyName (withPeriods (x .value) (ruleValue r)) ≡ ascii "RRULE"
-      go (RuleRead.Of r) h = refl
-      go RuleRead.Unsupported h = absurd h
-      go RuleRead.Bad h = absurd h
+  start-name : NamedSo (ascii "DTSTART") (valueOfLine Property.Start)
+  unfolding valueAs propertyName
+  start-name = named-time (ascii "DTSTART") _ (start-keeps (NamedSo (ascii "DTSTART")) (λ k. absurd k) (timeIn s (timeOf c x)) (λ t e h. refl))
+
+  end-name : NamedSo (ascii "DTEND") (valueOfLine Property.End)
+  unfolding valueAs propertyName
+  end-name = named-time (ascii "DTEND") _ (end-keeps (NamedSo (ascii "DTEND")) (λ k. absurd k) (timeIn s (timeOf c x)) (λ t e h. refl))
+
+  duration-name : NamedSo (ascii "DURATION") (valueOfLine Property.Duration)
+  unfolding valueAs propertyName
+  duration-name = named-line (ascii "DURATION") _ (duration-keeps (NamedSo (ascii "DURATION")) (λ k. absurd k) (readDuration (x .value)) (λ d e h. refl))
+
+  rule-name : NamedSo (ascii "RRULE") (valueOfLine Property.Rule)
+  unfolding valueAs propertyName
+  rule-name = named-line (ascii "RRULE") _ (rule-keeps (NamedSo (ascii "RRULE")) (λ k. absurd k) (λ k. absurd k) (ruleOf c (x .value)) (λ r e h. refl))
 
   status-name : propertyName (valueOfLine Property.Status) ≡ ascii "STATUS"
   unfolding valueAs withPeriods propertyName
@@ -107,16 +93,9 @@ module _ (c : Context) (s : Scope) (x : ContentLine) where
   unfolding valueAs withPeriods propertyName
   transparency-name = refl
 
-  periods-name : Good (valueOfLine Property.Periods) → propertyName (valueOfLine Property.Periods) ≡ ascii "FREEBUSY"
-  unfolding valueAs typeValue withPeriods propertyName
-  periods-name h = go (hasTwice (ascii "FBTYPE") x || hasList (ascii "FBTYPE") x) (allPeriods (periodItems (x .value))) refl h
-    where
-      go : (a b : Bool) → allPeriods (periodItems (x .value)) ≡ b
-          → Good (withPeriods (x .value) (cond a PropertyValue.Bad (PropertyValue.HasPeriods (busyOf x))))
-          → propertyName (withPeriods (x .value) (cond a PropertyValue.Bad (PropertyValue.HasPeriods (busyOf x)))) ≡ ascii "FREEBUSY"
-      go true b e h = absurd h
-      go false true e h = rw e
-      go false false e h = absurd (rw e at h)
+  periods-name : NamedSo (ascii "FREEBUSY") (valueOfLine Property.Periods)
+  unfolding valueAs propertyName
+  periods-name = named-line (ascii "FREEBUSY") (typeValue x) (type-keeps (NamedSo (ascii "FREEBUSY")) (λ k. absurd k) x (λ h. refl))
 
 -- ---- the name of the line, and the name of what it says
 

@@ -31,13 +31,9 @@ delimited-test : (l : List ℕ) (n : ℕ) (b : Bool) → n ≡ length (parameter
 unfolding lineOf
 delimited-test l n b p q = rw (no-parameters (parameterTexts l), p, q)
 
-pub delimited-yes : (l : List ℕ) (m : Delimiter) (n : ℕ) (b : Bool) → n ≡ length (parameterTexts l) → b ≡ isName (valueOf l)
-    → (eqb n 0 && b) ≡ true → m ≡ delimitedBy (lineOf l) m
-delimited-yes l m n b p q e = sym (ap (λ (t : Bool). cond t m Wrong) (delimited-test l n b p q ∙ e))
-
-pub delimited-no : (l : List ℕ) (m : Delimiter) (n : ℕ) (b : Bool) → n ≡ length (parameterTexts l) → b ≡ isName (valueOf l)
-    → (eqb n 0 && b) ≡ false → Wrong ≡ delimitedBy (lineOf l) m
-delimited-no l m n b p q e = sym (ap (λ (t : Bool). cond t m Wrong) (delimited-test l n b p q ∙ e))
+pub delimited-tested : (l : List ℕ) (m : Delimiter) (n : ℕ) (b : Bool) → n ≡ length (parameterTexts l) → b ≡ isName (valueOf l)
+    → {t : Bool} → (eqb n 0 && b) ≡ t → cond t m Wrong ≡ delimitedBy (lineOf l) m
+delimited-tested l m n b p q e = sym (ap (λ (t : Bool). cond t m Wrong) (delimited-test l n b p q ∙ e))
 
 -- where the colon stands right behind the name, the value is what is left
 module _ {l : List ℕ} {n : ℕ} (p : Plain l n) (m : Delimiter) (b : Bool) (q : b ≡ isName (take (length l - (n + 1)) (drop (n + 1) l))) where
@@ -48,11 +44,8 @@ module _ {l : List ℕ} {n : ℕ} (p : Plain l n) (m : Delimiter) (b : Bool) (q 
   plain-named : b ≡ isName (valueOf l)
   plain-named = q ∙ ap isName (suffix l (n + 1) ∙ sym (p .value-behind))
 
-  pub plain-yes : b ≡ true → m ≡ delimitedBy (lineOf l) m
-  plain-yes e = delimited-yes l m 0 b plain-count plain-named e
-
-  pub plain-no : b ≡ false → Wrong ≡ delimitedBy (lineOf l) m
-  plain-no e = delimited-no l m 0 b plain-count plain-named e
+  pub plain-tested : {t : Bool} → b ≡ t → cond t m Wrong ≡ delimitedBy (lineOf l) m
+  plain-tested e = delimited-tested l m 0 b plain-count plain-named e
 
 -- the delimiter that a line is, whose name is BEGIN, or is END
 abbrev pub delimiting : ContentLine → Bool → Bool → Delimiter

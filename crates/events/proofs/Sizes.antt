@@ -1,21 +1,16 @@
 -- An event and a block that are read are small, where what their lines say is.
 use Prim.Native.Nat.{ℕ, _≤_}
 use mathlib.Core.Path.{_≡_, refl, subst}
-use mathlib.Core.Bool.{Bool, true, false, cond, _&&_}
+use mathlib.Core.Bool.{Bool, true, false, cond}
 use mathlib.Core.List.{List}
 use native.Mathlib.Omega.{arith}
-use lib.Dec.{ltb, leb}
-use borrow.Author.Tests.{ltb-true, leb-true}
-use Rattle.ascii.proofs.Bools.{and-right}
 use Rattle.time.specs.Limits.{lastSecond}
-use Rattle.time.specs.declared.duration.Duration.{Duration}
-use Rattle.values.specs.Period.{DurationSmall}
 use Rattle.values.specs.Rule.{LimitSmall}
 use Rattle.values.specs.declared.times.Time.{Time}
 use Rattle.values.specs.declared.rule.Limit.{Limit}
 use Rattle.property.specs.declared.PropertyValue.{PropertyValue}
 use Rattle.events.specs.ComponentProperties.{noProperties, withProperties}
-use Rattle.events.specs.Events.{sameKind, isDate, statedEnd, statedDuration, endingBy, limitBy, repeatBy, daysBy, intervalBy, eventMade, eventWith, eventFrom, eventBy}
+use Rattle.events.specs.Events.{endingBy, limitBy, repeatBy, daysBy, intervalBy, eventMade, eventWith, eventFrom, eventBy}
 use Rattle.events.specs.Sizes.{EndingSmall, RepeatSmall, EventSmall}
 use Rattle.events.specs.declared.Ending.{Ending}
 use Rattle.events.specs.declared.Repeat.{Repeat}
@@ -27,51 +22,35 @@ use Rattle.events.specs.declared.RuleGiven.{RuleGiven}
 use Rattle.events.specs.declared.EndingRead.{EndingRead}
 use Rattle.events.specs.declared.RepeatRead.{RepeatRead}
 use Rattle.events.specs.declared.EventRead.{EventRead}
+use Rattle.events.proofs.ComponentRules.{ending-broken, end-fits-of, end-of-fits, duration-fits-of, duration-of-fits, until-fits-of, until-of-fits}
 use Rattle.events.proofs.ComponentPropertiesLaws.{TimeSmall, LastsSmall, RepeatsSmall, ComponentPropertiesSmall, nothing-small, AllSmall, with-properties-small}
 
--- ---- what lines say together
-
 -- ---- the ending and the limit
-
-stated-end-small : (s e : Time) (x : Ending) → e .second ≤ lastSecond → statedEnd s e ≡ EndingRead.Of x → EndingSmall (s .second) x
-unfolding statedEnd
-stated-end-small s e x h q = go (sameKind e s && ltb (s .second) (e .second)) refl q
-  where
-    go : (t : Bool) → (sameKind e s && ltb (s .second) (e .second)) ≡ t
-        → cond t (EndingRead.Of (Ending.End (e .second))) EndingRead.Broken ≡ EndingRead.Of x → EndingSmall (s .second) x
-    go true p k =
-        let z : Ending.End (e .second) ≡ x = cc in
-        rw (← z) (ltb-true (s .second) (e .second) (and-right (sameKind e s) _ p), h)
-    go false p k = let z : _≡_ {A = ℕ} 0 1 = cc in absurd (omega arith)
-
-stated-duration-small : (s : Time) (d : Duration) (x : Ending) → DurationSmall d → statedDuration s d ≡ EndingRead.Of x → EndingSmall (s .second) x
-unfolding statedDuration
-stated-duration-small s d x h q = go (isDate (s .kind) && d .timed) q
-  where
-    go : (t : Bool) → cond t EndingRead.Broken (EndingRead.Of (Ending.Lasts d)) ≡ EndingRead.Of x → EndingSmall (s .second) x
-    go true k = let z : _≡_ {A = ℕ} 0 1 = cc in absurd (omega arith)
-    go false k = let z : Ending.Lasts d ≡ x = cc in rw (← z) h
 
 ending-small : (s : Time) (e : TimeGiven) (d : DurationGiven) (x : Ending) → TimeSmall e → LastsSmall d → endingBy s e d ≡ EndingRead.Of x
     → EndingSmall (s .second) x
 unfolding endingBy
 ending-small s TimeGiven.Absent DurationGiven.Absent x h k q = let z : Ending.None ≡ x = cc in rw (← z) tt
-ending-small s (TimeGiven.Given e) DurationGiven.Absent x h k q = stated-end-small s e x h q
-ending-small s TimeGiven.Absent (DurationGiven.Given d) x h k q = stated-duration-small s d x k q
-ending-small s (TimeGiven.Given e) (DurationGiven.Given d) x h k q = let z : _≡_ {A = ℕ} 0 1 = cc in absurd (omega arith)
+ending-small s (TimeGiven.Given e) DurationGiven.Absent x h k q =
+    let fits = end-fits-of s e x q in
+    let read = end-of-fits s e fits in
+    let z : Ending.End (e .second) ≡ x = cc in
+    rw (← z) (fits .later, h)
+ending-small s TimeGiven.Absent (DurationGiven.Given d) x h k q =
+    let read = duration-of-fits s d (duration-fits-of s d x q) in
+    let z : Ending.Lasts d ≡ x = cc in
+    rw (← z) k
+ending-small s (TimeGiven.Given e) (DurationGiven.Given d) x h k q = ending-broken q
 
 limit-small : (s : Time) (l : Limit) (x : Repeat) → LimitSmall l → limitBy s l ≡ RepeatRead.Of x → RepeatSmall (s .second) x
 unfolding limitBy
 limit-small s Limit.Forever x h q = let z : Repeat.Forever ≡ x = cc in rw (← z) tt
 limit-small s (Limit.Count n) x h q = let z : Repeat.Count n ≡ x = cc in rw (← z) h
-limit-small s (Limit.Until u) x h q = go (sameKind u s && leb (s .second) (u .second)) refl q
-  where
-    go : (t : Bool) → (sameKind u s && leb (s .second) (u .second)) ≡ t
-        → cond t (RepeatRead.Of (Repeat.Until (u .second))) RepeatRead.Broken ≡ RepeatRead.Of x → RepeatSmall (s .second) x
-    go true p k =
-        let z : Repeat.Until (u .second) ≡ x = cc in
-        rw (← z) (leb-true (s .second) (u .second) (and-right (sameKind u s) _ p), h)
-    go false p k = let z : _≡_ {A = ℕ} 0 1 = cc in absurd (omega arith)
+limit-small s (Limit.Until u) x h q =
+    let fits = until-fits-of s u x q in
+    let read = until-of-fits s u fits in
+    let z : Repeat.Until (u .second) ≡ x = cc in
+    rw (← z) (fits .not-before, h)
 
 repeat-small : (s : Time) (g : RuleGiven) (x : Repeat) → RepeatsSmall g → repeatBy s g ≡ RepeatRead.Of x → RepeatSmall (s .second) x
 unfolding repeatBy

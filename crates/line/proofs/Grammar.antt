@@ -11,11 +11,14 @@ use borrow.Author.Tests.{eqb-true, leb-true, le-leb, le-ltb, ne-eqb}
 use Rattle.ascii.specs.Bytes.{isNameByte, isControl}
 use Rattle.ascii.specs.Names.{isName, every}
 use Rattle.ascii.proofs.Bools.{and-left, and-right, and-both, clash}
-use Rattle.line.specs.Grammar.{Parameter, ContentLine, contentLine, parameter, isQuotable, isUnquoted, isValueByte, ParameterValue, ParameterValues, Parameters, LineGrammar, quoted, unquoted, one, comma, none, semicolon, colon}
+use Rattle.line.specs.Grammar.{Parameter, ContentLine, contentLine, parameter, isQuotable, isUnquoted, isValueByte, ParameterValue, ParameterValues, Parameters}
+use Rattle.line.specs.Grammar.{LineGrammar, quoted, unquoted, one, comma, none, semicolon, colon}
 use Rattle.line.specs.Scanner.{afterValue, step, scan, isWellFormed}
 use Rattle.line.specs.declared.scan.State.{State}
 use Rattle.line.specs.declared.scan.State.the-variants.{Start, Name, ParameterStart, ParameterName, ValueStart, Unquoted, Quoted, AfterQuoted, Value, Wrong}
-use Rattle.line.proofs.Scanner.{scan-step, scan-stays, or-none, name-stays, parameter-name-stays, Ends, at-comma, at-semicolon, at-colon, ends-start, ends-unquoted, ends-quoted, quote-opens, quote-closes, starts-name, starts-parameter-name, scan-name, semicolon-ends, colon-ends, equals-ends, value-ends, wrong-stays, ending-value}
+use Rattle.line.proofs.Scanner.{scan-step, scan-stays, or-none, name-stays, parameter-name-stays, Ends, at-comma, at-semicolon, at-colon, ends-start}
+use Rattle.line.proofs.Scanner.{ends-unquoted, ends-quoted, quote-opens, quote-closes, starts-name, starts-parameter-name, scan-name, semicolon-ends, colon-ends}
+use Rattle.line.proofs.Scanner.{equals-ends, value-ends, wrong-stays, ending-value}
 
 -- ---- the classes of bytes
 

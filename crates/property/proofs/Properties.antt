@@ -21,14 +21,15 @@ use Rattle.time.specs.declared.duration.Duration.{Duration}
 use Rattle.time.specs.declared.duration.DurationRead.{DurationRead}
 use Rattle.periods.specs.declared.BusyType.{BusyType}
 use Rattle.line.specs.Splitting.{nextPlace}
-use Rattle.line.specs.Reading.{headOf, isNamed, valuesOf, parameterOf, firstOf, nameOf, lineOf, valueOf, hasParameter, hasTwice, hasList, parametersNamed, someList, pooled, valuesNamed, firstValue, Plain}
+use Rattle.line.specs.Reading.{headOf, isNamed, valuesOf, parameterOf, firstOf, nameOf, lineOf, valueOf, hasParameter, hasTwice, hasList, parametersNamed, someList}
+use Rattle.line.specs.Reading.{pooled, valuesNamed, firstValue, Plain}
 use Rattle.line.specs.Grammar.{Parameter, ContentLine}
 use Rattle.line.proofs.Splitting.{suffix}
 use Rattle.line.proofs.ReadingParameters.{parametersFrom, parameters-next, parameters-end, parameters-all}
 use Rattle.values.specs.declared.times.Context.{Context}
 use Rattle.values.specs.Times.{formOf, timeOf}
-use Rattle.values.specs.Rule.{ruleOf, RuleSmall}
-use Rattle.values.specs.Period.{periodItems, allPeriods, DurationSmall}
+use Rattle.values.specs.Rule.{ruleOf}
+use Rattle.values.specs.Period.{periodItems, allPeriods}
 use Rattle.values.specs.declared.times.Time.{Time}
 use Rattle.values.specs.declared.times.TimeRead.{TimeRead}
 use Rattle.values.specs.declared.rule.Rule.{Rule}
@@ -40,7 +41,8 @@ use Rattle.values.proofs.PeriodLaws.{readDuration-small}
 use Rattle.property.specs.declared.Scope.{Scope}
 use Rattle.property.specs.declared.Property.{Property}
 use Rattle.property.specs.declared.PropertyValue.{PropertyValue}
-use Rattle.property.specs.Properties.{PropertyWord, picked, wordsIn, propertyOf, valueAs, beforePeriods, withPeriods, propertyValueOf, isStart, timeIn, startBy, endBy, unlessZoned, durationBy, ruleValue, busyOf, typeValue, givesPeriods, PropertyValueSmall, busyNamed}
+use Rattle.property.specs.Properties.{PropertyWord, picked, wordsIn, propertyOf, valueAs, beforePeriods, withPeriods, propertyValueOf, isStart, timeIn, startBy}
+use Rattle.property.specs.Properties.{endBy, unlessZoned, durationBy, ruleValue, busyOf, typeValue, givesPeriods, PropertyValueSmall, busyNamed}
 use Rattle.property.proofs.Property.{the-type}
 
 -- ---- which property a name is, by its length: only the words that are as long can be meant
@@ -334,6 +336,17 @@ module _ (P : PropertyValue → Type 0) where
   end-keeps b (TimeRead.Of t) h = h t refl
   end-keeps b TimeRead.Bad h = b
 
+  pub duration-keeps : P PropertyValue.Bad → (r : DurationRead) → ((d : Duration) → r ≡ DurationRead.Of d → P (PropertyValue.Lasts d)) → P (durationBy r)
+  unfolding durationBy
+  duration-keeps b (DurationRead.Of d) h = h d refl
+  duration-keeps b DurationRead.Bad h = b
+
+  pub rule-keeps : P PropertyValue.Unsupported → P PropertyValue.Bad → (q : RuleRead) → ((r : Rule) → q ≡ RuleRead.Of r → P (PropertyValue.Repeats r)) → P (ruleValue q)
+  unfolding ruleValue
+  rule-keeps u b (RuleRead.Of r) h = h r refl
+  rule-keeps u b RuleRead.Unsupported h = u
+  rule-keeps u b RuleRead.Bad h = b
+
   either-keeps : (t : Bool) (a b : PropertyValue) → P a → P b → P (cond t a b)
   either-keeps true a b h k = h
   either-keeps false a b h k = k
@@ -372,24 +385,13 @@ timeIn-small : (c : Context) (s : Scope) (x : ContentLine) (t : Time) → timeIn
 unfolding timeOf
 timeIn-small c s x t e = readTime-small c (formOf x) (x .value) t (timeIn-same s (timeOf c x) t e)
 
-duration-small : (r : DurationRead) → ((d : Duration) → r ≡ DurationRead.Of d → DurationSmall d) → PropertyValueSmall (durationBy r)
-unfolding durationBy
-duration-small (DurationRead.Of d) h = h d refl
-duration-small DurationRead.Bad h = tt
-
-rule-small : (q : RuleRead) → ((r : Rule) → q ≡ RuleRead.Of r → RuleSmall r) → PropertyValueSmall (ruleValue q)
-unfolding ruleValue
-rule-small (RuleRead.Of r) h = h r refl
-rule-small RuleRead.Unsupported h = tt
-rule-small RuleRead.Bad h = tt
-
 valueAs-small : (p : Property) (c : Context) (s : Scope) (x : ContentLine) → PropertyValueSmall (valueAs p c s x)
 unfolding valueAs
 valueAs-small Property.Start c s x =
     zoned-keeps PropertyValueSmall tt x _ (start-keeps PropertyValueSmall tt (timeIn s (timeOf c x)) (λ t. timeIn-small c s x t))
 valueAs-small Property.End c s x = zoned-keeps PropertyValueSmall tt x _ (end-keeps PropertyValueSmall tt (timeIn s (timeOf c x)) (λ t. timeIn-small c s x t))
-valueAs-small Property.Duration c s x = duration-small (readDuration (x .value)) (λ d. readDuration-small (x .value) d)
-valueAs-small Property.Rule c s x = rule-small (ruleOf c (x .value)) (λ r. ruleOf-small c (x .value) r)
+valueAs-small Property.Duration c s x = duration-keeps PropertyValueSmall tt (readDuration (x .value)) (λ d. readDuration-small (x .value) d)
+valueAs-small Property.Rule c s x = rule-keeps PropertyValueSmall tt tt (ruleOf c (x .value)) (λ r. ruleOf-small c (x .value) r)
 valueAs-small Property.Status c s x = tt
 valueAs-small Property.Transparency c s x = tt
 valueAs-small Property.Periods c s x = type-keeps PropertyValueSmall tt x tt

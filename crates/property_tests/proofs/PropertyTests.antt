@@ -21,7 +21,8 @@ use Rattle.query.specs.Counting.{implies}
 use Rattle.query_check.specs.QueryRules.{GoodParameter, GoodProperty}
 use Rattle.query_check.specs.WellFormed.{recordsGood}
 use Rattle.query_check.proofs.QueryRules.{records-say}
-use Rattle.property_tests.specs.PropertyTests.{collationOf, textHolds, textOr, textPasses, someValue, somePasses, parameterHolds, parameterPasses, parametersHold, someNamed, lineHolds, someLine, propertyHolds, propertyPasses}
+use Rattle.property_tests.specs.PropertyTests.{collationOf, textHolds, textOr, textPasses, someValue, somePasses, parameterHolds, parameterPasses, parametersHold}
+use Rattle.property_tests.specs.PropertyTests.{someNamed, lineHolds, someLine, propertyHolds, propertyPasses}
 use Rattle.nesting.specs.Components.{Numbered, Items, none, propertiesIn}
 use Rattle.index.specs.Index.{lineBytes, Entry, Indexed}
 use Rattle.structure.specs.Rows.{itemsBy, numberedLine, ItemsAt, RowOf, componentBy}

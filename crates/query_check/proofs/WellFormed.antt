@@ -22,7 +22,9 @@ use Rattle.query.specs.declared.SectionsRead.{SectionsRead}
 use Rattle.query.proofs.Counting.{every-at}
 use Rattle.query.proofs.LayoutLaws.{sections-fit}
 use Rattle.query_check.specs.declared.QueryRead.{QueryRead}
-use Rattle.query_check.specs.WellFormed.{componentGood, propertyGood, parameterGood, componentMisplaced, nameGood, hasChildComponent, hasProperty, parentGood, rangesGood, componentsGood, propertiesGood, parametersGood, recordsGood, sectionsGood, queryGood, rangeMisplaced, placed, queryRead, ReadSays}
+use Rattle.query_check.specs.WellFormed.{componentGood, propertyGood, parameterGood, componentMisplaced, nameGood, hasChildComponent, hasProperty, parentGood}
+use Rattle.query_check.specs.WellFormed.{rangesGood, componentsGood, propertiesGood, parametersGood, recordsGood, sectionsGood, queryGood, rangeMisplaced, placed}
+use Rattle.query_check.specs.WellFormed.{queryRead, ReadSays}
 
 -- ---- the tests that the loops over a section make of one record
 

@@ -3,7 +3,7 @@
 use Rattle.ascii.specs.Names.{isName}
 use Rattle.line.specs.Reading.{Plain}
 use Rattle.line.proofs.Reading.{plain-at}
-use Rattle.delimiters.proofs.Delimiters.{delimited-yes, delimited-no, plain-yes, plain-no}
+use Rattle.delimiters.proofs.Delimiters.{delimited-tested, plain-tested}
 use mathlib.Core.Path.{ap, _∙_}
 use native.Mathlib.Omega.{arith}
 use borrow.Author.Needs.{needs}
@@ -32,10 +32,10 @@ is-name-requires : tie.Need-is-name-requires
 is-name-requires c κs = search needs
 
 returns : tie.Need-returns
-returns c = plain-yes (plain-there (c .before .before .before)) (c .before .before .before .before .before .before .args .delimiter) _ (c .before .is-name .ensures) (c .if2 .taken)
+returns c = plain-tested (plain-there (c .before .before .before)) (c .before .before .before .before .before .before .args .delimiter) _ (c .before .is-name .ensures) (c .if2 .taken)
 
 returns-2 : tie.Need-returns-2
-returns-2 c = plain-no (plain-there (c .before .before .before)) (c .before .before .before .before .before .before .args .delimiter) _ (c .before .is-name .ensures) (c .if2 .left)
+returns-2 c = plain-tested (plain-there (c .before .before .before)) (c .before .before .before .before .before .before .args .delimiter) _ (c .before .is-name .ensures) (c .if2 .left)
 
 parameter-count-requires : tie.Need-parameter-count-requires
 parameter-count-requires c κs = search needs
@@ -48,21 +48,15 @@ is-name-requires-2 c κs = search needs
 
 returns-3 : tie.Need-returns-3
 returns-3 c =
-    let line = c .before .before .before .before .before .before .before .args .line .now in
-    let delimiter = c .before .before .before .before .before .before .before .args .delimiter in
-    let counted = c .before .before .before .parameter-count .ensures in
+    let called = c .before .before .before .before .before .before .before .args in
     let named = c .before .is-name2 .ensures ∙ ap isName (c .before .before .value .ensures) in
-    let plain = c .if3 .taken in
-    delimited-yes line delimiter _ _ counted named plain
+    delimited-tested (called .line .now) (called .delimiter) _ _ (c .before .before .before .parameter-count .ensures) named (c .if3 .taken)
 
 returns-4 : tie.Need-returns-4
 returns-4 c =
-    let line = c .before .before .before .before .before .before .before .args .line .now in
-    let delimiter = c .before .before .before .before .before .before .before .args .delimiter in
-    let counted = c .before .before .before .parameter-count .ensures in
+    let called = c .before .before .before .before .before .before .before .args in
     let named = c .before .is-name2 .ensures ∙ ap isName (c .before .before .value .ensures) in
-    let not-plain = c .if3 .left in
-    delimited-no line delimiter _ _ counted named not-plain
+    delimited-tested (called .line .now) (called .delimiter) _ _ (c .before .before .before .parameter-count .ensures) named (c .if3 .left)
 
 pub delimited-by-spec : {M : Type 1} → statement M
 delimited-by-spec =
