@@ -2,7 +2,6 @@
 use Prim.Native.Nat.{ℕ, zero, suc, _+_, _≤_, _<_}
 use mathlib.Core.Path.{_≡_, refl, sym, subst, _∙_}
 use mathlib.Core.Bool.{Bool, true, false, _||_}
-use native.Mathlib.Numerals.{add-one}
 use native.Mathlib.Omega.{arith}
 use lib.Dec.{ltb}
 use borrow.Author.Tests.{ltb-true, ltb-false}
@@ -54,50 +53,36 @@ module _ (f : ℕ → Bool) where
   none-all zero h = refl
   none-all (suc n) h = or-neither (none-all n (λ i k. h i (omega arith))) (h n (omega arith))
 
--- ---- what a loop over n numbers keeps, at number k; t says whether the test holds of k
+-- ---- what a loop over n numbers keeps
 
--- it held of every one before
-pub record EveryBefore (f : ℕ → Bool) (n k : ℕ) : Type 0 where
+-- at number k, the test has given b of every one before
+pub record SoFar (b : Bool) (f : ℕ → Bool) (n k : ℕ) : Type 0 where
   pub within : k ≤ n
-  pub so-far : everyBelow k f ≡ true
+  pub each : (i : ℕ) → i < k → f i ≡ b
 
-pub every-start : {f : ℕ → Bool} {n : ℕ} → EveryBefore f n 0
-unfolding everyBelow
-every-start = record { within = omega arith; so-far = refl }
+pub so-far-start : {b : Bool} {f : ℕ → Bool} {n : ℕ} → SoFar b f n 0
+so-far-start = record { within = omega arith; each = λ i h. absurd (omega arith) }
 
-module _ {f : ℕ → Bool} {n k : ℕ} (w : EveryBefore f n k) where
-  module _ {t : Bool} (h : k < n) (q : t ≡ f k) where
-    pub every-next : t ≡ true → EveryBefore f n (k + 1)
-    unfolding everyBelow
-    every-next e = record { within = omega arith; so-far = rw add-one (and-both (w .so-far) (sym q ∙ e)) }
+-- t is what it gives of k
+module _ {b : Bool} {f : ℕ → Bool} {n k : ℕ} {t : Bool} (w : SoFar b f n k) (h : k < n) (q : t ≡ f k) where
+  pub so-far-next : t ≡ b → SoFar b f n (k + 1)
+  so-far-next e =
+      record { within = omega arith; each = λ i l. below-suc (λ (j : ℕ). f j ≡ b) k i (omega arith) (λ m. w .each i m) (sym q ∙ e) }
 
-    pub every-stop : t ≡ false → false ≡ everyBelow n f
-    every-stop e = sym (not-so (everyBelow n f) (λ y. clash (every-at f n k h y) (sym q ∙ e)))
+  pub every-stop : t ≡ false → false ≡ everyBelow n f
+  every-stop e = sym (not-so (everyBelow n f) (λ y. clash (every-at f n k h y) (sym q ∙ e)))
 
-  pub every-end : n ≤ k → true ≡ everyBelow n f
-  every-end h = let e : k ≡ n = omega (arith, w .within) in sym (subst (λ (m : ℕ). everyBelow m f ≡ true) e (w .so-far))
+  pub some-found : t ≡ true → true ≡ someBelow n f
+  some-found e = go (someBelow n f) refl
+    where
+      go : (y : Bool) → someBelow n f ≡ y → true ≡ someBelow n f
+      go true y = sym y
+      go false y = clash (sym q ∙ e) (none-at f n k h y)
 
--- it held of none before
-pub record NoneBefore (f : ℕ → Bool) (n k : ℕ) : Type 0 where
-  pub within : k ≤ n
-  pub so-far : someBelow k f ≡ false
+-- no number is left
+module _ {f : ℕ → Bool} {n k : ℕ} where
+  pub every-end : SoFar true f n k → n ≤ k → true ≡ everyBelow n f
+  every-end w h = sym (every-all f n (λ i l. w .each i (omega arith)))
 
-pub none-start : {f : ℕ → Bool} {n : ℕ} → NoneBefore f n 0
-unfolding someBelow
-none-start = record { within = omega arith; so-far = refl }
-
-module _ {f : ℕ → Bool} {n k : ℕ} (w : NoneBefore f n k) where
-  module _ {t : Bool} (h : k < n) (q : t ≡ f k) where
-    pub none-next : t ≡ false → NoneBefore f n (k + 1)
-    unfolding someBelow
-    none-next e = record { within = omega arith; so-far = rw add-one (or-neither (w .so-far) (sym q ∙ e)) }
-
-    pub some-found : t ≡ true → true ≡ someBelow n f
-    some-found e = sym (go (someBelow n f) refl)
-      where
-        go : (y : Bool) → someBelow n f ≡ y → someBelow n f ≡ true
-        go true y = y
-        go false y = clash (sym q ∙ e) (none-at f n k h y)
-
-  pub none-end : n ≤ k → false ≡ someBelow n f
-  none-end h = let e : k ≡ n = omega (arith, w .within) in sym (subst (λ (m : ℕ). someBelow m f ≡ false) e (w .so-far))
+  pub none-end : SoFar false f n k → n ≤ k → false ≡ someBelow n f
+  none-end w h = sym (none-all f n (λ i l. w .each i (omega arith)))

@@ -3,20 +3,21 @@ use Prim.Native.Nat.{_-_}
 use borrow.Author.Tests.{not-true, not-false}
 use Rattle.nesting.specs.Components.{propertiesIn}
 use Rattle.structure.specs.Rows.{componentBy}
-use Rattle.query.proofs.Counting.{EveryBefore, every-start, every-next, every-stop, every-end}
+use mathlib.Core.Bool.{true}
+use Rattle.query.proofs.Counting.{SoFar, so-far-start, so-far-next, every-stop, every-end}
 use Rattle.property_tests.specs.PropertyTests.{propertyPasses, propertiesHold}
 use native.Mathlib.Omega.{arith}
 use Rattle.property_tests.proofs.properties_hold.Statement.{statement}
 use Rattle.property_tests.proofs.properties_hold.Tie as tie
 
 abbrev Inv-loop : tie.InvT-loop
-Inv-loop query q j s index rows k n i₀ i = EveryBefore (propertyPasses query q j (propertiesIn (componentBy s rows k .items))) (q .properties .count) i
+Inv-loop query q j s index rows k n i₀ i = SoFar true (propertyPasses query q j (propertiesIn (componentBy s rows k .items))) (q .properties .count) i
 
 abbrev μ-loop : tie.MeasureT-loop
 μ-loop query q j s index rows k n i₀ i = n - i
 
 loop-holds : tie.Need-loop-holds Inv-loop μ-loop
-loop-holds c = every-start
+loop-holds c = so-far-start
 
 property-passes-requires : tie.Need-property-passes-requires Inv-loop μ-loop
 property-passes-requires c κs =
@@ -37,7 +38,7 @@ loop-less : tie.Need-loop-less Inv-loop μ-loop
 loop-less c = omega arith
 
 loop-again : tie.Need-loop-again Inv-loop μ-loop
-loop-again c = every-next (c .before .before .before .loop .inv) (c .before .before .loop-test .taken) (c .before .property-passes .ensures) (not-false _ (c .if1 .left))
+loop-again c = so-far-next (c .before .before .before .loop .inv) (c .before .before .loop-test .taken) (c .before .property-passes .ensures) (not-false _ (c .if1 .left))
 
 returns-2 : tie.Need-returns-2 Inv-loop μ-loop
 unfolding propertiesHold

@@ -2,20 +2,21 @@
 use Rattle.query_check.specs.WellFormed.{componentMisplaced, componentsMisplaced}
 use Rattle.query_check.proofs.WellFormed.{component-text, componentOff}
 use Prim.Native.Nat.{_-_}
-use Rattle.query.proofs.Counting.{NoneBefore, none-start, none-next, some-found, none-end}
+use mathlib.Core.Bool.{false}
+use Rattle.query.proofs.Counting.{SoFar, so-far-start, so-far-next, some-found, none-end}
 use mathlib.Core.Path.{ap, _∙_}
 use native.Mathlib.Omega.{arith}
 use Rattle.query_check.proofs.components_misplaced.Statement.{statement}
 use Rattle.query_check.proofs.components_misplaced.Tie as tie
 
 abbrev Inv-loop : tie.InvT-loop
-Inv-loop s q n k₀ k = NoneBefore (componentOff s q) (q .components .count) k
+Inv-loop s q n k₀ k = SoFar false (componentOff s q) (q .components .count) k
 
 abbrev μ-loop : tie.MeasureT-loop
 μ-loop s q n k₀ k = n - k
 
 loop-holds : tie.Need-loop-holds Inv-loop μ-loop
-loop-holds c = none-start
+loop-holds c = so-far-start
 
 component-at-requires : tie.Need-component-at-requires Inv-loop μ-loop
 component-at-requires c κs = (c .before .before .before .before .pre .0, c .loop-test .taken)
@@ -46,7 +47,7 @@ loop-again : tie.Need-loop-again Inv-loop μ-loop
 loop-again c =
     let inside = c .before .before .before in
     let tested = c .before .component-misplaced .ensures ∙ ap (componentMisplaced _ _) (c .before .before .component-at .ensures) in
-    none-next (inside .before .loop .inv) (inside .loop-test .taken) tested (c .if1 .left)
+    so-far-next (inside .before .loop .inv) (inside .loop-test .taken) tested (c .if1 .left)
 
 returns-2 : tie.Need-returns-2 Inv-loop μ-loop
 unfolding componentsMisplaced

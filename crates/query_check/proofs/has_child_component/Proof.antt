@@ -1,6 +1,7 @@
 -- `query_check::has_child_component` meets its contract: no component so far is a child, and the first that is one decides.
 use Prim.Native.Nat.{_-_}
-use Rattle.query.proofs.Counting.{NoneBefore, none-start, none-next, some-found, none-end}
+use mathlib.Core.Bool.{false}
+use Rattle.query.proofs.Counting.{SoFar, so-far-start, so-far-next, some-found, none-end}
 use Rattle.query_check.proofs.WellFormed.{childOf, child-of}
 use Rattle.query_check.specs.WellFormed.{hasChildComponent}
 use native.Mathlib.Omega.{arith}
@@ -8,13 +9,13 @@ use Rattle.query_check.proofs.has_child_component.Statement.{statement}
 use Rattle.query_check.proofs.has_child_component.Tie as tie
 
 abbrev Inv-loop : tie.InvT-loop
-Inv-loop s q i n k₀ k = NoneBefore (childOf s q i) (q .components .count) k
+Inv-loop s q i n k₀ k = SoFar false (childOf s q i) (q .components .count) k
 
 abbrev μ-loop : tie.MeasureT-loop
 μ-loop s q i n k₀ k = n - k
 
 loop-holds : tie.Need-loop-holds Inv-loop μ-loop
-loop-holds c = none-start
+loop-holds c = so-far-start
 
 component-at-requires : tie.Need-component-at-requires Inv-loop μ-loop
 component-at-requires c κs = (c .before .before .before .before .pre, c .loop-test .taken)
@@ -34,7 +35,7 @@ loop-less c = omega arith
 loop-again : tie.Need-loop-again Inv-loop μ-loop
 loop-again c =
     let inside = c .before .before .before in
-    none-next (inside .before .loop .inv) (inside .loop-test .taken) (child-of _ _ _ _ (c .before .before .component-at .ensures)) (c .if1 .left)
+    so-far-next (inside .before .loop .inv) (inside .loop-test .taken) (child-of _ _ _ _ (c .before .before .component-at .ensures)) (c .if1 .left)
 
 returns-2 : tie.Need-returns-2 Inv-loop μ-loop
 unfolding hasChildComponent

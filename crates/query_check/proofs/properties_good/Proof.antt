@@ -2,7 +2,8 @@
 use Rattle.query_check.proofs.WellFormed.{propertyHolds}
 use borrow.Author.Tests.{not-true, not-false}
 use Prim.Native.Nat.{_-_}
-use Rattle.query.proofs.Counting.{EveryBefore, every-start, every-next, every-stop, every-end}
+use mathlib.Core.Bool.{true}
+use Rattle.query.proofs.Counting.{SoFar, so-far-start, so-far-next, every-stop, every-end}
 use Rattle.query_check.specs.WellFormed.{propertiesGood, propertyGood}
 use mathlib.Core.Path.{ap, _∙_}
 use native.Mathlib.Omega.{arith}
@@ -10,13 +11,13 @@ use Rattle.query_check.proofs.properties_good.Statement.{statement}
 use Rattle.query_check.proofs.properties_good.Tie as tie
 
 abbrev Inv-loop : tie.InvT-loop
-Inv-loop s q n k₀ k = EveryBefore (propertyHolds s q) (q .properties .count) k
+Inv-loop s q n k₀ k = SoFar true (propertyHolds s q) (q .properties .count) k
 
 abbrev μ-loop : tie.MeasureT-loop
 μ-loop s q n k₀ k = n - k
 
 loop-holds : tie.Need-loop-holds Inv-loop μ-loop
-loop-holds c = every-start
+loop-holds c = so-far-start
 
 property-at-requires : tie.Need-property-at-requires Inv-loop μ-loop
 property-at-requires c κs = (c .before .before .before .before .pre, c .loop-test .taken)
@@ -41,7 +42,7 @@ loop-again : tie.Need-loop-again Inv-loop μ-loop
 loop-again c =
     let inside = c .before .before .before in
     let tested = c .before .property-good .ensures ∙ ap (propertyGood _ _ _) (c .before .before .property-at .ensures) in
-    every-next (inside .before .loop .inv) (inside .loop-test .taken) tested (not-false _ (c .if1 .left))
+    so-far-next (inside .before .loop .inv) (inside .loop-test .taken) tested (not-false _ (c .if1 .left))
 
 returns-2 : tie.Need-returns-2 Inv-loop μ-loop
 unfolding propertiesGood

@@ -3,7 +3,8 @@ use Rattle.query.specs.declared.PropertyRecord.{PropertyRecord}
 use borrow.Author.Tests.{lt-ltb, le-ltb}
 use lib.Dec.{ltb}
 use Prim.Native.Nat.{_-_}
-use Rattle.query.proofs.Counting.{NoneBefore, none-start, none-next, some-found, none-end}
+use mathlib.Core.Bool.{false}
+use Rattle.query.proofs.Counting.{SoFar, so-far-start, so-far-next, some-found, none-end}
 use Rattle.query_check.proofs.WellFormed.{propertyOff}
 use Rattle.query_check.specs.WellFormed.{propertiesMisplaced}
 use mathlib.Core.Path.{ap}
@@ -12,13 +13,13 @@ use Rattle.query_check.proofs.properties_misplaced.Statement.{statement
 use Rattle.query_check.proofs.properties_misplaced.Tie as tie
 
 abbrev Inv-loop : tie.InvT-loop
-Inv-loop s q n k₀ k = NoneBefore (propertyOff s q) (q .properties .count) k
+Inv-loop s q n k₀ k = SoFar false (propertyOff s q) (q .properties .count) k
 
 abbrev μ-loop : tie.MeasureT-loop
 μ-loop s q n k₀ k = n - k
 
 loop-holds : tie.Need-loop-holds Inv-loop μ-loop
-loop-holds c = none-start
+loop-holds c = so-far-start
 
 property-at-requires : tie.Need-property-at-requires Inv-loop μ-loop
 property-at-requires c κs = (c .before .before .before .before .pre, c .loop-test .taken)
@@ -38,7 +39,7 @@ loop-less c = omega arith
 loop-again : tie.Need-loop-again Inv-loop μ-loop
 loop-again c =
     let inside = c .before .before .before in
-    none-next (inside .before .loop .inv) (inside .loop-test .taken) (ap (λ (r : PropertyRecord). ltb 0 (r .range)) (c .before .before .property-at .ensures)) (le-ltb _ _ (c .if1 .left))
+    so-far-next (inside .before .loop .inv) (inside .loop-test .taken) (ap (λ (r : PropertyRecord). ltb 0 (r .range)) (c .before .before .property-at .ensures)) (le-ltb _ _ (c .if1 .left))
 
 returns-2 : tie.Need-returns-2 Inv-loop μ-loop
 unfolding propertiesMisplaced

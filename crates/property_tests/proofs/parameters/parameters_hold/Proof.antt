@@ -2,20 +2,21 @@
 use Rattle.property_tests.specs.PropertyTests.{parameterPasses, parametersHold}
 use Rattle.line.specs.Reading.{lineOf}
 use borrow.Author.Tests.{not-true, not-false}
-use Rattle.query.proofs.Counting.{EveryBefore, every-start, every-next, every-stop, every-end}
+use mathlib.Core.Bool.{true}
+use Rattle.query.proofs.Counting.{SoFar, so-far-start, so-far-next, every-stop, every-end}
 use Prim.Native.Nat.{_-_}
 use native.Mathlib.Omega.{arith}
 use Rattle.property_tests.proofs.parameters.parameters_hold.Statement.{statement}
 use Rattle.property_tests.proofs.parameters.parameters_hold.Tie as tie
 
 abbrev Inv-loop : tie.InvT-loop
-Inv-loop query q i line n k₀ k = EveryBefore (parameterPasses query q i (lineOf line)) (q .parameters .count) k
+Inv-loop query q i line n k₀ k = SoFar true (parameterPasses query q i (lineOf line)) (q .parameters .count) k
 
 abbrev μ-loop : tie.MeasureT-loop
 μ-loop query q i line n k₀ k = n - k
 
 loop-holds : tie.Need-loop-holds Inv-loop μ-loop
-loop-holds c = every-start
+loop-holds c = so-far-start
 
 parameter-passes-requires : tie.Need-parameter-passes-requires Inv-loop μ-loop
 parameter-passes-requires c κs = (c .before .before .before .before .before .pre .0, (c .before .before .before .before .before .pre .1, c .loop-test .taken))
@@ -31,7 +32,7 @@ loop-less : tie.Need-loop-less Inv-loop μ-loop
 loop-less c = omega arith
 
 loop-again : tie.Need-loop-again Inv-loop μ-loop
-loop-again c = every-next (c .before .before .before .loop .inv) (c .before .before .loop-test .taken) (c .before .parameter-passes .ensures) (not-false _ (c .if1 .left))
+loop-again c = so-far-next (c .before .before .before .loop .inv) (c .before .before .loop-test .taken) (c .before .parameter-passes .ensures) (not-false _ (c .if1 .left))
 
 returns-2 : tie.Need-returns-2 Inv-loop μ-loop
 unfolding parametersHold
