@@ -163,6 +163,12 @@ pub record Opened {s index name old rows : List ℕ} {n first begun left i k : �
       → nestingFrom (first + 1) (inside (name ∷ o) begun) (linesAfter s first)
       ≡ nestingFrom (i + 1 + 1) (inside (v ∷ name ∷ o) (k + 1)) (linesAfter s (i + 1))
 
+-- l is the line that the walk has come to, and m what it does
+pub record Stepped {s index name old rows : List ℕ} {n first begun left i k : ℕ} (r : Reading s index name old rows n first begun left i k) (l : List ℕ) (m : NestingStep) : Type 0 where
+  pub here : i < n
+  pub line : l ≡ lineBytes s i
+  pub step : m ≡ nestingStepBy (delimiterOf (lineOf l)) (valueOf l) name (10 - left) (k + 1)
+
 pub reading-start : {s index rows : List ℕ} {n first begun : ℕ} (name : List ℕ) (left : ℕ) → Ready s index rows n first begun
     → Reading s index name rows rows n first begun left first begun
 reading-start name left r = record { ready = r; going = going-start r; decided = λ o e. refl }
@@ -184,67 +190,66 @@ module _ {s index name old rows : List ℕ} {n first begun left i k : ℕ} (r : 
             ∙ ap (λ (t : ℕ). badLine (t + 1)) z;
       }
 
-  module _ {l : List ℕ} (h : i < n) (p : l ≡ lineBytes s i) {m : NestingStep}
-      (q : m ≡ nestingStepBy (delimiterOf (lineOf l)) (valueOf l) name (10 - left) (k + 1)) where
-    line-there : i < length (contentLines s)
-    line-there = omega (arith, r .ready .lines .count)
+module _ {s index name old rows l : List ℕ} {n first begun left i k : ℕ} {r : Reading s index name old rows n first begun left i k} {m : NestingStep} (y : Stepped r l m) where
+  line-there : i < length (contentLines s)
+  line-there = omega (arith, r .ready .lines .count, y .here)
 
-    step-case : (j : NestingStep) → m ≡ j → (o : List (List ℕ)) → length o + left ≡ 8
-        → nestingFrom (first + 1) (inside (name ∷ o) begun) (linesAfter s first)
-        ≡ nestingFrom (i + 1 + 1) (afterNestingStep j (i + 1) (valueOf l) name o k) (linesAfter s (i + 1))
-    unfolding lineOf
-    step-case j t o w =
-        let x : ContentLine = lineOf l in
-        let d : length (name ∷ o) + 1 ≡ 10 - left = omega arith in
-        r .decided o w
-        ∙ ap
-        (nestingFrom (i + 1) (inside (name ∷ o) k))
-        (one-after s i line-there ∙ ap (λ (y : List ℕ). lineOf y ∷ linesAfter s (i + 1)) (sym p))
-        ∙ from-next (i + 1) (inside (name ∷ o) k) x (linesAfter s (i + 1))
-        ∙ ap
-        (λ (v : Walk). nestingFrom (i + 1 + 1) v (linesAfter s (i + 1)))
-        (after-step (delimiterOf x) x (i + 1) name o k
-        ∙ ap (λ (y : ℕ). afterNestingStep (nestingStepBy (delimiterOf x) (x .value) name y (k + 1)) (i + 1) (x .value) name o k) d
-        ∙ ap (λ (y : NestingStep). afterNestingStep y (i + 1) (x .value) name o k) (sym q ∙ t))
+  step-case : (j : NestingStep) → m ≡ j → (o : List (List ℕ)) → length o + left ≡ 8
+      → nestingFrom (first + 1) (inside (name ∷ o) begun) (linesAfter s first)
+      ≡ nestingFrom (i + 1 + 1) (afterNestingStep j (i + 1) (valueOf l) name o k) (linesAfter s (i + 1))
+  unfolding lineOf
+  step-case j t o w =
+      let x : ContentLine = lineOf l in
+      let d : length (name ∷ o) + 1 ≡ 10 - left = omega arith in
+      r .decided o w
+      ∙ ap
+      (nestingFrom (i + 1) (inside (name ∷ o) k))
+      (one-after s i line-there ∙ ap (λ (u : List ℕ). lineOf u ∷ linesAfter s (i + 1)) (sym (y .line)))
+      ∙ from-next (i + 1) (inside (name ∷ o) k) x (linesAfter s (i + 1))
+      ∙ ap
+      (λ (v : Walk). nestingFrom (i + 1 + 1) v (linesAfter s (i + 1)))
+      (after-step (delimiterOf x) x (i + 1) name o k
+      ∙ ap (λ (u : ℕ). afterNestingStep (nestingStepBy (delimiterOf x) (x .value) name u (k + 1)) (i + 1) (x .value) name o k) d
+      ∙ ap (λ (u : NestingStep). afterNestingStep u (i + 1) (x .value) name o k) (sym (y .step) ∙ t))
 
-    line-found : (j : NestingStep) → m ≡ j → isBreaks j ≡ false → LineIs s i (stepDelimiter j)
-    line-found j t f =
-        record { inside = line-there; delimiter = ap (λ (y : List ℕ). delimiterOf (lineOf y)) (sym p) ∙ delimiter-by _ _ _ _ _ j (sym q ∙ t) f }
+  line-found : (j : NestingStep) → m ≡ j → isBreaks j ≡ false → LineIs s i (stepDelimiter j)
+  line-found j t f =
+      record { inside = line-there; delimiter = ap (λ (u : List ℕ). delimiterOf (lineOf u)) (sym (y .line)) ∙ delimiter-by _ _ _ _ _ j (sym (y .step) ∙ t) f }
 
-    pub reading-stays : m ≡ NestingStep.Stays → Reading s index name old rows n first begun left (i + 1) k
-    unfolding stepDelimiter
-    reading-stays t =
-        record {
-          ready = r .ready;
-          going = going-property (r .going) h (line-found NestingStep.Stays t refl);
-          decided = step-case NestingStep.Stays t;
-        }
+  pub reading-stays : m ≡ NestingStep.Stays → Reading s index name old rows n first begun left (i + 1) k
+  unfolding stepDelimiter
+  reading-stays t =
+      record {
+        ready = r .ready;
+        going = going-property (r .going) (y .here) (line-found NestingStep.Stays t refl);
+        decided = step-case NestingStep.Stays t;
+      }
 
-    pub reading-closes : m ≡ NestingStep.Closes → ClosesTo s name old rows n first begun left (At (i + 1) k)
-    unfolding ClosesTo stepDelimiter
-    reading-closes t =
-        record {
-          walks = going-end (r .going) h (line-found NestingStep.Closes t refl);
-          decided = step-case NestingStep.Closes t;
-        }
+  pub reading-closes : m ≡ NestingStep.Closes → ClosesTo s name old rows n first begun left (At (i + 1) k)
+  unfolding ClosesTo stepDelimiter
+  reading-closes t =
+      record {
+        walks = going-end (r .going) (y .here) (line-found NestingStep.Closes t refl);
+        decided = step-case NestingStep.Closes t;
+      }
 
-    pub reading-breaks : (new : List ℕ) → m ≡ NestingStep.Breaks → ClosesTo s name old new n first begun left (Broken (i + 1))
-    unfolding ClosesTo
-    reading-breaks new t =
-        record { decided = λ o w. step-case NestingStep.Breaks t o w ∙ from-broken (i + 1 + 1) (i + 1) (linesAfter s (i + 1)) }
+  pub reading-breaks : (new : List ℕ) → m ≡ NestingStep.Breaks → ClosesTo s name old new n first begun left (Broken (i + 1))
+  unfolding ClosesTo
+  reading-breaks new t =
+      record { decided = λ o w. step-case NestingStep.Breaks t o w ∙ from-broken (i + 1 + 1) (i + 1) (linesAfter s (i + 1)) }
 
-    pub reading-opens : m ≡ NestingStep.Opens → {v : List ℕ} → v ≡ valueOf l → Opened r v
-    unfolding lineOf stepDelimiter
-    reading-opens t {v} g =
-        record {
-          here = h;
-          begins = line-found NestingStep.Opens t refl;
-          room = opens-room (delimiterOf (lineOf l)) (lineOf l) name left (k + 1) (sym q ∙ t);
-          value = g ∙ ap valueOf p;
-          decided = λ o w.
-              step-case NestingStep.Opens t o w
-              ∙ ap (λ (y : List ℕ). nestingFrom (i + 1 + 1) (inside (y ∷ name ∷ o) (k + 1)) (linesAfter s (i + 1))) (sym g);
-        }
+  pub reading-opens : m ≡ NestingStep.Opens → {v : List ℕ} → v ≡ valueOf l → Opened r v
+  unfolding lineOf stepDelimiter
+  reading-opens t {v} g =
+      record {
+        here = y .here;
+        begins = line-found NestingStep.Opens t refl;
+        room = opens-room (delimiterOf (lineOf l)) (lineOf l) name left (k + 1) (sym (y .step) ∙ t);
+        value = g ∙ ap valueOf (y .line);
+        decided = λ o w.
+            step-case NestingStep.Opens t o w
+            ∙ ap (λ (u : List ℕ). nestingFrom (i + 1 + 1) (inside (u ∷ name ∷ o) (k + 1)) (linesAfter s (i + 1))) (sym g);
+      }
 
 module _ {s index name old rows v : List ℕ} {n first begun left i k : ℕ} {r : Reading s index name old rows n first begun left i k} (x : Opened r v) where
   pub opened-ready : Ready s index rows n (i + 1) (k + 1)

@@ -2,7 +2,8 @@
 -- an inner component is read by the same function with one level less, and its row is written when it has ended.
 use Prim.Native.Nat.{_-_}
 use Rattle.index.proofs.Index.{entry-here, entry-name}
-use Rattle.structure.proofs.Reading.{Reading, Opened, reading-start, reading-entry, reading-end, reading-stays, reading-closes, reading-breaks, reading-opens, opened-ready, opened-closes, opened-breaks, opened-row}
+use Rattle.structure.proofs.Reading.{Reading, Opened, Stepped, reading-start, reading-entry, reading-end, reading-stays, reading-closes, reading-breaks}
+use Rattle.structure.proofs.Reading.{reading-opens, opened-ready, opened-closes, opened-breaks, opened-row}
 use native.Mathlib.Omega.{arith}
 use borrow.Author.Needs.{needs}
 use Prim.Native.Nat.{ℕ, _<_}
@@ -81,16 +82,13 @@ component-enum-told t c = search needs
 component-value-requires : (t : ℕ) → component-lts.Need-value-requires (claims t) (component-at t) component.Post component-Inv-loop component-μ-loop
 component-value-requires t c κs = search needs
 
+component-stepped : (t : ℕ) (c : component-lts.After-nesting-step (claims t) (component-at t) component.Post component-Inv-loop component-μ-loop)
+    → Stepped (c .before .before .before .before .loop .inv) (c .before .before .line-at .result .now) (c .nesting-step .result)
+component-stepped t c = record { here = c .before .before .before .loop-test .taken; line = c .before .before .line-at .ensures; step = c .nesting-step .ensures }
+
 component-opened : (t : ℕ) (c : component-lts.After-value (claims t) (component-at t) component.Post component-Inv-loop component-μ-loop)
     → Opened (c .before .before .before .before .before .before .before .loop .inv) (c .value .result .now)
-component-opened t c =
-    reading-opens
-    (c .before .before .before .before .before .before .before .loop .inv)
-    (c .before .before .before .before .before .before .loop-test .taken)
-    (c .before .before .before .before .before .line-at .ensures)
-    (c .before .before .before .nesting-step .ensures)
-    (c .before .enum-told .given .1)
-    (c .value .ensures)
+component-opened t c = reading-opens (component-stepped t (c .before .before .before)) (c .before .enum-told .given .1) (c .value .ensures)
 
 component-sub-component : (t : ℕ) → component-lts.Need-sub-component (claims t) (component-at t) component.Post component-Inv-loop component-μ-loop
 component-sub-component t c = omega (arith, component-opened t (c .before) .room .some)
@@ -178,13 +176,7 @@ component-loop-less-2 : (t : ℕ) → component-lts.Need-loop-less-2 (claims t) 
 component-loop-less-2 t c = omega (arith, c .before .before .before .before .before .loop-test .taken)
 
 component-loop-again-2 : (t : ℕ) → component-lts.Need-loop-again-2 (claims t) (component-at t) component.Post component-Inv-loop component-μ-loop
-component-loop-again-2 t c =
-    reading-stays
-    (c .before .before .before .before .before .before .loop .inv)
-    (c .before .before .before .before .before .loop-test .taken)
-    (c .before .before .before .before .line-at .ensures)
-    (c .before .before .nesting-step .ensures)
-    (c .enum-told2 .given .1)
+component-loop-again-2 t c = reading-stays (component-stepped t (c .before .before)) (c .enum-told2 .given .1)
 
 component-enum-told-3 : (t : ℕ) → component-lts.Need-enum-told-3 (claims t) (component-at t) component.Post component-Inv-loop component-μ-loop
 component-enum-told-3 t c = search needs
@@ -193,13 +185,7 @@ component-same-length-2 : (t : ℕ) → component-lts.Need-same-length-2 (claims
 component-same-length-2 t c = c .before .before .before .before .before .before .loop .inv .going .long
 
 component-returns-2 : (t : ℕ) → component-lts.Need-returns-2 (claims t) (component-at t) component.Post component-Inv-loop component-μ-loop
-component-returns-2 t c =
-    reading-closes
-    (c .before .before .before .before .before .before .loop .inv)
-    (c .before .before .before .before .before .loop-test .taken)
-    (c .before .before .before .before .line-at .ensures)
-    (c .before .before .nesting-step .ensures)
-    (c .enum-told3 .given .1)
+component-returns-2 t c = reading-closes (component-stepped t (c .before .before)) (c .enum-told3 .given .1)
 
 component-enum-told-4 : (t : ℕ) → component-lts.Need-enum-told-4 (claims t) (component-at t) component.Post component-Inv-loop component-μ-loop
 component-enum-told-4 t c = search needs
@@ -208,13 +194,7 @@ component-same-length-3 : (t : ℕ) → component-lts.Need-same-length-3 (claims
 component-same-length-3 t c = c .before .before .before .before .before .before .loop .inv .going .long
 
 component-returns-3 : (t : ℕ) → component-lts.Need-returns-3 (claims t) (component-at t) component.Post component-Inv-loop component-μ-loop
-component-returns-3 t c =
-    reading-breaks
-    (c .before .before .before .before .before .before .loop .inv)
-    (c .before .before .before .before .before .loop-test .taken)
-    (c .before .before .before .before .line-at .ensures)
-    (c .before .before .nesting-step .ensures) _
-    (c .enum-told4 .given .1)
+component-returns-3 t c = reading-breaks (component-stepped t (c .before .before)) _ (c .enum-told4 .given .1)
 
 component-add-t34 : (t : ℕ) → component-lts.Need-add-t34 (claims t) (component-at t) component.Post component-Inv-loop component-μ-loop
 component-add-t34 t c = omega (arith, c .before .before .before .before .before .before .pre .1 .0 .many)
