@@ -1,5 +1,5 @@
 -- `contents::lines::store_value` meets its contract: every item before a place is a period, and the pieces of those from there on are left to store.
-use Prim.Native.Nat.{_-_}
+use Prim.Native.Nat.{_-_, _≤_}
 use lib.ListN.{length}
 use mathlib.Core.Path.{sym, _∙_}
 use Rattle.line.proofs.Splitting.{item-rises, item-inside}
@@ -15,6 +15,10 @@ Inv-loop column₀ first busy v a b n₀ from₀ column n from = ReadingValue bu
 abbrev μ-loop : tie.MeasureT-loop
 μ-loop column₀ first busy v a b n₀ from₀ column n from = length v - from
 
+-- the item that was found lies inside the value
+item : (c : tie.After-find Inv-loop μ-loop) → (c .before .loop .from ≤ c .find .result) × (c .find .result ≤ length (c .before .before .before .before .args .v .now))
+item c = (item-rises _ _ _ _ (c .find .ensures), item-inside _ _ _ _ (c .before .loop .inv .passed .inside-list) (c .find .ensures))
+
 loop-holds : tie.Need-loop-holds Inv-loop μ-loop
 loop-holds c = value-start _ _ _ _ _ _ (c .before .before .pre .1 .0) (c .before .before .pre .0)
 
@@ -22,13 +26,13 @@ find-requires : tie.Need-find-requires Inv-loop μ-loop
 find-requires c κs = search needs
 
 sub-read-period : tie.Need-sub-read-period Inv-loop μ-loop
-sub-read-period c = omega (arith, item-rises _ _ _ _ (c .find .ensures), item-inside _ _ _ _ (c .before .loop .inv .passed .inside-list) (c .find .ensures))
+sub-read-period c = omega (arith, item c)
 
 part-read-period-start : tie.Need-part-read-period-start Inv-loop μ-loop
-part-read-period-start c = omega (arith, item-rises _ _ _ _ (c .find .ensures), item-inside _ _ _ _ (c .before .loop .inv .passed .inside-list) (c .find .ensures))
+part-read-period-start c = omega (arith, item c)
 
 part-read-period-end : tie.Need-part-read-period-end Inv-loop μ-loop
-part-read-period-end c = omega (arith, item-rises _ _ _ _ (c .find .ensures), item-inside _ _ _ _ (c .before .loop .inv .passed .inside-list) (c .find .ensures))
+part-read-period-end c = omega (arith, item c)
 
 read-period-requires : tie.Need-read-period-requires Inv-loop μ-loop
 read-period-requires c κs = search needs
@@ -47,30 +51,21 @@ same-length c = search needs
 
 returns : tie.Need-returns Inv-loop μ-loop
 returns c =
-    let turn = c .before .before .before .before .before .before .before .before .before .before .before .loop in
-    let find = c .before .before .before .before .before .before .before .before .before .before .find in
-    let read-period = c .before .before .before .before .before .before .before .before .read-period in
-    let p = c .before .before .before .before .before .before .p in
-    let store-period = c .before .before .before .store-period in
-    value-ends (turn .inv) (find .ensures) (read-period .ensures) (p .given .1) (store-period .ensures) (c .if1 .taken)
+    let found = c .before .before .before .before .before .before .before .before .before .before in
+    let period = c .before .before .before .before .before .before in
+    value-ends (found .before .loop .inv) (found .find .ensures) (period .before .before .read-period .ensures) (period .p .given .1) (c .before .before .before .store-period .ensures) (c .if1 .taken)
 
 add-from : tie.Need-add-from Inv-loop μ-loop
 add-from c = omega arith
 
 loop-less : tie.Need-loop-less Inv-loop μ-loop
-loop-less c =
-    let find = c .before .before .before .before .before .before .before .before .before .before .find in
-    let turn = c .before .before .before .before .before .before .before .before .before .before .before .loop in
-    omega (arith, item-rises _ _ _ _ (find .ensures), item-inside _ _ _ _ (turn .inv .passed .inside-list) (find .ensures))
+loop-less c = omega (arith, item (c .before .before .before .before .before .before .before .before .before .before))
 
 loop-again : tie.Need-loop-again Inv-loop μ-loop
 loop-again c =
-    let turn = c .before .before .before .before .before .before .before .before .before .before .before .loop in
-    let find = c .before .before .before .before .before .before .before .before .before .before .find in
-    let read-period = c .before .before .before .before .before .before .before .before .read-period in
-    let p = c .before .before .before .before .before .before .p in
-    let store-period = c .before .before .before .store-period in
-    value-next (turn .inv) (find .ensures) (read-period .ensures) (p .given .1) (store-period .ensures) (c .if1 .left)
+    let found = c .before .before .before .before .before .before .before .before .before .before in
+    let period = c .before .before .before .before .before .before in
+    value-next (found .before .loop .inv) (found .find .ensures) (period .before .before .read-period .ensures) (period .p .given .1) (c .before .before .before .store-period .ensures) (c .if1 .left)
 
 enum-told : tie.Need-enum-told Inv-loop μ-loop
 enum-told c = search needs
