@@ -13,7 +13,7 @@ use Rattle.ascii.specs.Bytes.{upper}
 use Rattle.ascii.proofs.Bools.{and-left, and-right}
 use Rattle.line.specs.Grammar.{ContentLine}
 use Rattle.line.specs.Reading.{lineOf, nameOf, valueOf, parameterTexts, parameterOf, Plain}
-use Rattle.line.proofs.Splitting.{suffix}
+use Rattle.ascii.proofs.Lists.{suffix}
 use Rattle.line.proofs.Reading.{other-first}
 use Rattle.delimiters.specs.Delimiters.{delimiterOf, delimitedBy, noParameters}
 use Rattle.delimiters.specs.declared.Delimiter.{Delimiter}

@@ -1,6 +1,6 @@
 -- The total reading of a line agrees with the grammar: what the scanner takes is read as the one line that it is.
 -- And laws of its name: where it ends, what its first byte tells, and what a colon right behind it does.
-use Prim.Native.Nat.{ℕ, zero, suc, _+_, _≤_, _<_}
+use Prim.Native.Nat.{ℕ, zero, suc, _+_, _-_, _≤_, _<_}
 use mathlib.Core.Path.{_≡_, refl, sym, ap, _∙_, subst}
 use mathlib.Core.Bool.{Bool, true, false, not, _&&_, _||_}
 use mathlib.Core.List.{List, [], _∷_, _++_, append-assoc, append-nil, map}
@@ -13,6 +13,7 @@ use borrow.Author.Tests.{eqb-true, ltb-true, ltb-false}
 use Rattle.ascii.specs.Bytes.{isNameByte, isLetter, isDigit, upper}
 use Rattle.ascii.specs.Names.{isName, sameName}
 use Rattle.ascii.proofs.Bools.{and-left, and-right, and-both, not-so}
+use Rattle.ascii.proofs.Lists.{suffix}
 use Rattle.ascii.proofs.Names.{sameName-first, every-of-name}
 use Rattle.text.proofs.Unfolding.{getD-inside}
 use Rattle.line.specs.Grammar.{Parameter, ContentLine, contentLine, parameter, isQuotable, isUnquoted, ParameterValue, ParameterValues, Parameters, LineGrammar, quoted, unquoted, one, comma, none, semicolon, colon}
@@ -307,3 +308,7 @@ unfolding isPlainAt
 plain-at l n e q h =
     let y : eqb (getD l n 0) 58 ≡ true = sym q ∙ h in
     plain-line l n e (getD-inside (λ b. eqb b 58) refl l n y) (eqb-true _ _ y)
+
+-- behind the colon that follows the name stands the value
+pub plain-value : (l : List ℕ) (n : ℕ) → Plain l n → take (length l - (n + 1)) (drop (n + 1) l) ≡ valueOf l
+plain-value l n h = suffix l (n + 1) ∙ sym (h .value-behind)

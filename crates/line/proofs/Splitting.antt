@@ -8,11 +8,11 @@ use native.Mathlib.Omega.{arith}
 use native.Mathlib.Nat.{add-assoc}
 use lib.Dec.{eqb, ltb, leb·suc-suc}
 use lib.ListN.{length, take, drop, getD, length-append, length-drop}
-use lib.Seq.{length-take-le, take-length, drop-drop, take-append-seam, drop-append-add, take-all}
+use lib.Seq.{length-take-le, take-length, drop-drop, take-append-seam, drop-append-add}
 use borrow.Author.Tests.{eq-eqb, ne-eqb, lt-ltb, le-ltb, ltb-true, ltb-false}
 use Rattle.ascii.specs.Names.{every}
 use Rattle.ascii.proofs.Bools.{and-left, and-right, and-both, clash, apart}
-use Rattle.ascii.proofs.Lists.{drop-next, drop-end}
+use Rattle.ascii.proofs.Lists.{drop-next, drop-end, suffix}
 use Rattle.line.specs.Splitting.{quotedAfter, cutsAt, firstOutside, nextPlace, before, after, glue, splitParts, splitAfter, quotesOff, plainSplit}
 
 -- ---- one byte
@@ -286,10 +286,6 @@ pub quotesOff-alone : (s : List ℕ) → getD s 0 0 ≡ 34 → length s ≡ 1 �
 quotesOff-alone s h k = ap (λ (n : ℕ). take (n - 1 - 1) (drop 1 s)) (sym k) ∙ quotesOff-inside s h
 
 -- ---- parts of a slice
-
--- the part from k to the end
-pub suffix : (s : List ℕ) (k : ℕ) → take (length s - k) (drop k s) ≡ drop k s
-suffix s k = take-all (length s - k) (drop k s) (simp length-drop (omega arith))
 
 pub before-is : (g : Bool) (sep : ℕ) (s : List ℕ) → take (nextPlace g sep s 0) s ≡ before g sep s
 unfolding before

@@ -18,35 +18,35 @@ pub enum Next {
     End,
 }
 
-// How many of the 64 places from this one on come before the first control? 64, where none does.
+// How many of the 32 places from this one on come before the first control? 32, where none does.
 // No early return and counts of one byte, so that the machine tests sixteen places at once.
 fn control_in(s: &[u8], i: usize) -> u8
-    requires { ⌜ i + 64 ≤ length (now s) ⌝ }
+    requires { ⌜ i + 32 ≤ length (now s) ⌝ }
     ensures { λ r. ⌜ Nowhere controlAt (now (s .entry)) i (i + r) ⌝ }
 {
-    let mut first: u8 = 64;
+    let mut first: u8 = 32;
     let mut k: u8 = 0;
-    while k < 64 {
+    while k < 32 {
         let b = s[i + (k as usize)];
-        let here = if ascii::is_control(b) { k } else { 64 };
+        let here = if ascii::is_control(b) { k } else { 32 };
         first = text::lesser(here, first);
         k += 1;
     }
     first
 }
 
-// A place up to which no control stands: there one does, or fewer than 64 bytes are left.
+// A place up to which no control stands: there one does, or fewer than 32 bytes are left.
 fn skip_clear(s: &[u8], from: usize) -> usize
     requires { ⌜ from ≤ length (now s) ⌝ }
     ensures { λ r. ⌜ Nowhere controlAt (now (s .entry)) from r ⌝ }
 {
     let mut i = from;
-    while 64 <= s.len() - i {
+    while 32 <= s.len() - i {
         let k = control_in(s, i);
-        if k < 64 {
+        if k < 32 {
             return i + (k as usize);
         }
-        i += 64;
+        i += 32;
     }
     i
 }

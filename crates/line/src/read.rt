@@ -51,6 +51,17 @@ pub fn is_plain(line: &[u8], n: usize) -> bool
     line[n] == 58
 }
 
+// What stands behind the line's colon, by the length of the name: in a plain line nothing is searched.
+pub fn value_behind(line: &[u8], n: usize) -> &[u8]
+    requires { ⌜ n ≡ length (nameOf (now line)) ⌝ }
+    ensures { λ r. ⌜ now r ≡ valueOf (now (line .entry)) ⌝ }
+{
+    if is_plain(line, n) {
+        return &line[n + 1..];
+    }
+    value(line)
+}
+
 pub fn parameter_count(line: &[u8]) -> usize
     ensures { λ r. ⌜ r ≡ length (parameterTexts (now (line .entry))) ⌝ }
 {

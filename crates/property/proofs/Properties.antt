@@ -22,9 +22,8 @@ use Rattle.time.specs.declared.duration.DurationRead.{DurationRead}
 use Rattle.periods.specs.declared.BusyType.{BusyType}
 use Rattle.line.specs.Splitting.{nextPlace}
 use Rattle.line.specs.Reading.{headOf, isNamed, valuesOf, parameterOf, firstOf, nameOf, lineOf, valueOf, hasParameter, hasTwice, hasList, parametersNamed, someList}
-use Rattle.line.specs.Reading.{pooled, valuesNamed, firstValue, Plain}
+use Rattle.line.specs.Reading.{pooled, valuesNamed, firstValue}
 use Rattle.line.specs.Grammar.{Parameter, ContentLine}
-use Rattle.line.proofs.Splitting.{suffix}
 use Rattle.line.proofs.ReadingParameters.{parametersFrom, parameters-next, parameters-end, parameters-all}
 use Rattle.values.specs.declared.times.Context.{Context}
 use Rattle.values.specs.Times.{formOf, timeOf}
@@ -126,10 +125,6 @@ start-or-end Property.Unsupported h = neither 7 (omega arith) h
 start-or-end Property.Unread h = neither 8 (omega arith) h
 
 -- ---- a line without parameters: its value stands behind the colon, its time is a DATE-TIME, it has no TZID, and its periods are busy
-
--- behind the colon that follows the name stands the value
-pub plain-value : (l : List ℕ) (n : ℕ) → Plain l n → take (length l - (n + 1)) (drop (n + 1) l) ≡ valueOf l
-plain-value l n h = suffix l (n + 1) ∙ sym (h .value-behind)
 
 -- the empty word names BUSY
 unnamed-busy : busyNamed [] ≡ BusyType.Busy

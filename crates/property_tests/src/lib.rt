@@ -72,7 +72,7 @@ fn line_holds(
         return false;
     }
     let line = index::line_at(s, index, n);
-    let v = read::value(line);
+    let v = read::value_behind(line, index::name_length(index, n));
     if texts::text_passes(r.text, text, r.collation, r.flag, v) {
         return parameters::parameters_hold(query, q, i, line);
     }

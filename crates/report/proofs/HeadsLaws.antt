@@ -7,10 +7,10 @@ use mathlib.Core.List.{List, [], _∷_, _++_, append-assoc}
 use native.Mathlib.Omega.{arith}
 use lib.Dec.{eqb}
 use lib.ListN.{length, take, drop, getD, length-drop, length-append}
-use lib.Seq.{drop-at, take-at, take-all, take-length}
+use lib.Seq.{drop-at, take-at, take-length}
 use borrow.Author.Tests.{eqb-true, eq-eqb, ne-eqb, le-leb, lt-leb}
 use Rattle.ascii.proofs.Bools.{and-left, and-right, and-both, apart}
-use Rattle.ascii.proofs.Lists.{drop-next, drop-end}
+use Rattle.ascii.proofs.Lists.{drop-next, drop-end, suffix}
 use Rattle.ascii.proofs.Names.{every-append}
 use Rattle.ascii.specs.Names.{every}
 use Rattle.ascii.specs.Bytes.{isDigit}
@@ -70,7 +70,7 @@ hasBytesAt-past s (b ∷ h) at l = ne-eqb (suc (length h)) 0 (omega arith) ∙ s
 -- from a place on
 pub hasBytesAt-from : (s h : List ℕ) (at : ℕ) → begins (take (length s - at) (drop at s)) h ≡ hasBytesAt s h at
 unfolding hasBytesAt
-hasBytesAt-from s h at = ap (λ (k : List ℕ). begins k h) (take-all (length s - at) (drop at s) (simp length-drop (omega arith)))
+hasBytesAt-from s h at = ap (λ (k : List ℕ). begins k h) (suffix s at)
 
 -- the loop: the string fits, is the same so far, and what is left decides
 pub record Compared (s h : List ℕ) (i : ℕ) : Type 0 where

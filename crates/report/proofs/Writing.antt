@@ -5,7 +5,8 @@ use mathlib.Core.Path.{_≡_, refl, ap, _∙_, sym, subst}
 use mathlib.Core.List.{List, [], _∷_, _++_, append-assoc}
 use native.Mathlib.Omega.{arith}
 use lib.ListN.{length, take, length-append, length-drop, drop, getD, drop-of-length-le}
-use lib.Seq.{sets, length-sets, take-all}
+use lib.Seq.{sets, length-sets}
+use Rattle.ascii.proofs.Lists.{suffix}
 use Rattle.text.specs.Lines.{joined}
 use Rattle.time.specs.Writing.{utcText}
 use Rattle.time.specs.Limits.{lastSecond}
@@ -170,10 +171,6 @@ lines-end {h} {ps} {o₀} {a₀} {o} {a} {i} l k =
       bytes = ap (λ (z : List ℕ). sets o a z) (sym n) ∙ l .made;
       place = omega (arith, l .reaches, ap length n);
     }
-
--- the part from a place to the end
-suffix : (s : List ℕ) (k : ℕ) → take (length s - k) (drop k s) ≡ drop k s
-suffix s k = take-all (length s - k) (drop k s) (simp length-drop (omega arith))
 
 -- the rows of a part of two columns are those from its first row on
 module _ (first count : ℕ) (ss es : List ℕ) where

@@ -6,7 +6,6 @@ use Rattle.refusals.proofs.Stages.{sizes-room, sizes-small}
 use Rattle.collecting.proofs.CollectStages.{call-given, call-bounds}
 use Rattle.collecting.proofs.Collecting.{collect-refused-1, collect-refused-sizes, collect-sizes-passed}
 use native.Mathlib.Omega.{arith}
-use borrow.Author.Needs.{needs}
 use Rattle.collecting.proofs.collect.Statement.{statement}
 use Rattle.collecting.proofs.collect.Tie as tie
 

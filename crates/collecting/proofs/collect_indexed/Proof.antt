@@ -1,7 +1,6 @@
 -- `collecting::collect_indexed` meets its contract: what reading the structure answers is refusal 6 or 7, or the rows by which the contents are read.
 use Rattle.contents.proofs.Contents.{structure-known}
 use Rattle.collecting.proofs.CollectStages.{structure-refuses, structure-passes}
-use native.Mathlib.Omega.{arith}
 use borrow.Author.Needs.{needs}
 use Rattle.collecting.proofs.collect_indexed.Statement.{statement}
 use Rattle.collecting.proofs.collect_indexed.Tie as tie

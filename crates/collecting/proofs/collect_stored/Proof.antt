@@ -1,6 +1,5 @@
 -- `collecting::collect_stored` meets its contract, for at most 513 pieces are stored: with 513 there are more than 512, with fewer they are all.
 use Rattle.collecting.proofs.CollectStages.{contents-refuse, contents-many, contents-few}
-use native.Mathlib.Omega.{arith}
 use borrow.Author.Needs.{needs}
 use Rattle.collecting.proofs.collect_stored.Statement.{statement}
 use Rattle.collecting.proofs.collect_stored.Tie as tie

@@ -1,8 +1,6 @@
 -- `collecting::refused` meets its contract: what it makes is the definition's own.
 use mathlib.Core.Path.{refl}
 use Rattle.collecting.specs.CollectStages.{noTables}
-use native.Mathlib.Omega.{arith}
-use borrow.Author.Needs.{needs}
 use Rattle.collecting.proofs.refused.Statement.{statement}
 use Rattle.collecting.proofs.refused.Tie as tie
 

@@ -2,7 +2,6 @@
 use mir.Syntax.{w64}
 use mir.ValLaws.{toZ-ofZ}
 use Rattle.engine.proofs.ReportingLaws.{told-writable, seconds-refused, seconds-written, seconds-at}
-use native.Mathlib.Omega.{arith}
 use borrow.Author.Needs.{needs}
 use Rattle.engine.proofs.report_seconds.Statement.{statement}
 use Rattle.engine.proofs.report_seconds.Tie as tie

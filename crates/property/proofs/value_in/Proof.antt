@@ -1,7 +1,7 @@
 -- `property::value_in` meets its contract: behind the colon that follows the name stands the value.
 use denote.Ref.{now}
 use native.Mathlib.Omega.{arith}
-use Rattle.property.proofs.Properties.{plain-value}
+use Rattle.line.proofs.Reading.{plain-value}
 use borrow.Author.Needs.{needs}
 use Rattle.property.proofs.value_in.Statement.{statement}
 use Rattle.property.proofs.value_in.Tie as tie

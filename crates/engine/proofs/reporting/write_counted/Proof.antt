@@ -1,6 +1,5 @@
 -- `engine::reporting::write_counted` meets its contract: the seconds are those of the rows of each type, and the rest is the writing's.
 use Rattle.engine.proofs.ReportWriting.{wrote-counted}
-use native.Mathlib.Omega.{arith}
 use borrow.Author.Needs.{needs}
 use Rattle.engine.proofs.reporting.write_counted.Statement.{statement}
 use Rattle.engine.proofs.reporting.write_counted.Tie as tie

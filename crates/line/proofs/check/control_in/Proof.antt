@@ -9,10 +9,10 @@ use Rattle.line.proofs.check.control_in.Statement.{statement}
 use Rattle.line.proofs.check.control_in.Tie as tie
 
 abbrev Inv-loop : tie.InvT-loop
-Inv-loop s i first₀ k₀ first k = Scanned controlAt s i 64 k first
+Inv-loop s i first₀ k₀ first k = Scanned controlAt s i 32 k first
 
 abbrev μ-loop : tie.MeasureT-loop
-μ-loop s i first₀ k₀ first k = 64 - k
+μ-loop s i first₀ k₀ first k = 32 - k
 
 loop-holds : tie.Need-loop-holds Inv-loop μ-loop
 loop-holds c = scanned-start _ _ _ _

@@ -1,6 +1,5 @@
 -- `report::lines::put_table` meets its contract: the rows of the part of the columns that is lent are the table's.
 use Rattle.report.proofs.Writing.{rest-asks, rest-put}
-use native.Mathlib.Omega.{arith}
 use borrow.Author.Needs.{needs}
 use Rattle.report.proofs.lines.put_table.Statement.{statement}
 use Rattle.report.proofs.lines.put_table.Tie as tie

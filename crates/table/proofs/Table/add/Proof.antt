@@ -1,6 +1,5 @@
 -- `table::Table::add` meets its contract. The three steps make the definition: rows that end before, the widened span, the rows behind it.
 use Rattle.table.proofs.Columns.{ends-secondIn, added}
-use native.Mathlib.Omega.{arith}
 use borrow.Author.Needs.{needs}
 use Rattle.table.proofs.Table.add.Statement.{statement}
 use Rattle.table.proofs.Table.add.Tie as tie
