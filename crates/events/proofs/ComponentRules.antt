@@ -9,7 +9,7 @@ use lib.Dec.{ltb, leb}
 use borrow.Author.Tests.{leb-true, ltb-true, lt-ltb, le-leb, eqb-true, eq-eqb}
 use Rattle.ascii.specs.Names.{sameBytes}
 use Rattle.ascii.specs.Words.{ascii}
-use Rattle.ascii.proofs.Bools.{and-left, and-right, clash}
+use Rattle.ascii.proofs.Bools.{and-left, and-right, or-left, or-by-right, clash}
 use Rattle.time.specs.declared.date_time.Kind.{Kind}
 use Rattle.time.specs.declared.duration.Duration.{Duration}
 use Rattle.values.specs.declared.times.Time.{Time}
@@ -40,17 +40,9 @@ use Rattle.events.proofs.EntryRows.{kind-back}
 
 -- ---- how many lines: none stands twice exactly where there is at most one of each, those read before counted in
 
-or-left : (a b : Bool) → (a || b) ≡ false → a ≡ false
-or-left true b e = e
-or-left false b e = refl
-
-or-true-right : (a : Bool) → (a || true) ≡ true
-or-true-right true = refl
-or-true-right false = refl
-
 -- a: does a property stand twice? b: was this one there before? n lines of it follow this one
 once-more : (a b : Bool) (n : ℕ) → (a || b) ≡ false → suc n ≤ 1 → countIf b (suc n) ≤ 1
-once-more a true n e h = clash (or-true-right a) e
+once-more a true n e h = clash (or-by-right a refl) e
 once-more a false n e h = h
 
 still-once : (a b : Bool) (n : ℕ) → a ≡ false → countIf b (suc n) ≤ 1 → (a || b) ≡ false

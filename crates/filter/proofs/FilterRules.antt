@@ -7,11 +7,11 @@ use mathlib.Core.Logic.{_↔_, ⊎-elim}
 use native.Mathlib.Omega.{arith}
 use lib.Dec.{eqb}
 use lib.ListN.{length}
-use borrow.Author.Tests.{eqb-true, eqb-false, eq-eqb, ne-eqb, not-true, ltb-false, le-ltb}
+use borrow.Author.Tests.{eqb-true, eqb-false, eq-eqb, ne-eqb, not-true, ltb-false}
 use Rattle.time.specs.Limits.{lastSecond}
 use Rattle.ascii.specs.Names.{sameName}
 use Rattle.ascii.proofs.Names.{sameName-iff}
-use Rattle.ascii.proofs.Bools.{and-left, and-right, and-both, clash, not-so}
+use Rattle.ascii.proofs.Bools.{and-left, and-right, and-both, or-left, or-right, clash, not-so}
 use Rattle.text.specs.TextMatch.{contains}
 use Rattle.text.proofs.TextMatch.{contains-iff}
 use Rattle.query.specs.Records.{rangeStart, rangeEnd, textOf, componentAt, propertyAt, parameterAt}
@@ -19,7 +19,7 @@ use Rattle.query.specs.Counting.{everyBelow, implies}
 use Rattle.query.specs.declared.Sections.{Sections}
 use Rattle.query.specs.declared.PropertyRecord.{PropertyRecord}
 use Rattle.query.specs.declared.ParameterRecord.{ParameterRecord}
-use Rattle.query.proofs.Counting.{every-at, every-all, or-left, or-right}
+use Rattle.query.proofs.Counting.{every-at, every-all}
 use Rattle.line.specs.Grammar.{Parameter, ContentLine}
 use Rattle.line.specs.Reading.{keepIf, parametersNamed, hasParameter, valuesNamed}
 use Rattle.query_check.specs.WellFormed.{recordsGood}

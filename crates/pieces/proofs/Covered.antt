@@ -8,7 +8,7 @@ use mathlib.Core.List.{List, [], _∷_, _++_, List·Memᴰ, List·Memᴰ·head, 
 use native.Mathlib.Omega.{arith}
 use lib.ListN.{length}
 use Rattle.time.specs.Limits.{lastSecond}
-use Rattle.ascii.proofs.Bools.{and-left, and-right, and-both, clash}
+use Rattle.ascii.proofs.Bools.{and-left, and-right, and-both, clash, or-by-right}
 use Rattle.periods.specs.declared.Period.{Period}
 use Rattle.periods.specs.declared.BusyType.{BusyType}
 use Rattle.periods.specs.Periods.{secondIn, covers}
@@ -103,17 +103,13 @@ module _ (b : BusyType) (x : ℕ) where
       go true q k f = hits-true p ps q
       go false q k f = further (f k)
 
-  or-right : (t : Bool) {u : Bool} → u ≡ true → (t || u) ≡ true
-  or-right true e = refl
-  or-right false e = e
-
   listed-covered : {p : BusyPeriod} (ps : List BusyPeriod) → List·Memᴰ p ps → p .busy ≡ b → p .period .start ≤ x → x < p .period .end → coveredBy b ps x ≡ true
   listed-covered [] m e f g = absurd (List·Memᴰ·not-nil m)
   listed-covered {p} (q ∷ ps) m e f g = hits-first b q ps x ∙ go (List·Memᴰ·cases-cons m) (λ d. listed-covered ps d e f g)
     where
       go : (p ≡ q) ⊎ List·Memᴰ p ps → (List·Memᴰ p ps → coveredBy b ps x ≡ true) → (hits b q x || coveredBy b ps x) ≡ true
       go (inl d) k = ap (λ (t : Bool). t || coveredBy b ps x) (subst (λ (w : BusyPeriod). hits b w x ≡ true) d (hits-holds p e f g))
-      go (inr d) k = or-right (hits b q x) (k d)
+      go (inr d) k = or-by-right (hits b q x) (k d)
 
 -- ---- for the reader
 

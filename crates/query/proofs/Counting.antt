@@ -1,11 +1,11 @@
 -- Tests of every number below a bound, and of some number below it: what a loop over them keeps, and what they say.
 use Prim.Native.Nat.{ℕ, zero, suc, _+_, _≤_, _<_}
 use mathlib.Core.Path.{_≡_, refl, sym, subst, _∙_}
-use mathlib.Core.Bool.{Bool, true, false, _||_}
+use mathlib.Core.Bool.{Bool, true, false}
 use native.Mathlib.Omega.{arith}
 use lib.Dec.{ltb}
 use borrow.Author.Tests.{ltb-true, ltb-false}
-use Rattle.ascii.proofs.Bools.{and-left, and-right, and-both, clash, not-so}
+use Rattle.ascii.proofs.Bools.{and-left, and-right, and-both, clash, not-so, or-left, or-right, or-neither}
 use Rattle.query.specs.Counting.{everyBelow, someBelow}
 
 -- what holds of each number below n, and of n, holds of each below n + 1
@@ -15,18 +15,6 @@ below-suc P n i h below here = go (ltb i n) refl
     go : (t : Bool) → ltb i n ≡ t → P i
     go true q = below (ltb-true i n q)
     go false q = let e : n ≡ i = omega (arith, ltb-false i n q) in subst P e here
-
-pub or-left : (a b : Bool) → (a || b) ≡ false → a ≡ false
-or-left true b e = e
-or-left false b e = refl
-
-pub or-right : (a b : Bool) → (a || b) ≡ false → b ≡ false
-or-right true b e = clash refl e
-or-right false b e = e
-
-pub or-neither : {a b : Bool} → a ≡ false → b ≡ false → (a || b) ≡ false
-or-neither {a = true} p q = p
-or-neither {a = false} p q = q
 
 module _ (f : ℕ → Bool) where
   -- a test of every number holds of each

@@ -12,7 +12,7 @@ use borrow.Author.Tests.{ltb-true, ltb-false, le-ltb, leb-true, eqb-true, lt-ltb
 use Rattle.time.specs.Limits.{lastSecond, rangeGood}
 use Rattle.ascii.specs.Names.{isName, sameName}
 use Rattle.ascii.specs.Words.{ascii}
-use Rattle.ascii.proofs.Bools.{and-left, and-right, and-both, clash, not-so}
+use Rattle.ascii.proofs.Bools.{and-left, and-right, and-both, or-left, or-right, or-neither, clash, not-so}
 use Rattle.ascii.proofs.Names.{sameName-iff}
 use Rattle.query.specs.Records.{rangeStart, rangeEnd, textOf, componentAt, propertyAt, parameterAt}
 use Rattle.query.specs.Sections.{sectionsOf}
@@ -22,7 +22,7 @@ use Rattle.query.specs.declared.SectionsRead.{SectionsRead}
 use Rattle.query.specs.declared.ComponentRecord.{ComponentRecord}
 use Rattle.query.specs.declared.PropertyRecord.{PropertyRecord}
 use Rattle.query.specs.declared.ParameterRecord.{ParameterRecord}
-use Rattle.query.proofs.Counting.{every-at, every-all, none-at, none-all, or-left, or-right, or-neither}
+use Rattle.query.proofs.Counting.{every-at, every-all, none-at, none-all}
 use Rattle.query.proofs.LayoutLaws.{layout-of, layout-sections}
 use Rattle.query_check.specs.QueryRules.{Spells, GoodRange, GoodName, GoodFlag, CalendarRecord, AloneComponent, GoodComponent, GoodProperty, GoodParameter, GoodRecords, WellFormedQuery, WellPlaced}
 use Rattle.query_check.specs.WellFormed.{rangeRecordGood, nameGood, hasChildComponent, hasProperty, hasParameterRecord, parentGood, componentGood, flagGood, propertyGood, parameterGood, rangesGood, componentsGood, propertiesGood, parametersGood, recordsGood, queryGood, componentMisplaced, componentsMisplaced, propertiesMisplaced, rangeMisplaced}

@@ -5,7 +5,6 @@ use mathlib.Core.Path.{_≡_, refl, ap, _∙_}
 use mathlib.Core.Bool.{cond, Bool, true, false}
 use mathlib.Core.List.{List, [], _∷_, _++_, map, append-nil}
 use native.Mathlib.Omega.{arith}
-use borrow.Author.Tests.{lt-ltb}
 use Rattle.ascii.specs.Bytes.{upper}
 use Rattle.ascii.specs.Names.{sameName}
 use Rattle.ascii.specs.Words.{ascii}
@@ -36,10 +35,11 @@ use Rattle.report.specs.Bytes.{Report, periodText, GoodPeriods, Writable, repor
 use Rattle.report.specs.Bytes as Report
 use Rattle.events.specs.ComponentProperties.{withProperty, withSpan, withBusy, withProperties, noProperties, timeGiven}
 use Rattle.events.specs.declared.ComponentProperties.{ComponentProperties}
-use Rattle.events.specs.Events.{blockBetween, blockFrom, blockBy, block}
+use Rattle.events.specs.Events.{blockFrom, blockBy, block}
 use Rattle.events.specs.declared.Bound.{Bound}
 use Rattle.events.specs.declared.Block.{Block}
 use Rattle.events.specs.declared.BlockRead.{BlockRead}
+use Rattle.events.proofs.ComponentRules.{later-between}
 use Rattle.calendar.specs.Meaning.{propertyValuesIn, faultOr, faultIn, periodsBy, blockPeriods, scopeOf, componentScope, valueFault, blockOf, isBroken, brokenOr, ruleFault, entryOf, entriesOf, componentsOf, calendar, meaningOf}
 use Rattle.calendar.specs.declared.ValueCheck.{ValueCheck}
 use Rattle.calendar.specs.declared.RuleCheck.{RuleCheck}
@@ -201,10 +201,6 @@ block-properties r = flat-properties 5 (blockContent r)
 abbrev pub reportBlock : Report → Block
 reportBlock r = record { start = Bound.At (r .start); end = Bound.At (r .end) }
 
-between-rising : (s e : ℕ) → s < e → blockBetween s e ≡ BlockRead.Of (record { start = Bound.At s; end = Bound.At e })
-unfolding blockBetween
-between-rising s e h = rw (lt-ltb s e h)
-
 module _ (c : Context) {r : Report} (w : Writable r) where
   start-limit : r .start ≤ lastSecond
   start-limit = omega (arith, w .start-first, w .end-limit)
@@ -221,7 +217,7 @@ module _ (c : Context) {r : Report} (w : Writable r) where
   unfolding blockContent numberedFrom propertyValuesIn withProperties withProperty withSpan withBusy noProperties timeGiven blockBy blockFrom
   lines-block =
       rw (stamp-value c, start-value c (r .start) start-limit, end-value c (r .end) end-limit, periods-add-nothing c 8 _ (periods-good w))
-      (between-rising (r .start) (r .end) (w .start-first))
+      (later-between (r .start) (r .end) (w .start-first))
 
   lines-periods : blockPeriods c (numberedFrom 5 (blockContent r)) ≡ reportPeriods r
   unfolding blockContent numberedFrom blockPeriods periodsBy

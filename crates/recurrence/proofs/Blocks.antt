@@ -4,25 +4,17 @@ use mathlib.Core.Path.{_≡_, refl, sym, ap, _∙_}
 use mathlib.Core.Bool.{Bool, true, false, _||_}
 use mathlib.Core.List.{List, [], _∷_, List·Memᴰ, List·Memᴰ·head, List·Memᴰ·tail}
 use mathlib.Core.Logic.{_↔_}
-use Rattle.ascii.proofs.Bools.{clash}
+use Rattle.ascii.proofs.Bools.{clash, or-by-left, or-by-right}
 use Rattle.periods.specs.BusyTypes.{BusyPeriod, periodsOf}
 use Rattle.recurrence.specs.TimeRange.{overlaps, periodsOverlap}
 use Rattle.recurrence.specs.Blocks.{PeriodIn}
-
-or-right : (x : Bool) {y : Bool} → y ≡ true → (x || y) ≡ true
-or-right true e = refl
-or-right false e = e
-
-or-left : {x : Bool} (y : Bool) → x ≡ true → (x || y) ≡ true
-or-left {x = true} y e = refl
-or-left {x = false} y e = clash e refl
 
 module _ (a b : ℕ) where
   listed-overlaps : {p : BusyPeriod} {ps : List BusyPeriod} → List·Memᴰ p ps → overlaps a b (p .period .start) (p .period .end) ≡ true → periodsOverlap a b (periodsOf ps) ≡ true
   unfolding periodsOverlap
   listed-overlaps (List·Memᴰ·head {xs = xs} e) h =
-      or-left (periodsOverlap a b (periodsOf xs)) (ap (λ (q : BusyPeriod). overlaps a b (q .period .start) (q .period .end)) (sym e) ∙ h)
-  listed-overlaps (List·Memᴰ·tail {x = x} m) h = or-right (overlaps a b (x .period .start) (x .period .end)) (listed-overlaps m h)
+      or-by-left (periodsOverlap a b (periodsOf xs)) (ap (λ (q : BusyPeriod). overlaps a b (q .period .start) (q .period .end)) (sym e) ∙ h)
+  listed-overlaps (List·Memᴰ·tail {x = x} m) h = or-by-right (overlaps a b (x .period .start) (x .period .end)) (listed-overlaps m h)
 
   later : {p : BusyPeriod} {ps : List BusyPeriod} → PeriodIn a b ps → PeriodIn a b (p ∷ ps)
   later i = record { which = i .which; listed = List·Memᴰ·tail (i .listed); passes = i .passes }

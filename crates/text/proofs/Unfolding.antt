@@ -8,7 +8,7 @@ use lib.Dec.{ltb}
 use lib.ListN.{length, length-append, length-drop, take, drop, getD, set, length-set, take-append-drop}
 use lib.Seq.{getD-drop, length-take-le, drop-drop, take-at, paste, paste-zero, paste-suc, length-paste, take-paste, drop-paste}
 use borrow.Author.Tests.{not-true, ne-eqb, ltb-true, ltb-false}
-use Rattle.ascii.proofs.Bools.{and-left, and-right, clash, not-so}
+use Rattle.ascii.proofs.Bools.{and-left, and-right, or-left, or-right, clash, not-so}
 use Rattle.ascii.proofs.Lists.{drop-next, drop-end}
 use Rattle.text.specs.Unfolding.{isBreak, isBlank, isFold, unfolded, foldAt, Nowhere, Excludes, NextFold, noFold, Unfolded}
 
@@ -70,14 +70,6 @@ unfolding foldAt isFold isBreak
 no-fold-other s i h = rw (ne-eqb (getD s i 0) 13 h)
 
 -- an or that is false has no true part
-or-left : (a b : Bool) → (a || b) ≡ false → a ≡ false
-or-left true b e = e
-or-left false b e = refl
-
-or-right : (a b : Bool) → (a || b) ≡ false → b ≡ false
-or-right true b e = clash refl e
-or-right false b e = e
-
 -- places at which a test fails: none yet, those after them, one more, all that an answer excludes, and fewer
 pub nowhere-start : (f : List ℕ → ℕ → Bool) (s : List ℕ) (from : ℕ) → from ≤ length s → Nowhere f s from from
 nowhere-start f s from h = record { order = omega arith; inside = h; none = λ k a b. absurd (omega arith) }

@@ -32,12 +32,8 @@ same-length c = omega arith
 
 returns : tie.Need-returns Inv-loop μ-loop
 returns c =
-    let room = c .before .before .before .before .before .before .before .before .before .pre in
-    let passed = c .before .before .before .before .before .before .loop .inv in
-    let fold = c .before .before .before .before .before .next-fold .ensures in
-    let copied = c .before .before .before .copy-run .ensures in
-    let ended = c .if1 .taken in
-    passed-end room passed fold copied ended
+    let folded = c .before .before .before .before .before in
+    passed-end (folded .before .before .before .before .pre) (folded .before .loop .inv) (folded .next-fold .ensures) (c .before .before .before .copy-run .ensures) (c .if1 .taken)
 
 add-i : tie.Need-add-i Inv-loop μ-loop
 add-i c = omega arith
@@ -47,12 +43,8 @@ loop-less c = omega arith
 
 loop-again : tie.Need-loop-again Inv-loop μ-loop
 loop-again c =
-    let room = c .before .before .before .before .before .before .before .before .before .pre in
-    let passed = c .before .before .before .before .before .before .loop .inv in
-    let fold = c .before .before .before .before .before .next-fold .ensures in
-    let copied = c .before .before .before .copy-run .ensures in
-    let inside = c .if1 .left in
-    passed-next room passed fold copied inside
+    let folded = c .before .before .before .before .before in
+    passed-next (folded .before .before .before .before .pre) (folded .before .loop .inv) (folded .next-fold .ensures) (c .before .before .before .copy-run .ensures) (c .if1 .left)
 
 pub unfold-into-spec : {M : Type 1} → statement M
 unfold-into-spec =
