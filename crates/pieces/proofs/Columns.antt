@@ -14,7 +14,7 @@ unfolding flat
 flat-append [] qs = refl
 flat-append (p ∷ ps) qs = ap (λ (l : List ℕ). p .period .start ∷ p .period .end ∷ reportPlace (p .busy) ∷ l) (flat-append ps qs)
 
-flat-length : (ps : List BusyPeriod) → length (flat ps) ≡ 3 * length ps
+pub flat-length : (ps : List BusyPeriod) → length (flat ps) ≡ 3 * length ps
 unfolding flat
 flat-length [] = refl
 flat-length (p ∷ ps) = omega (arith, flat-length ps)

@@ -21,6 +21,7 @@ use Rattle.table.proofs.Inserting.{insertedAll-all}
 use Rattle.periods.specs.BusyTypes.{reportPlace, sameBusy, BusyPeriod}
 use Rattle.pieces.specs.Columns.{flat}
 use Rattle.pieces.specs.Covered.{ofType, coveredBy}
+use Rattle.pieces.proofs.Columns.{flat-length}
 
 -- three numbers stand at a place
 three-next : (c : List ℕ) (at : ℕ) → at + 3 ≤ length c → drop at c ≡ getD c at 0 ∷ getD c (at + 1) 0 ∷ getD c (at + 2) 0 ∷ drop (at + 3) c
@@ -169,11 +170,6 @@ of-type-lies b lo hi (p ∷ ps) lies q = go (sameBusy b (p .busy)) (of-type-lies
     go true rest (List·Memᴰ·head e) = rw e (lies p (List·Memᴰ·head refl))
     go true rest (List·Memᴰ·tail m) = rest m
     go false rest m = rest m
-
-flat-length : (ps : List BusyPeriod) → length (flat ps) ≡ 3 * length ps
-unfolding flat
-flat-length [] = refl
-flat-length (p ∷ ps) = omega (arith, flat-length ps)
 
 -- numbers stored from the start on stand before what is left of the column
 pub flat-stored : (o : List ℕ) (ps : List BusyPeriod) → 3 * length ps ≤ length o → sets o 0 (flat ps) ≡ flat ps ++ drop (3 * length ps) o

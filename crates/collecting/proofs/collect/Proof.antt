@@ -36,7 +36,9 @@ enum-told-2 c = omega arith
 collect-calendar-requires : tie.Need-collect-calendar-requires
 collect-calendar-requires c κs =
     let called = c .before .before .before .before .before .before .before .before .before .before .before .before .before .before .before in
-    let good = call-given _ _ _ (toZ-ofZ w64 (called .args .offset) (called .fits .offset)) (c .before .before .before .before .before .before .before .before .before .before .read-call .ensures) (c .before .before .before .before .before .before .before .before .shift .given .1) in
+    let read-call = c .before .before .before .before .before .before .before .before .before .before .read-call .ensures in
+    let shift-told = c .before .before .before .before .before .before .before .before .shift .given .1 in
+    let good = call-given _ _ _ (toZ-ofZ w64 (called .args .offset) (called .fits .offset)) read-call shift-told in
     let bounds = call-bounds _ _ _ _ good in
     let sizes = sym (c .before .before .before .before .before .check-sizes .ensures) ∙ c .before .before .before .enum-told2 .given .1 in
     (called .pre, (sizes-room _ _ sizes, (sizes-small _ _ sizes, (bounds .0, (bounds .1, bounds .2)))))
@@ -53,7 +55,9 @@ same-length c = omega arith
 returns-2 : tie.Need-returns-2
 returns-2 c =
     let called = c .before .before .before .before .before .before .before .before .before .before .before .before .before .before in
-    let good = call-given _ _ _ (toZ-ofZ w64 (called .args .offset) (called .fits .offset)) (c .before .before .before .before .before .before .before .before .before .read-call .ensures) (c .before .before .before .before .before .before .before .shift .given .1) in
+    let read-call = c .before .before .before .before .before .before .before .before .before .read-call .ensures in
+    let shift-told = c .before .before .before .before .before .before .before .shift .given .1 in
+    let good = call-given _ _ _ (toZ-ofZ w64 (called .args .offset) (called .fits .offset)) read-call shift-told in
     collect-refused-sizes _ _ _ _ _ _ good (sym (c .before .before .before .before .check-sizes .ensures) ∙ c .before .before .n .given .1) (c .refused2 .ensures)
 
 same-length-2 : tie.Need-same-length-2
@@ -68,8 +72,13 @@ same-length-4 c = omega arith
 returns-3 : tie.Need-returns-3
 returns-3 c =
     let called = c .before .before .before .before .before .before .before .before .before .before .before .before .before .before .before .before .before .before .before .before .before .before in
-    let good = call-given _ _ _ (toZ-ofZ w64 (called .args .offset) (called .fits .offset)) (c .before .before .before .before .before .before .before .before .before .before .before .before .before .before .before .before .before .read-call .ensures) (c .before .before .before .before .before .before .before .before .before .before .before .before .before .before .before .shift .given .1) in
-    collect-sizes-passed _ _ _ _ _ _ good (sym (c .before .before .before .before .before .before .before .before .before .before .before .before .check-sizes .ensures) ∙ c .before .before .before .before .before .before .before .before .before .before .enum-told2 .given .1) (c .before .before .before .before .before .before .collect-calendar .ensures)
+    let read-call = c .before .before .before .before .before .before .before .before .before .before .before .before .before .before .before .before .before .read-call .ensures in
+    let shift-told = c .before .before .before .before .before .before .before .before .before .before .before .before .before .before .before .shift .given .1 in
+    let good = call-given _ _ _ (toZ-ofZ w64 (called .args .offset) (called .fits .offset)) read-call shift-told in
+    let check-sizes = c .before .before .before .before .before .before .before .before .before .before .before .before .check-sizes .ensures in
+    let enum-told2-told = c .before .before .before .before .before .before .before .before .before .before .enum-told2 .given .1 in
+    let collect-calendar = c .before .before .before .before .before .before .collect-calendar .ensures in
+    collect-sizes-passed _ _ _ _ _ _ good (sym check-sizes ∙ enum-told2-told) collect-calendar
 
 pub collect-spec : {M : Type 1} → statement M
 collect-spec =

@@ -32,7 +32,10 @@ same-length-3 : tie.Need-same-length-3
 same-length-3 c = search needs
 
 returns : tie.Need-returns
-returns c = calendar-collected _ _ _ _ _ (c .before .before .before .before .before .before .before .before .before .before .unfold-into .ensures) (c .before .before .before .before .collect-unfolded .ensures)
+returns c =
+    let unfold-into = c .before .before .before .before .before .before .before .before .before .before .unfold-into .ensures in
+    let collect-unfolded = c .before .before .before .before .collect-unfolded .ensures in
+    calendar-collected _ _ _ _ _ unfold-into collect-unfolded
 
 pub collect-calendar-spec : {M : Type 1} → statement M
 collect-calendar-spec =

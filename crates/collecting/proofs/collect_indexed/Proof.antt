@@ -29,13 +29,20 @@ slice-aggregate-collect-contents c = search needs
 collect-contents-requires : tie.Need-collect-contents-requires
 collect-contents-requires c κs =
     let required = c .before .before .before .before .before .before .before .before .before .before .before .before .before .before .before .before .before .pre in
-    (required .0, (required .1 .1 .1 .0, (structure-known (c .before .before .before .before .before .before .before .before .before .before .read-structure .ensures) (c .before .before .before .before .before .before .structure-fault .ensures) (c .before .before .before .before .enum-told .given .1), required .1 .1 .1 .1)))
+    let read-structure = c .before .before .before .before .before .before .before .before .before .before .read-structure .ensures in
+    let structure-fault = c .before .before .before .before .before .before .structure-fault .ensures in
+    let enum-told-told = c .before .before .before .before .enum-told .given .1 in
+    (required .0, (required .1 .1 .1 .0, (structure-known read-structure structure-fault enum-told-told, required .1 .1 .1 .1)))
 
 same-length : tie.Need-same-length
 same-length c = search needs
 
 returns : tie.Need-returns
-returns c = structure-refuses (c .before .before .before .before .before .before .before .before .read-structure .ensures) (c .before .before .before .before .structure-fault .ensures) _ _ _ (c .before .before .k .given .1) (c .refused .ensures)
+returns c =
+    let read-structure = c .before .before .before .before .before .before .before .before .read-structure .ensures in
+    let structure-fault = c .before .before .before .before .structure-fault .ensures in
+    let k-told = c .before .before .k .given .1 in
+    structure-refuses read-structure structure-fault _ _ _ k-told (c .refused .ensures)
 
 same-length-2 : tie.Need-same-length-2
 same-length-2 c = search needs
@@ -47,7 +54,12 @@ same-length-4 : tie.Need-same-length-4
 same-length-4 c = search needs
 
 returns-2 : tie.Need-returns-2
-returns-2 c = structure-passes (c .before .before .before .before .before .before .before .before .before .before .before .before .before .before .before .read-structure .ensures) (c .before .before .before .before .before .before .before .before .before .before .before .structure-fault .ensures) _ _ _ (c .before .before .before .before .before .before .before .before .before .enum-told .given .1) (c .before .before .before .before .collect-contents .ensures)
+returns-2 c =
+    let read-structure = c .before .before .before .before .before .before .before .before .before .before .before .before .before .before .before .read-structure .ensures in
+    let structure-fault = c .before .before .before .before .before .before .before .before .before .before .before .structure-fault .ensures in
+    let enum-told-told = c .before .before .before .before .before .before .before .before .before .enum-told .given .1 in
+    let collect-contents = c .before .before .before .before .collect-contents .ensures in
+    structure-passes read-structure structure-fault _ _ _ enum-told-told collect-contents
 
 pub collect-indexed-spec : {M : Type 1} → statement M
 collect-indexed-spec =

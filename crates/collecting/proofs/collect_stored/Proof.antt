@@ -26,7 +26,10 @@ same-length-2 : tie.Need-same-length-2
 same-length-2 c = search needs
 
 returns : tie.Need-returns
-returns c = contents-many (c .before .before .before .before .before .before .before .before .read-contents .ensures) (c .before .before .enum-told .given .1) (c .before .if1 .taken) (c .refused2 .ensures)
+returns c =
+    let read-contents = c .before .before .before .before .before .before .before .before .read-contents .ensures in
+    let enum-told-told = c .before .before .enum-told .given .1 in
+    contents-many read-contents enum-told-told (c .before .if1 .taken) (c .refused2 .ensures)
 
 tables-of-requires : tie.Need-tables-of-requires
 tables-of-requires c κs = search needs
@@ -54,8 +57,14 @@ same-length-8 c = search needs
 
 returns-3 : tie.Need-returns-3
 returns-3 c =
-    let required = c .before .before .before .before .before .before .before .before .before .before .before .before .before .before .before .before .before .before .before .before .before .before .before .before .before .pre in
-    contents-few (c .before .before .before .before .before .before .before .before .before .before .before .before .before .before .before .read-contents .ensures) (c .before .before .before .before .before .before .before .before .before .enum-told .given .1) (c .before .before .before .before .before .before .before .before .if1 .left) (required .1 .0) (required .1 .1 .1 .1 .1 .0) (c .before .before .before .before .tables-of .ensures)
+    let late = c .before .before .before .before .before .before .before .before .before .before .before .before in
+    let called = late .before .before .before .before .before .before .before .before .before .before .before .before .before in
+    let required = called .pre in
+    let read-contents = c .before .before .before .before .before .before .before .before .before .before .before .before .before .before .before .read-contents .ensures in
+    let enum-told-told = c .before .before .before .before .before .before .before .before .before .enum-told .given .1 in
+    let if1-left = c .before .before .before .before .before .before .before .before .if1 .left in
+    let tables-of = c .before .before .before .before .tables-of .ensures in
+    contents-few read-contents enum-told-told if1-left (required .1 .0) (required .1 .1 .1 .1 .1 .0) tables-of
 
 pub collect-stored-spec : {M : Type 1} → statement M
 collect-stored-spec =

@@ -28,7 +28,10 @@ slice-aggregate-write-counted-2 : tie.Need-slice-aggregate-write-counted-2
 slice-aggregate-write-counted-2 c = search needs
 
 write-counted-requires : tie.Need-write-counted-requires
-write-counted-requires c κs = (told-writable (c .before .before .before .before .before .before .before .before .before .collect .ensures) (c .before .before .before .enum-told .given .1), ((search needs, search needs), c .before .before .before .before .before .before .before .before .before .collect .ensures .few))
+write-counted-requires c κs =
+    let collect = c .before .before .before .before .before .before .before .before .before .collect .ensures in
+    let enum-told-told = c .before .before .before .enum-told .given .1 in
+    (told-writable collect enum-told-told, ((search needs, search needs), collect .few))
 
 same-length : tie.Need-same-length
 same-length c = search needs
@@ -47,7 +50,10 @@ same-length-3 c = search needs
 returns-2 : tie.Need-returns-2
 returns-2 c =
     let called = c .before .before .before .before .before .before .before .before .before .before .before .before .before .before .before .before .before .before .before in
-    seconds-at (toZ-ofZ w64 (called .args .offset) (called .fits .offset)) (seconds-written (c .before .before .before .before .before .before .before .before .before .before .before .before .collect .ensures) (c .before .before .before .before .before .before .enum-told .given .1) (c .before .before .write-counted .ensures))
+    let collect = c .before .before .before .before .before .before .before .before .before .before .before .before .collect .ensures in
+    let enum-told-told = c .before .before .before .before .before .before .enum-told .given .1 in
+    let write-counted = c .before .before .write-counted .ensures in
+    seconds-at (toZ-ofZ w64 (called .args .offset) (called .fits .offset)) (seconds-written collect enum-told-told write-counted)
 
 pub report-seconds-spec : {M : Type 1} → statement M
 report-seconds-spec =

@@ -10,7 +10,10 @@ is-called-requires : tie.Need-is-called-requires
 is-called-requires c κs = search needs
 
 returns : tie.Need-returns
-returns c = line-other _ _ _ _ _ (c .before .before .before .before .before .before .before .pre .1 .1 .0) (c .before .before .before .before .before .before .before .pre .1 .1 .1 .0) (c .before .is-called .ensures) (not-true _ (c .if1 .taken))
+returns c =
+    let called = c .before .before .before .before .before .before .before in
+    let is-called = c .before .is-called .ensures in
+    line-other _ _ _ _ _ (called .pre .1 .1 .0) (called .pre .1 .1 .1 .0) is-called (not-true _ (c .if1 .taken))
 
 line-at-requires : tie.Need-line-at-requires
 line-at-requires c κs = search needs
@@ -31,14 +34,20 @@ returns-2 : tie.Need-returns-2
 returns-2 c =
     let required = c .before .before .before .before .before .before .before .before .before .before .before .before .before .pre in
     let named = not-false _ (c .before .before .before .before .before .before .if1 .left) in
-    line-valued _ _ _ _ _ (required .1 .1 .0) (required .1 .1 .1 .0) (c .before .before .before .before .before .before .before .is-called .ensures) named (c .before .before .before .before .before .line-at .ensures) (c .before .before .before .value-behind .ensures)
+    let is-called = c .before .before .before .before .before .before .before .is-called .ensures in
+    let line-at = c .before .before .before .before .before .line-at .ensures in
+    let value-behind = c .before .before .before .value-behind .ensures in
+    line-valued _ _ _ _ _ (required .1 .1 .0) (required .1 .1 .1 .0) is-called named line-at value-behind
     (c .before .before .text-passes .ensures) (c .before .if2 .taken) (c .parameters-hold .ensures)
 
 returns-3 : tie.Need-returns-3
 returns-3 c =
     let required = c .before .before .before .before .before .before .before .before .before .before .before .before .pre in
     let named = not-false _ (c .before .before .before .before .before .if1 .left) in
-    line-failed _ _ _ _ _ (required .1 .1 .0) (required .1 .1 .1 .0) (c .before .before .before .before .before .before .is-called .ensures) named (c .before .before .before .before .line-at .ensures) (c .before .before .value-behind .ensures)
+    let is-called = c .before .before .before .before .before .before .is-called .ensures in
+    let line-at = c .before .before .before .before .line-at .ensures in
+    let value-behind = c .before .before .value-behind .ensures in
+    line-failed _ _ _ _ _ (required .1 .1 .0) (required .1 .1 .1 .0) is-called named line-at value-behind
     (c .before .text-passes .ensures) (c .if2 .left)
 
 pub line-holds-spec : {M : Type 1} → statement M

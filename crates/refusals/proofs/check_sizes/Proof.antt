@@ -1,4 +1,4 @@
--- The tests stand in the order of the rows.
+-- `refusals::check_sizes` meets its contract: the tests stand in the order of the rows.
 use Rattle.refusals.proofs.Stages.{calendar-long, work-short, sizes-good}
 use Rattle.refusals.proofs.check_sizes.Statement.{statement}
 use Rattle.refusals.proofs.check_sizes.Tie as tie

@@ -1,4 +1,4 @@
--- Both bounds are tested before the sum, so that it fits and is not negative.
+-- `refusals::read_offset` meets its contract: both bounds are tested before the sum, so that it fits and is not negative.
 use mathlib.Core.Path.{_≡_}
 use mir.Syntax.{w64}
 use mir.Val.{toZ, ofZ}

@@ -49,14 +49,22 @@ shared-slice-read-add-2 : tie.Need-shared-slice-read-add-2 Inv-loop μ-loop
 shared-slice-read-add-2 c = omega arith
 
 add-requires : tie.Need-add-requires Inv-loop μ-loop
-add-requires c κs = building-asks (c .before .before .before .before .before .before .before .loop .inv .0) (c .before .before .before .before .before .before .loop-test .taken) (omega arith) (omega (arith, c .before .before .before .before .if1 .taken)) (omega arith)
+add-requires c κs =
+    let so-far = c .before .before .before .before .before .before .before .loop .inv in
+    let loop-test-taken = c .before .before .before .before .before .before .loop-test .taken in
+    let if1-taken = c .before .before .before .before .if1 .taken in
+    building-asks (so-far .0) loop-test-taken (omega arith) (omega (arith, if1-taken)) (omega arith)
 
 loop-less : tie.Need-loop-less Inv-loop μ-loop
 loop-less c = omega arith
 
 loop-again : tie.Need-loop-again Inv-loop μ-loop
 loop-again c =
-    let added = building-added (c .before .before .before .before .before .before .before .before .before .before .before .before .loop .inv .0) (c .before .before .before .before .before .before .before .before .before .before .before .loop-test .taken) (omega arith) (omega (arith, c .before .before .before .before .before .before .before .before .before .if1 .taken)) (c .before .before .before .before .add .ensures) in
+    let so-far = c .before .before .before .before .before .before .before .before .before .before .before .before .loop .inv in
+    let loop-test-taken = c .before .before .before .before .before .before .before .before .before .before .before .loop-test .taken in
+    let if1-taken = c .before .before .before .before .before .before .before .before .before .if1 .taken in
+    let add = c .before .before .before .before .add .ensures in
+    let added = building-added (so-far .0) loop-test-taken (omega arith) (omega (arith, if1-taken)) add in
     (added (omega arith), omega arith)
 
 loop-less-2 : tie.Need-loop-less-2 Inv-loop μ-loop

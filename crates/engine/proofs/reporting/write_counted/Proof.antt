@@ -23,7 +23,11 @@ same-length : tie.Need-same-length
 same-length c = search needs
 
 returns : tie.Need-returns
-returns c = wrote-counted _ _ _ _ _ _ _ _ (c .before .before .before .before .before .write-report .ensures) (c .before .before .seconds-in .ensures) (c .before .seconds-in2 .ensures) (c .seconds-in3 .ensures)
+returns c =
+    let write-report = c .before .before .before .before .before .write-report .ensures in
+    let seconds-in = c .before .before .seconds-in .ensures in
+    let seconds-in2 = c .before .seconds-in2 .ensures in
+    wrote-counted _ _ _ _ _ _ _ _ write-report seconds-in seconds-in2 (c .seconds-in3 .ensures)
 
 pub write-counted-spec : {M : Type 1} → statement M
 write-counted-spec =

@@ -1,4 +1,4 @@
--- Each arm is one clause of the definition.
+-- `events::properties::duration_given` meets its contract: each arm is one clause of the definition.
 use Rattle.events.specs.ComponentProperties.{durationGiven}
 use borrow.Author.Needs.{needs}
 use Rattle.events.proofs.properties.duration_given.Statement.{statement}

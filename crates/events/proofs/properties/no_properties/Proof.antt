@@ -1,4 +1,4 @@
--- The fields are those of the definition.
+-- `events::properties::no_properties` meets its contract: the fields are those of the definition.
 use Rattle.events.specs.ComponentProperties.{noProperties}
 use mathlib.Core.Path.{refl}
 use Rattle.events.proofs.properties.no_properties.Statement.{statement}

@@ -1,4 +1,4 @@
--- Each arm is one clause of the definition.
+-- `events::properties::transparency_given` meets its contract: each arm is one clause of the definition.
 use Rattle.events.specs.ComponentProperties.{transparencyGiven}
 use borrow.Author.Needs.{needs}
 use Rattle.events.proofs.properties.transparency_given.Statement.{statement}

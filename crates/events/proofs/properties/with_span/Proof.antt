@@ -1,4 +1,4 @@
--- The fields are those of the definition.
+-- `events::properties::with_span` meets its contract: the fields are those of the definition.
 use mathlib.Core.Path.{refl}
 use Rattle.events.specs.ComponentProperties.{withSpan}
 use Rattle.events.proofs.properties.with_span.Statement.{statement}

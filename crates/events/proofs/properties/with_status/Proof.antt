@@ -1,4 +1,4 @@
--- The fields are those of the clause for this property value.
+-- `events::properties::with_status` meets its contract: the fields are those of the clause for this property value.
 use Rattle.events.specs.ComponentProperties.{withProperty}
 use borrow.Author.Needs.{needs}
 use Rattle.events.proofs.properties.with_status.Statement.{statement}

@@ -1,4 +1,4 @@
--- Each arm is one clause of the definition.
+-- `events::rows::bound_numbers` meets its contract: each arm is one clause of the definition.
 use Rattle.events.specs.EntryRows.{boundNumbers}
 use borrow.Author.Needs.{needs}
 use Rattle.events.proofs.rows.bound_numbers.Statement.{statement}

@@ -1,4 +1,4 @@
--- Each way out is one case of the definition, by the numbers that were not met before it.
+-- `events::rows::bound_of` meets its contract: each way out is one case of the definition, by the numbers that were not met before it.
 use borrow.Author.Tests.{ne-eqb}
 use Rattle.events.specs.EntryRows.{boundOf}
 use Rattle.events.proofs.rows.bound_of.Statement.{statement}

@@ -1,4 +1,4 @@
--- Each arm is one clause of the definition.
+-- `events::rows::ending_numbers` meets its contract: each arm is one clause of the definition.
 use Rattle.events.specs.EntryRows.{endingNumbers}
 use Rattle.events.proofs.EntryRows.{lasts-numbers}
 use borrow.Author.Needs.{needs}

@@ -1,4 +1,4 @@
--- Each field is that of the definition.
+-- `events::rows::event_at` meets its contract: each field is that of the definition.
 use Rattle.events.specs.EntryRows.{eventAt}
 use native.Mathlib.Omega.{arith}
 use borrow.Author.Needs.{needs}

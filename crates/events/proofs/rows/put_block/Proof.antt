@@ -1,4 +1,4 @@
--- The numbers handed to `put_row` are those of the block.
+-- `events::rows::put_block` meets its contract: the numbers handed to `put_row` are those of the block.
 use Rattle.events.proofs.EntryRows.{block-numbers, put-as}
 use borrow.Author.Needs.{needs}
 use Rattle.events.proofs.rows.put_block.Statement.{statement}

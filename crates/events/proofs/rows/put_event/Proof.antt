@@ -1,4 +1,4 @@
--- The numbers handed to `put_row` are those of the event.
+-- `events::rows::put_event` meets its contract: the numbers handed to `put_row` are those of the event.
 use Rattle.events.proofs.EntryRows.{event-numbers, put-as}
 use borrow.Author.Needs.{needs}
 use Rattle.events.proofs.rows.put_event.Statement.{statement}

@@ -1,4 +1,4 @@
--- Each way out is one case of the definition, by the numbers that were not met before it.
+-- `events::rows::repeat_of` meets its contract: each way out is one case of the definition, by the numbers that were not met before it.
 use borrow.Author.Tests.{ne-eqb}
 use Rattle.events.specs.EntryRows.{repeatOf}
 use Rattle.events.proofs.rows.repeat_of.Statement.{statement}

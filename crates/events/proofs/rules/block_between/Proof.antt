@@ -1,4 +1,4 @@
--- The test is that of the definition.
+-- `events::rules::block_between` meets its contract: the test is that of the definition.
 use borrow.Author.Tests.{lt-ltb, le-ltb}
 use Rattle.events.specs.Events.{blockBetween}
 use Rattle.events.proofs.rules.block_between.Statement.{statement}

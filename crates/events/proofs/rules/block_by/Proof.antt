@@ -1,4 +1,4 @@
--- The test is that of the definition.
+-- `events::rules::block_by` meets its contract: the test is that of the definition.
 use Rattle.events.specs.Events.{blockBy}
 use borrow.Author.Needs.{needs}
 use Rattle.events.proofs.rules.block_by.Statement.{statement}

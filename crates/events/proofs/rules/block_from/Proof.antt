@@ -1,4 +1,4 @@
--- Each arm is one clause of the definition.
+-- `events::rules::block_from` meets its contract: each arm is one clause of the definition.
 use Rattle.events.specs.Events.{blockFrom}
 use borrow.Author.Needs.{needs}
 use Rattle.events.proofs.rules.block_from.Statement.{statement}

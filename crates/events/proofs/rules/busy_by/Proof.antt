@@ -1,4 +1,4 @@
--- Each arm is one clause of the definition.
+-- `events::rules::busy_by` meets its contract: each arm is one clause of the definition.
 use Rattle.events.specs.Events.{busyBy}
 use borrow.Author.Needs.{needs}
 use Rattle.events.proofs.rules.busy_by.Statement.{statement}

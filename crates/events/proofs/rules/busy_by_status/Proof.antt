@@ -1,4 +1,4 @@
--- Each arm is one clause of the definition.
+-- `events::rules::busy_by_status` meets its contract: each arm is one clause of the definition.
 use Rattle.events.specs.Events.{busyByStatus}
 use borrow.Author.Needs.{needs}
 use Rattle.events.proofs.rules.busy_by_status.Statement.{statement}

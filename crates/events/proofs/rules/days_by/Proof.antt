@@ -1,4 +1,4 @@
--- Each arm is one clause of the definition.
+-- `events::rules::days_by` meets its contract: each arm is one clause of the definition.
 use Rattle.events.specs.Events.{daysBy}
 use borrow.Author.Needs.{needs}
 use Rattle.events.proofs.rules.days_by.Statement.{statement}

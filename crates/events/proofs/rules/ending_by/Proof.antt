@@ -1,4 +1,4 @@
--- Each arm is one clause of the definition.
+-- `events::rules::ending_by` meets its contract: each arm is one clause of the definition.
 use Rattle.events.specs.Events.{endingBy}
 use borrow.Author.Needs.{needs}
 use Rattle.events.proofs.rules.ending_by.Statement.{statement}

@@ -1,4 +1,4 @@
--- The test is that of the definition.
+-- `events::rules::event_by` meets its contract: the test is that of the definition.
 use Rattle.events.specs.Events.{eventBy}
 use borrow.Author.Needs.{needs}
 use Rattle.events.proofs.rules.event_by.Statement.{statement}

@@ -1,4 +1,4 @@
--- Each arm is one clause of the definition.
+-- `events::rules::event_from` meets its contract: each arm is one clause of the definition.
 use Rattle.events.specs.Events.{eventFrom}
 use borrow.Author.Needs.{needs}
 use Rattle.events.proofs.rules.event_from.Statement.{statement}

@@ -1,4 +1,4 @@
--- Each field is that of the definition.
+-- `events::rules::event_made` meets its contract: each field is that of the definition.
 use Rattle.events.specs.Events.{eventMade}
 use borrow.Author.Needs.{needs}
 use Rattle.events.proofs.rules.event_made.Statement.{statement}

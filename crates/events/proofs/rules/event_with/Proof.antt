@@ -1,4 +1,4 @@
--- Each arm is one clause of the definition.
+-- `events::rules::event_with` meets its contract: each arm is one clause of the definition.
 use Rattle.events.specs.Events.{eventWith}
 use borrow.Author.Needs.{needs}
 use Rattle.events.proofs.rules.event_with.Statement.{statement}

@@ -1,4 +1,4 @@
--- DATE is the kind of number 2.
+-- `events::rules::is_date` meets its contract: DATE is the kind of number 2.
 use Prim.Native.Nat.{ℕ}
 use mathlib.Core.Path.{ap, _∙_}
 use lib.Dec.{eqb}

@@ -1,4 +1,4 @@
--- Each arm is one clause of the definition.
+-- `events::rules::kind_number` meets its contract: each arm is one clause of the definition.
 use Rattle.events.specs.Events.{kindNumber}
 use borrow.Author.Needs.{needs}
 use Rattle.events.proofs.rules.kind_number.Statement.{statement}

@@ -1,4 +1,4 @@
--- Each arm is one clause of the definition.
+-- `events::rules::limit_by` meets its contract: each arm is one clause of the definition.
 use Rattle.events.specs.Events.{limitBy}
 use Rattle.events.proofs.Events.{until-not-before, until-before}
 use borrow.Author.Needs.{needs}

@@ -1,4 +1,4 @@
--- Kinds are the same where their numbers are.
+-- `events::rules::same_kind` meets its contract: kinds are the same where their numbers are.
 use Rattle.events.specs.Events.{sameKind}
 use borrow.Author.Needs.{needs}
 use Rattle.events.proofs.rules.same_kind.Statement.{statement}

@@ -1,4 +1,4 @@
--- The test is that of the definition.
+-- `events::rules::stated_duration` meets its contract: the test is that of the definition.
 use Rattle.events.specs.Events.{statedDuration}
 use mathlib.Core.Path.{sym}
 use borrow.Author.Needs.{needs}

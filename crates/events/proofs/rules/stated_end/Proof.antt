@@ -1,4 +1,4 @@
--- The test is that of the definition.
+-- `events::rules::stated_end` meets its contract: the test is that of the definition.
 use Rattle.events.proofs.Events.{end-later, end-not-later}
 use borrow.Author.Needs.{needs}
 use Rattle.events.proofs.rules.stated_end.Statement.{statement}

@@ -1,4 +1,4 @@
--- Each arm is the definition at its variant.
+-- `recurrence::instance::default_length` meets its contract: each arm is the definition at its variant.
 use Rattle.recurrence.specs.Instances.{defaultLength}
 use borrow.Author.Needs.{needs}
 use Rattle.recurrence.proofs.instance.default_length.Statement.{statement}

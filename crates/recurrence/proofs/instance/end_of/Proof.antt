@@ -1,4 +1,4 @@
--- The sum is the definition's own, and small.
+-- `recurrence::instance::end_of` meets its contract: the sum is the definition's own, and small.
 use Rattle.recurrence.specs.Instances.{endOf}
 use Rattle.recurrence.proofs.Instances.{start-small, length-small}
 use native.Mathlib.Omega.{arith}

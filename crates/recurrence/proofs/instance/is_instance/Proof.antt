@@ -1,4 +1,4 @@
--- The rule is asked at the start of k.
+-- `recurrence::instance::is_instance` meets its contract: the rule is asked at the start of k.
 use Rattle.recurrence.specs.Instances.{isInstance}
 use borrow.Author.Needs.{needs}
 use Rattle.recurrence.proofs.instance.is_instance.Statement.{statement}

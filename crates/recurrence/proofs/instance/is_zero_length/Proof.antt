@@ -1,4 +1,4 @@
--- The test is the definition's own.
+-- `recurrence::instance::is_zero_length` meets its contract: the test is the definition's own.
 use Rattle.recurrence.specs.Instances.{isZeroLength}
 use borrow.Author.Needs.{needs}
 use Rattle.recurrence.proofs.instance.is_zero_length.Statement.{statement}

@@ -1,4 +1,4 @@
--- Each arm is the definition at its variant; an end is later than the start, and a duration small.
+-- `recurrence::instance::length_of` meets its contract: each arm is the definition at its variant; an end is later than the start, and a duration small.
 use Rattle.recurrence.proofs.Instances.{ends-by, lasts-by}
 use Rattle.recurrence.specs.Instances.{lengthBy}
 use native.Mathlib.Omega.{arith}

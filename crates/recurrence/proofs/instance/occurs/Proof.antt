@@ -1,4 +1,4 @@
--- What stands is what the rule has.
+-- `recurrence::instance::occurs` meets its contract: what stands is what the rule has.
 use Rattle.recurrence.specs.Instances.{occurs}
 use borrow.Author.Needs.{needs}
 use Rattle.recurrence.proofs.instance.occurs.Statement.{statement}

@@ -1,4 +1,4 @@
--- Each arm is the definition at its variant.
+-- `recurrence::instance::repeats` meets its contract: each arm is the definition at its variant.
 use Rattle.recurrence.specs.Instances.{repeats}
 use borrow.Author.Needs.{needs}
 use Rattle.recurrence.proofs.instance.repeats.Statement.{statement}

@@ -1,4 +1,4 @@
--- The sum is the definition's own, and small.
+-- `recurrence::instance::start_of` meets its contract: the sum is the definition's own, and small.
 use Rattle.recurrence.specs.Instances.{startOf}
 use Rattle.recurrence.proofs.Instances.{steps-small}
 use native.Mathlib.Omega.{arith}

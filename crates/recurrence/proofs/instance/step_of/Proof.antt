@@ -1,4 +1,4 @@
--- The product is the definition's own, and small.
+-- `recurrence::instance::step_of` meets its contract: the product is the definition's own, and small.
 use Rattle.recurrence.specs.Instances.{stepOf}
 use Rattle.recurrence.proofs.Instances.{days-small}
 use mathlib.Core.Path.{refl}

@@ -1,4 +1,4 @@
--- The definition is that of touching.
+-- `recurrence::time_range::between_in` meets its contract: the definition is that of an event between two seconds.
 use Rattle.recurrence.specs.TimeRange.{betweenIn}
 use borrow.Author.Needs.{needs}
 use Rattle.recurrence.proofs.time_range.between_in.Statement.{statement}

@@ -1,4 +1,4 @@
--- Each branch is the definition's own test.
+-- `recurrence::time_range::ends_after` meets its contract: each branch is the definition's own test.
 use mathlib.Core.Path.{sym, _∙_}
 use Rattle.recurrence.specs.TimeRange.{endsAfter}
 use borrow.Author.Needs.{needs}

@@ -1,4 +1,4 @@
--- Each branch is the definition's own.
+-- `recurrence::time_range::first_at` meets its contract: each branch is the definition's own.
 use Prim.Native.Nat.{_+_, _-_}
 use native.Mathlib.Nat.{div-le-self}
 use borrow.Author.Tests.{lt-ltb, le-ltb}

@@ -1,4 +1,4 @@
--- The division finds where the search starts.
+-- `recurrence::time_range::first_candidate` meets its contract: the division finds where the search starts.
 use Rattle.recurrence.proofs.Candidates.{first-is-candidate, span-small}
 use Rattle.recurrence.proofs.Instances.{step-long}
 use Prim.Native.Nat.{ℕ}

@@ -1,4 +1,4 @@
--- The three tests are the definition's own.
+-- `recurrence::time_range::instance_in` meets its contract: the three tests are the definition's own.
 use Rattle.recurrence.specs.TimeRange.{instanceIn}
 use borrow.Author.Needs.{needs}
 use Rattle.recurrence.proofs.time_range.instance_in.Statement.{statement}

@@ -1,4 +1,4 @@
--- Each branch is the definition's own test.
+-- `recurrence::time_range::overlaps` meets its contract: each branch is the definition's own test.
 use borrow.Author.Tests.{eq-eqb, ne-eqb}
 use Rattle.recurrence.specs.TimeRange.{overlaps}
 use Rattle.recurrence.proofs.time_range.overlaps.Statement.{statement}

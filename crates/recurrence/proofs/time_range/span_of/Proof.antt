@@ -1,4 +1,4 @@
--- Each branch is the definition's own.
+-- `recurrence::time_range::span_of` meets its contract: each branch is the definition's own.
 use mathlib.Core.Path.{sym, _∙_}
 use Rattle.recurrence.specs.Candidates.{spanOf}
 use borrow.Author.Needs.{needs}

@@ -1,4 +1,4 @@
--- The test tells whether the search goes on.
+-- `recurrence::time_range::starts_before` meets its contract: the test tells whether the search goes on.
 use Rattle.recurrence.proofs.Candidates.{more-by}
 use borrow.Author.Needs.{needs}
 use Rattle.recurrence.proofs.time_range.starts_before.Statement.{statement}

@@ -33,7 +33,11 @@ same-length c = search needs
 
 returns : tie.Need-returns
 unfolding closing
-returns c = put-report _ _ _ _ (c .before .before .before .before .before .before .before .before .before .before .before .put-opening .ensures) (c .before .before .before .before .before .before .before .put-types .ensures) (c .before .before .put-bytes .ensures)
+returns c =
+    let put-opening = c .before .before .before .before .before .before .before .before .before .before .before .put-opening .ensures in
+    let put-types = c .before .before .before .before .before .before .before .put-types .ensures in
+    let put-bytes = c .before .before .put-bytes .ensures in
+    put-report _ _ _ _ put-opening put-types put-bytes
 
 pub put-report-spec : {M : Type 1} → statement M
 put-report-spec =

@@ -52,7 +52,11 @@ same-length c = search needs
 
 returns : tie.Need-returns
 unfolding periodHead packed
-returns c = put-types (packed _ _ _ _ _) (c .before .before .before .before .before .before .before .before .before .before .before .before .put-table .ensures) (c .before .before .before .before .before .before .before .put-table2 .ensures) (c .before .before .put-table3 .ensures)
+returns c =
+    let put-table = c .before .before .before .before .before .before .before .before .before .before .before .before .put-table .ensures in
+    let put-table2 = c .before .before .before .before .before .before .before .put-table2 .ensures in
+    let put-table3 = c .before .before .put-table3 .ensures in
+    put-types (packed _ _ _ _ _) put-table put-table2 put-table3
 
 pub put-types-spec : {M : Type 1} → statement M
 put-types-spec =
