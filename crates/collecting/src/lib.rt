@@ -1,7 +1,9 @@
 // Refusals 1 to 3 and 6 to 11 of a report, then its period tables: what a report is written from.
 // Nothing is written but the work buffer and the columns of the tables.
 use calendar::Fault;
+use nesting::Structure;
 use refusals::OffsetRead;
+use structure::Found;
 use time::limits;
 use values::times::Context;
 ghost use mathlib.Core.Path.{_≡_};
@@ -13,6 +15,7 @@ ghost use Rattle.time.specs.Limits.{lastSecond};
 ghost use Rattle.collecting.specs.Collecting.{Collects};
 ghost use Rattle.collecting.specs.CollectStages.{callRead, noTables, Typed, ContentsTabled, CalendarTabled, CalendarCollected};
 ghost use Rattle.structure.specs.Rows.{FileRows};
+ghost use Rattle.structure.specs.Reading.{StructureRead};
 
 // The first refusal or none, and how many periods of each busy type stand in the columns, one type behind the other.
 pub struct Collected {
@@ -131,7 +134,31 @@ fn collect_contents(
     )
 }
 
-// Refusals 6 to 11, then the tables: the lines stand in this index.
+// Refusals 6 to 11, then the tables, where this was read of lines and nesting.
+fn collect_structured(
+    starts: &mut [u32],
+    ends: &mut [u32],
+    structure: Structure,
+    s: &[u8],
+    index: &[u32],
+    rows: &[u32],
+    c: Context,
+    start: u64,
+    end: u64,
+) -> Collected
+    requires { ⌜ (length (now starts) ≡ 512) × (length (now ends) ≡ 512) ⌝ }
+    requires { ⌜ StructureRead (now s) (now index) (now rows) structure ⌝ }
+    requires { ⌜ ContextGood c ⌝ }
+    requires { ⌜ (start < end) × (end ≤ lastSecond) ⌝ }
+    ensures { λ r. ⌜ CalendarTabled c (now (s .entry)) start end r (now (starts .exit)) (now (ends .exit)) ⌝ }
+{
+    match calendar::faults::structure_fault(structure) {
+        Fault::At(k, line) => refused(Fault::At(k, line)),
+        Fault::None => collect_contents(starts, ends, s, index, rows, c, start, end),
+    }
+}
+
+// The same: the lines stand in this index, which has room for them.
 fn collect_indexed(
     starts: &mut [u32],
     ends: &mut [u32],
@@ -150,10 +177,7 @@ fn collect_indexed(
 {
     let mut rows = [0u32; 1024];
     let structure = structure::read_structure(index, &mut rows, s);
-    match calendar::faults::structure_fault(structure) {
-        Fault::At(k, line) => refused(Fault::At(k, line)),
-        Fault::None => collect_contents(starts, ends, s, index, &rows, c, start, end),
-    }
+    collect_structured(starts, ends, structure, s, index, &rows, c, start, end)
 }
 
 // An index is cleared before it is filled, so a short calendar gets a short one.
@@ -175,7 +199,8 @@ fn collect_short(
     collect_indexed(starts, ends, &mut index, s, c, start, end)
 }
 
-fn collect_long(
+// This one has room for the lines of any calendar.
+fn collect_longest(
     starts: &mut [u32],
     ends: &mut [u32],
     s: &[u8],
@@ -191,6 +216,39 @@ fn collect_long(
 {
     let mut index = [0u32; 16385];
     collect_indexed(starts, ends, &mut index, s, c, start, end)
+}
+
+// Few calendars have more than 4,096 lines; those that do are read anew with the longest index.
+fn collect_long(
+    starts: &mut [u32],
+    ends: &mut [u32],
+    s: &[u8],
+    c: Context,
+    start: u64,
+    end: u64,
+) -> Collected
+    requires { ⌜ (length (now starts) ≡ 512) × (length (now ends) ≡ 512) ⌝ }
+    requires { ⌜ length (now s) ≤ 65536 ⌝ }
+    requires { ⌜ ContextGood c ⌝ }
+    requires { ⌜ (start < end) × (end ≤ lastSecond) ⌝ }
+    ensures { λ r. ⌜ CalendarTabled c (now (s .entry)) start end r (now (starts .exit)) (now (ends .exit)) ⌝ }
+{
+    let mut index = [0u32; 4097];
+    let mut rows = [0u32; 1024];
+    match structure::find_structure(&mut index, &mut rows, s) {
+        Found::Of(found) => collect_structured(
+            starts,
+            ends,
+            found,
+            s,
+            &index,
+            &rows,
+            c,
+            start,
+            end,
+        ),
+        Found::Full => collect_longest(starts, ends, s, c, start, end),
+    }
 }
 
 // Refusals 6 to 11 of the unfolded calendar, then the tables.

@@ -2,8 +2,10 @@
 // The query is read before the calendar, as the table has it.
 use crate::Answer;
 use calendar::Fault;
+use nesting::Structure;
 use query::Sections;
 use query_check::QueryRead;
+use structure::Found;
 use values::times::Context;
 ghost use mathlib.Core.Path.{_≡_};
 ghost use mathlib.Core.Bool.{true};
@@ -11,6 +13,7 @@ ghost use Prim.Native.Nat.{_*_, _≤_, _<_};
 ghost use lib.ListN.{length};
 ghost use Rattle.values.specs.Times.{ContextGood};
 ghost use Rattle.structure.specs.Rows.{FileRows};
+ghost use Rattle.structure.specs.Reading.{StructureRead};
 ghost use Rattle.query.specs.Fits.{Fits};
 ghost use Rattle.query_check.specs.WellFormed.{recordsGood};
 ghost use Rattle.engine.specs.Answers.{outcomeOf};
@@ -44,7 +47,29 @@ fn match_contents(
     }
 }
 
-// Refusals 6 to 10, then the filter: the lines stand in this index.
+// Refusals 6 to 10, then the filter, where this was read of lines and nesting.
+fn match_structured(
+    structure: Structure,
+    s: &[u8],
+    index: &[u32],
+    rows: &[u32],
+    query: &[u8],
+    q: Sections,
+    c: Context,
+) -> Answer
+    requires { ⌜ StructureRead (now s) (now index) (now rows) structure ⌝ }
+    requires { ⌜ Fits (now query) q ⌝ }
+    requires { ⌜ recordsGood (now query) q ≡ true ⌝ }
+    requires { ⌜ ContextGood c ⌝ }
+    ensures { λ r. ⌜ outcomeOf r ≡ unfoldedOutcome c (now (s .entry)) (now (query .entry)) q ⌝ }
+{
+    match calendar::faults::structure_fault(structure) {
+        Fault::At(k, line) => Answer::Refused(k),
+        Fault::None => match_contents(s, index, rows, query, q, c),
+    }
+}
+
+// The same: the lines stand in this index, which has room for them.
 fn match_indexed(index: &mut [u32], s: &[u8], query: &[u8], q: Sections, c: Context) -> Answer
     requires { ⌜ length (now s) < 4 * length (now index) ⌝ }
     requires { ⌜ length (now s) ≤ 65536 ⌝ }
@@ -55,10 +80,7 @@ fn match_indexed(index: &mut [u32], s: &[u8], query: &[u8], q: Sections, c: Cont
 {
     let mut rows = [0u32; 1024];
     let structure = structure::read_structure(index, &mut rows, s);
-    match calendar::faults::structure_fault(structure) {
-        Fault::At(k, line) => Answer::Refused(k),
-        Fault::None => match_contents(s, index, &rows, query, q, c),
-    }
+    match_structured(structure, s, index, &rows, query, q, c)
 }
 
 // An index is cleared before it is filled, so a short calendar gets a short one.
@@ -73,7 +95,8 @@ fn match_short(s: &[u8], query: &[u8], q: Sections, c: Context) -> Answer
     match_indexed(&mut index, s, query, q, c)
 }
 
-fn match_long(s: &[u8], query: &[u8], q: Sections, c: Context) -> Answer
+// This one has room for the lines of any calendar.
+fn match_longest(s: &[u8], query: &[u8], q: Sections, c: Context) -> Answer
     requires { ⌜ length (now s) ≤ 65536 ⌝ }
     requires { ⌜ Fits (now query) q ⌝ }
     requires { ⌜ recordsGood (now query) q ≡ true ⌝ }
@@ -82,6 +105,22 @@ fn match_long(s: &[u8], query: &[u8], q: Sections, c: Context) -> Answer
 {
     let mut index = [0u32; 16385];
     match_indexed(&mut index, s, query, q, c)
+}
+
+// Few calendars have more than 4,096 lines; those that do are read anew with the longest index.
+fn match_long(s: &[u8], query: &[u8], q: Sections, c: Context) -> Answer
+    requires { ⌜ length (now s) ≤ 65536 ⌝ }
+    requires { ⌜ Fits (now query) q ⌝ }
+    requires { ⌜ recordsGood (now query) q ≡ true ⌝ }
+    requires { ⌜ ContextGood c ⌝ }
+    ensures { λ r. ⌜ outcomeOf r ≡ unfoldedOutcome c (now (s .entry)) (now (query .entry)) q ⌝ }
+{
+    let mut index = [0u32; 4097];
+    let mut rows = [0u32; 1024];
+    match structure::find_structure(&mut index, &mut rows, s) {
+        Found::Of(found) => match_structured(found, s, &index, &rows, query, q, c),
+        Found::Full => match_longest(s, query, q, c),
+    }
 }
 
 // Refusals 6 to 10 of the unfolded calendar, then the filter.

@@ -46,7 +46,7 @@ well-formed-two l e = scan-two l (and-right (leb (length l) 1024) _ e)
 -- what the walk keeps: the next line starts at `at`, and the first n lines are known as soon as entry n says so
 pub record Filling (s index : List ℕ) (size n at : ℕ) : Type 0 where
   pub long : length index ≡ size
-  pub room : length s < 4 * size
+  pub room : n < size
   pub short : length s ≤ 65536
   pub checked : Checked s (n + 1) at
   pub fours : 4 * n ≤ at
@@ -54,7 +54,7 @@ pub record Filling (s index : List ℕ) (size n at : ℕ) : Type 0 where
   pub few : n ≤ length (contentLines s)
   pub entries : (v : ℕ) → startIn v ≡ at → (i : ℕ) → i < n → Entry s (set index n v) i
 
-pub filling-start : (s index : List ℕ) → length s < 4 * length index → length s ≤ 65536 → Filling s index (length index) 0 0
+pub filling-start : (s index : List ℕ) → 1 ≤ length index → length s ≤ 65536 → Filling s index (length index) 0 0
 filling-start s index h k =
     record {
       long = refl;
@@ -129,7 +129,7 @@ getD-first n ls l r e = simp add-zero at (sym (getD-drop n ls 0 [])) ∙ ap (λ 
 
 module _ {s index : List ℕ} {size n at : ℕ} (k : Filling s index size n at) where
   pub filling-inside : n < length index
-  filling-inside = omega (arith, k .long, k .room, k .fours, k .checked .inside)
+  filling-inside = omega (arith, k .long, k .room)
 
   module _ {e m : ℕ} (h : NamedLineAt s at e m) where
     name-small : m ≤ 1024
@@ -142,42 +142,46 @@ module _ {s index : List ℕ} {size n at : ℕ} (k : Filling s index size n at) 
     pub filling-more : 4 * (n + 1) ≤ e + 2
     filling-more = omega (arith, k .fours, good-long (h .good))
 
+    -- an index that has no room for the next entry has too few for the bytes
+    pub filling-full : length index ≤ n + 1 → 4 * length index ≤ length s
+    filling-full l = omega (arith, filling-more, h .good .line .inside)
+
     this-line : part s at e ≡ lineBytes s n
     unfolding lineBytes
     this-line = sym (getD-first n (contentLines s) _ _ (sym (k .place) ∙ lines-at (h .good .line)))
 
-    this-entry : (v : ℕ) → startIn v ≡ e + 2 → Entry s (set (set index n (at + m * 131072)) (n + 1) v) n
-    this-entry v q =
+    this-entry : n + 1 < length index → (v : ℕ) → startIn v ≡ e + 2 → Entry s (set (set index n (at + m * 131072)) (n + 1) v) n
+    this-entry r v q =
         let w : ℕ = at + m * 131072 in
         let a : at < 131072 = omega (arith, k .short, k .checked .inside) in
-        let l : n + 1 < length (set index n w) = omega (arith, length-set index n w, k .long, k .room, filling-more, h .good .line .inside) in
+        let l : n + 1 < length (set index n w) = omega (arith, length-set index n w, r) in
         entry-of
         (getD-set-other (set index n w) (n + 1) n v 0 (λ z. omega arith) ∙ getD-set-same index n w 0 filling-inside)
         (getD-set-same (set index n w) (n + 1) v 0 l)
         (rw (start-of at m a, q) (between-at (h .good) (k .place)))
         (name-of at m a ∙ h .name ∙ ap (λ (x : List ℕ). length (nameOf x)) this-line)
 
-    entry-next : (v : ℕ) → startIn v ≡ e + 2 → (i : ℕ) → i < n + 1 → Entry s (set (set index n (at + m * 131072)) (n + 1) v) i
-    entry-next v q i l = go (ltb i n) refl
+    entry-next : n + 1 < length index → (v : ℕ) → startIn v ≡ e + 2 → (i : ℕ) → i < n + 1 → Entry s (set (set index n (at + m * 131072)) (n + 1) v) i
+    entry-next r v q i l = go (ltb i n) refl
       where
         a : at < 131072
         a = omega (arith, k .short, k .checked .inside)
 
         go : (t : Bool) → ltb i n ≡ t → Entry s (set (set index n (at + m * 131072)) (n + 1) v) i
         go true z = kept (n + 1) v (omega (arith, ltb-true)) (k .entries (at + m * 131072) (start-of at m a) i (omega (arith, ltb-true)))
-        go false z = let j : i ≡ n = omega (arith, ltb-false) in rw j (this-entry v q)
+        go false z = let j : i ≡ n = omega (arith, ltb-false) in rw j (this-entry r v q)
 
-    pub filling-next : Filling s (set index n (at + m * 131072)) size (n + 1) (e + 2)
-    filling-next =
+    pub filling-next : n + 1 < length index → Filling s (set index n (at + m * 131072)) size (n + 1) (e + 2)
+    filling-next r =
         record {
           long = length-set index n (at + m * 131072) ∙ k .long;
-          room = k .room;
+          room = omega (arith, r, k .long);
           short = k .short;
           checked = checked-next (k .checked) (h .good);
           fours = filling-more;
           place = sym (drop-tail n (contentLines s) _ _ (sym (k .place) ∙ lines-at (h .good .line)));
           few = omega (arith, some-more n (contentLines s) _ _ (sym (k .place) ∙ lines-at (h .good .line)));
-          entries = entry-next;
+          entries = entry-next r;
         }
 
   pub filling-bad : BadLineAt s at → FilledBy s index (Filled.BadLine (n + 1))
@@ -264,3 +268,7 @@ name-read index i p = ap (λ (v : ℕ). v / 131072) p
 pub filled-lines : {s index : List ℕ} {r : Filled} (n : ℕ) → FilledBy s index r → r ≡ Filled.Lines n → Lines s index n
 unfolding FilledBy
 filled-lines {s} {index} n h q = subst (FilledBy s index) q h
+
+pub filled-full : (s index : List ℕ) {r : Filled} → FilledBy s index r → r ≡ Filled.Full → 4 * length index ≤ length s
+unfolding FilledBy
+filled-full s index h q = subst (FilledBy s index) q h

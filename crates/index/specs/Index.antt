@@ -49,3 +49,4 @@ pub record Lines (s index : List ℕ) (n : ℕ) : Type 0 where
 unfoldable pub FilledBy : List ℕ → List ℕ → Filled → Type 0
 FilledBy s index (Filled.Lines n) = Lines s index n
 FilledBy s index (Filled.BadLine k) = badLine k ≡ lineCheck s
+FilledBy s index Filled.Full = 4 * length index ≤ length s

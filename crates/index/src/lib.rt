@@ -14,6 +14,8 @@ pub enum Filled {
     Lines(usize),
     // The first badly formed line, counted from 1.
     BadLine(usize),
+    // There are more lines than the index has room for.
+    Full,
 }
 
 fn wide(x: u32) -> usize
@@ -23,9 +25,9 @@ fn wide(x: u32) -> usize
 }
 
 // Entry i is where line i starts, counted from 0, and the length of its name in units of 131,072; behind the last line stands the length of the file.
-// A line has four bytes or more with its CR LF.
+// A line has four bytes or more with its CR LF, so an index of more than a quarter of the bytes is never full.
 pub fn fill_index(index: &mut [u32], s: &[u8]) -> Filled
-    requires { ⌜ length (now s) < 4 * length (now index) ⌝ }
+    requires { ⌜ 1 ≤ length (now index) ⌝ }
     requires { ⌜ length (now s) ≤ 65536 ⌝ }
     ensures { λ r. ⌜ FilledBy (now (s .entry)) (now (index .exit)) r ⌝ }
 {
@@ -34,9 +36,13 @@ pub fn fill_index(index: &mut [u32], s: &[u8]) -> Filled
     loop {
         match line::check::next_good(s, at) {
             Next::Line(e, name) => {
+                let next = n + 1;
+                if index.len() <= next {
+                    return Filled::Full;
+                }
                 index[n] = (at + name * 131072) as u32;
                 at = e + 2;
-                n += 1;
+                n = next;
             }
             Next::Bad => return Filled::BadLine(n + 1),
             Next::End => {

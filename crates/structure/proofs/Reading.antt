@@ -27,7 +27,8 @@ use Rattle.nesting.proofs.NestingLaws.{walk-numbered, stays-broken, after-close
 use Rattle.index.specs.Index.{lineBytes, Entry, Lines, FilledBy}
 use Rattle.index.specs.declared.Filled.{Filled}
 use Rattle.structure.specs.Rows.{kindOf, linesAfter, delimitedBy, itemsBy, RowPut, RowAt, LineIs, ItemRows, nothing, with-property, with-component}
-use Rattle.structure.specs.Reading.{Ready, Walks, Closes, Breaks, ClosesTo, StructureRead}
+use Rattle.structure.specs.Reading.{Ready, Walks, Closes, Breaks, ClosesTo, StructureRead, FoundBy}
+use Rattle.structure.specs.declared.Found.{Found}
 use Rattle.structure.specs.declared.Closed.{Closed}
 use Rattle.structure.specs.declared.Closed.the-variants.{At, Broken}
 use Rattle.structure.proofs.RowsLaws.{rows-lines, rows-rise, rows-then, rows-kept, one-after}
@@ -471,3 +472,14 @@ module _ {s index v : List ℕ} {n : ℕ} {a : Lines s index n} (x : Begun a v) 
               some = omega (arith, y, rows-rise (z .walks .items));
             };
       }
+
+-- ---- what a caller learns of an index that may be too short
+
+module _ (s index rows : List ℕ) {r : Found} (h : FoundBy s index rows r) where
+  pub found-structure : {x : Structure} → r ≡ Found.Of x → StructureRead s index rows x
+  unfolding FoundBy
+  found-structure q = subst (FoundBy s index rows) q h
+
+  pub found-full : r ≡ Found.Full → 4 * length index ≤ length s
+  unfolding FoundBy
+  found-full q = subst (FoundBy s index rows) q h

@@ -11,6 +11,8 @@ use Rattle.nesting.specs.declared.Structure.{Structure}
 use Rattle.index.specs.Index.{Lines}
 use Rattle.structure.specs.Rows.{linesAfter, LineIs, ItemRows, FileRows}
 use Rattle.structure.specs.declared.Closed.{Closed}
+use Rattle.structure.specs.declared.Found.{Found}
+use Rattle.structure.specs.declared.Found.the-variants.{Of, Full}
 use Rattle.structure.specs.declared.Closed.the-variants.{At, Broken}
 
 -- the walk stands at line `first`, and `begun` components have begun
@@ -50,3 +52,8 @@ ClosesTo s name old new n first begun left (Broken b) = Breaks s name first begu
 pub record StructureRead (s index rows : List ℕ) (r : Structure) : Type 0 where
   pub structure-is : r ≡ structureBy (lineCheck s) (nestingIn s)
   pub known : r ≡ Structure.Good → FileRows s index rows
+
+-- the same with an index that may be too short, and then has room for too few bytes
+unfoldable pub FoundBy : List ℕ → List ℕ → List ℕ → Found → Type 0
+FoundBy s index rows (Of x) = StructureRead s index rows x
+FoundBy s index rows Full = 4 * length index ≤ length s

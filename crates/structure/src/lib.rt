@@ -10,7 +10,15 @@ ghost use mathlib.Core.Path.{_≡_};
 ghost use Prim.Native.Nat.{_*_, _≤_, _<_};
 ghost use lib.ListN.{length};
 ghost use Rattle.index.specs.Index.{Lines};
-ghost use Rattle.structure.specs.Reading.{Ready, ClosesTo, StructureRead};
+ghost use Rattle.structure.specs.Reading.{Ready, ClosesTo, StructureRead, FoundBy};
+
+// What looking for the structure answers.
+pub enum Found {
+    // Whether lines and nesting are right.
+    Of(Structure),
+    // There are more lines than the index has room for.
+    Full,
+}
 
 // Where a component has ended.
 enum Closed {
@@ -93,15 +101,29 @@ fn read_rows(rows: &mut [u32], s: &[u8], index: &[u32], n: usize) -> Structure
     }
 }
 
-// Is each line well formed and the nesting right? If so index and rows know the file.
+// Is each line well formed and the nesting right? If so index and rows know the file; an index may be too short for its lines.
+pub fn find_structure(index: &mut [u32], rows: &mut [u32], s: &[u8]) -> Found
+    requires { ⌜ 1 ≤ length (now index) ⌝ }
+    requires { ⌜ length (now s) ≤ 65536 ⌝ }
+    requires { ⌜ length (now rows) ≡ 1024 ⌝ }
+    ensures { λ r. ⌜ FoundBy (now (s .entry)) (now (index .exit)) (now (rows .exit)) r ⌝ }
+{
+    match index::fill_index(index, s) {
+        Filled::Lines(n) => Found::Of(read_rows(rows, s, index, n)),
+        Filled::BadLine(b) => Found::Of(Structure::BadLine(b)),
+        Filled::Full => Found::Full,
+    }
+}
+
+// The same with an index of more than a quarter of the bytes, which is never too short.
 pub fn read_structure(index: &mut [u32], rows: &mut [u32], s: &[u8]) -> Structure
     requires { ⌜ length (now s) < 4 * length (now index) ⌝ }
     requires { ⌜ length (now s) ≤ 65536 ⌝ }
     requires { ⌜ length (now rows) ≡ 1024 ⌝ }
     ensures { λ r. ⌜ StructureRead (now (s .entry)) (now (index .exit)) (now (rows .exit)) r ⌝ }
 {
-    match index::fill_index(index, s) {
-        Filled::Lines(n) => read_rows(rows, s, index, n),
-        Filled::BadLine(b) => Structure::BadLine(b),
+    match find_structure(index, rows, s) {
+        Found::Of(structure) => structure,
+        Found::Full => Structure::BadLine(0),
     }
 }

@@ -114,6 +114,7 @@ fn show_check(s: &[u8])
             print(b" bad line ");
             print_number(n as u64);
         }
+        Filled::Full => print(b" too many lines"),
     }
 }
 

@@ -2,7 +2,8 @@
 use Prim.Native.Nat.{_-_}
 use lib.ListN.{length, length-set}
 use Rattle.line.proofs.WellFormed.{named-line, bad-line, no-line}
-use Rattle.index.proofs.Index.{Filling, filling-start, filling-inside, filling-fits, filling-next, filling-bad, filling-end}
+use Rattle.index.specs.Index.{FilledBy}
+use Rattle.index.proofs.Index.{Filling, filling-start, filling-inside, filling-fits, filling-full, filling-next, filling-bad, filling-end}
 use native.Mathlib.Omega.{arith}
 use borrow.Author.Needs.{needs}
 use Rattle.index.proofs.fill_index.Statement.{statement}
@@ -23,44 +24,75 @@ next-good-requires c κs = search needs
 enum-known-e : tie.Need-enum-known-e Inv-loop μ-loop
 enum-known-e c = search needs
 
+add-next : tie.Need-add-next Inv-loop μ-loop
+add-next c = omega (arith, filling-inside (c .before .before .before .before .loop .inv))
+
+same-length : tie.Need-same-length Inv-loop μ-loop
+same-length c = c .before .before .before .before .before .loop .inv .long
+
+returns : tie.Need-returns Inv-loop μ-loop
+unfolding FilledBy
+returns c =
+    let so-far = c .before .before .before .before .before .loop .inv in
+    let next-good = c .before .before .before .before .next-good .ensures in
+    let e-told = c .before .before .e .given .1 in
+    filling-full so-far (named-line _ _ next-good e-told) (omega (arith, c .if1 .taken))
+
 mul-index : tie.Need-mul-index Inv-loop μ-loop
-mul-index c = omega (arith, filling-fits (c .before .before .before .before .loop .inv) (named-line _ _ (c .before .before .before .next-good .ensures) (c .before .e .given .1)))
+mul-index c =
+    let so-far = c .before .before .before .before .before .loop .inv in
+    let next-good = c .before .before .before .before .next-good .ensures in
+    let e-told = c .before .before .e .given .1 in
+    omega (arith, filling-fits so-far (named-line _ _ next-good e-told))
 
 add-index : tie.Need-add-index Inv-loop μ-loop
-add-index c = omega (arith, filling-fits (c .before .before .before .before .loop .inv) (named-line _ _ (c .before .before .before .next-good .ensures) (c .before .e .given .1)))
+add-index c =
+    let so-far = c .before .before .before .before .before .loop .inv in
+    let next-good = c .before .before .before .before .next-good .ensures in
+    let e-told = c .before .before .e .given .1 in
+    omega (arith, filling-fits so-far (named-line _ _ next-good e-told))
 
 cast-index : tie.Need-cast-index Inv-loop μ-loop
-cast-index c = omega (arith, filling-fits (c .before .before .before .before .loop .inv) (named-line _ _ (c .before .before .before .next-good .ensures) (c .before .e .given .1)))
+cast-index c =
+    let so-far = c .before .before .before .before .before .loop .inv in
+    let next-good = c .before .before .before .before .next-good .ensures in
+    let e-told = c .before .before .e .given .1 in
+    omega (arith, filling-fits so-far (named-line _ _ next-good e-told))
 
 mul-index-2 : tie.Need-mul-index-2 Inv-loop μ-loop
-mul-index-2 c = omega (arith, filling-inside (c .before .before .before .before .loop .inv))
+mul-index-2 c = omega (arith, filling-inside (c .before .before .before .before .before .loop .inv))
 
 slice-write-index : tie.Need-slice-write-index Inv-loop μ-loop
-slice-write-index c = filling-inside (c .before .before .before .before .loop .inv)
+slice-write-index c = filling-inside (c .before .before .before .before .before .loop .inv)
 
 add-at : tie.Need-add-at Inv-loop μ-loop
-add-at c = let h = named-line _ _ (c .before .before .before .next-good .ensures) (c .before .e .given .1) in omega (arith, h .good .line .inside)
-
-add-n : tie.Need-add-n Inv-loop μ-loop
-add-n c = omega (arith, filling-inside (c .before .before .before .before .loop .inv))
+add-at c =
+    let line = named-line _ _ (c .before .before .before .before .next-good .ensures) (c .before .before .e .given .1) in
+    omega (arith, line .good .line .inside)
 
 loop-less : tie.Need-loop-less Inv-loop μ-loop
-loop-less c = let h = named-line _ _ (c .before .before .before .next-good .ensures) (c .before .e .given .1) in omega (arith, h .good .line .inside, h .good .line .starts)
+loop-less c =
+    let line = named-line _ _ (c .before .before .before .before .next-good .ensures) (c .before .before .e .given .1) in
+    omega (arith, line .good .line .inside, line .good .line .starts)
 
 loop-again : tie.Need-loop-again Inv-loop μ-loop
-loop-again c = filling-next (c .before .before .before .before .loop .inv) (named-line _ _ (c .before .before .before .next-good .ensures) (c .before .e .given .1))
+loop-again c =
+    let so-far = c .before .before .before .before .before .loop .inv in
+    let next-good = c .before .before .before .before .next-good .ensures in
+    let e-told = c .before .before .e .given .1 in
+    filling-next so-far (named-line _ _ next-good e-told) (omega (arith, c .if1 .left))
 
 enum-told : tie.Need-enum-told Inv-loop μ-loop
 enum-told c = search needs
 
-add-t13 : tie.Need-add-t13 Inv-loop μ-loop
-add-t13 c = omega (arith, filling-inside (c .before .before .before .loop .inv))
+add-t15 : tie.Need-add-t15 Inv-loop μ-loop
+add-t15 c = omega (arith, filling-inside (c .before .before .before .loop .inv))
 
-same-length : tie.Need-same-length Inv-loop μ-loop
-same-length c = c .before .before .before .loop .inv .long
+same-length-2 : tie.Need-same-length-2 Inv-loop μ-loop
+same-length-2 c = c .before .before .before .loop .inv .long
 
-returns : tie.Need-returns Inv-loop μ-loop
-returns c = filling-bad (c .before .before .before .loop .inv) (bad-line (c .before .before .next-good .ensures) (c .enum-told .given .1))
+returns-2 : tie.Need-returns-2 Inv-loop μ-loop
+returns-2 c = filling-bad (c .before .before .before .loop .inv) (bad-line (c .before .before .next-good .ensures) (c .enum-told .given .1))
 
 enum-told-2 : tie.Need-enum-told-2 Inv-loop μ-loop
 enum-told-2 c = search needs
@@ -74,11 +106,11 @@ mul-index-3 c = omega (arith, filling-inside (c .before .before .before .loop .i
 slice-write-index-2 : tie.Need-slice-write-index-2 Inv-loop μ-loop
 slice-write-index-2 c = filling-inside (c .before .before .before .loop .inv)
 
-same-length-2 : tie.Need-same-length-2 Inv-loop μ-loop
-same-length-2 c = simp length-set (c .before .before .before .loop .inv .long)
+same-length-3 : tie.Need-same-length-3 Inv-loop μ-loop
+same-length-3 c = simp length-set (c .before .before .before .loop .inv .long)
 
-returns-2 : tie.Need-returns-2 Inv-loop μ-loop
-returns-2 c = filling-end (c .before .before .before .loop .inv) (no-line (c .before .before .next-good .ensures) (c .enum-told2 .given .1))
+returns-3 : tie.Need-returns-3 Inv-loop μ-loop
+returns-3 c = filling-end (c .before .before .before .loop .inv) (no-line (c .before .before .next-good .ensures) (c .enum-told2 .given .1))
 
 pub fill-index-spec : {M : Type 1} → statement M
 fill-index-spec =
@@ -89,22 +121,24 @@ fill-index-spec =
     loop-holds
     next-good-requires
     enum-known-e
+    add-next
+    same-length
+    returns
     mul-index
     add-index
     cast-index
     mul-index-2
     slice-write-index
     add-at
-    add-n
     loop-less
     loop-again
     enum-told
-    add-t13
-    same-length
-    returns
+    add-t15
+    same-length-2
+    returns-2
     enum-told-2
     cast-index-2
     mul-index-3
     slice-write-index-2
-    same-length-2
-    returns-2)
+    same-length-3
+    returns-3)
