@@ -1,4 +1,4 @@
-/* One calendar, one report and one match from C. */
+/* One calendar, one match and one report from C, and a calendar that is refused. */
 #include <stdio.h>
 #include <string.h>
 
@@ -22,8 +22,13 @@ int main(void) {
                             sizeof work, out, sizeof out, &value, &line);
     if (kind == LOKUWAINE_LENGTH) {
         fwrite(out, 1, (size_t)value, stdout);
-    } else {
-        printf("refused %u\n", (unsigned)value);
+    }
+
+    const char *damaged = "BEGIN:VCALENDAR\r\nBEGIN:VEVENT\r\nDTSTART:20240230T073000Z\r\nEND:VEVENT\r\nEND:VCALENDAR\r\n";
+    kind = lokuwaine_report((const uint8_t *)damaged, strlen(damaged), 1710144000, 1710180000, 0, 1710050400, work,
+                            sizeof work, out, sizeof out, &value, &line);
+    if (kind == LOKUWAINE_REFUSAL) {
+        printf("refused %u, line %u\n", (unsigned)value, (unsigned)line);
     }
     return 0;
 }

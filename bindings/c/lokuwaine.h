@@ -1,6 +1,8 @@
 /* The proved calendar engine, for C. Link liblokuwaine.a.
  *
- * Each call answers its kind; the value goes to *value, and the line at fault to *line (0 until lines are told).
+ * Each call answers its kind; the value goes to *value, and the line at fault to *line: of refusals 6 to 10,
+ * counted from 1 after unfolding; 0 for all else. Of 10 it is the component's BEGIN line; of 7, where the file
+ * stops too early, one more than there are lines.
  * No call reads a clock, allocates, or keeps a pointer. Any bytes at all are answered: nothing has to be checked first.
  * Buffers that are written (work, out, value, line) must not overlap anything else that is handed in. */
 #ifndef LOKUWAINE_H

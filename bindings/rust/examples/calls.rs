@@ -1,4 +1,4 @@
-//! One calendar, one match and one report.
+//! One calendar, one match and one report, and a calendar that is refused.
 use lokuwaine::{matches, report, Answer, OUTPUT, WORK};
 
 fn main() {
@@ -13,4 +13,7 @@ fn main() {
         Answer::Length(n) => print!("{}", String::from_utf8_lossy(&out[..n])),
         other => println!("{other:?}"),
     }
+
+    let damaged = b"BEGIN:VCALENDAR\r\nBEGIN:VEVENT\r\nDTSTART:20240230T073000Z\r\nEND:VEVENT\r\nEND:VCALENDAR\r\n";
+    println!("{:?}", report(damaged, 1_710_144_000, 1_710_180_000, 0, 1_710_050_400, &mut work, &mut out));
 }

@@ -47,15 +47,21 @@ pub enum Answer {
     Verdict(bool),
     /// The report's length: that many bytes stand first in the output.
     Length(usize),
-    /// The refusal's number, 1 to 12.
-    Refused(u8),
+    /// A refusal.
+    Refused {
+        /// Its number, 1 to 12.
+        number: u8,
+        /// The line at fault, counted from 1 after unfolding; only 6 to 10 have one, the others 0. Of 10 it is the component's
+        /// BEGIN line; of 7, where the file stops too early, one more than there are lines.
+        line: usize,
+    },
 }
 
-fn answer(kind: u64, value: u64) -> Answer {
+fn answer(kind: u64, value: u64, line: u64) -> Answer {
     match kind {
         0 => Answer::Verdict(value == 1),
         1 => Answer::Length(value as usize),
-        _ => Answer::Refused(value as u8),
+        _ => Answer::Refused { number: value as u8, line: line as usize },
     }
 }
 
@@ -77,7 +83,7 @@ pub fn matches(cal: &[u8], query: &[u8], offset: i64, work: &mut [u8]) -> Answer
             &mut line,
         )
     };
-    answer(kind, value)
+    answer(kind, value, line)
 }
 
 /// Which seconds from `start` up to, but not including, `end` are taken, by busy type? The report goes to `out`.
@@ -108,5 +114,5 @@ pub fn report(
             &mut line,
         )
     };
-    answer(kind, value)
+    answer(kind, value, line)
 }

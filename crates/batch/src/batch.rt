@@ -71,6 +71,14 @@ fn print_seconds(r: ReportSeconds) {
     print_busy(r.unavailable);
 }
 
+// Where a refusal's fault stands, if it has a line.
+fn print_line(line: usize) {
+    if 0 < line {
+        print(b" line ");
+        print_number(line as u64);
+    }
+}
+
 // A column of words and one with a number.
 fn print_pair(words: &[u8], n: u64) {
     print(b"\t");
@@ -89,9 +97,10 @@ fn print_verdict(a: Answer) {
             print(b"\tno match");
         }
         Answer::Length(n) => print_pair(b"report", n as u64),
-        Answer::Refused(n) => {
+        Answer::Refused(n, line) => {
             print(b"\trefused ");
             print_number(n as u64);
+            print_line(line);
         }
     }
 }
@@ -129,13 +138,16 @@ fn print_report(name: &[u8], p: Plan, cal: &[u8], work: &mut [u8], out: &mut [u8
     let r = engine::report_seconds(cal, p.start, p.end, p.offset, p.stamp, work, out);
     let fault = r.fault;
     match fault {
-        Fault::At(n, _) => {
+        Fault::At(n, line) => {
             print_pair(b"refused", n as u64);
+            print(b"\t");
+            print_number(line as u64);
             print(b"\t0\t0\t0");
             Outcome::Refused
         }
         Fault::None => {
             print_pair(b"report", r.length as u64);
+            print(b"\t0");
             print_seconds(r);
             save_beside(name, out, r.length);
             Outcome::Report
@@ -176,7 +188,7 @@ fn print_unread(asked: bool, error: i32) -> Outcome {
     }
     print(b"\tunreadable\t");
     print_reason(error);
-    print(b"\t0\t0\t0");
+    print(b"\t0\t0\t0\t0");
     Outcome::Unreadable
 }
 

@@ -2,5 +2,6 @@
 // Nothing here decides an answer.
 pub mod args;
 pub mod file;
+pub mod line;
 pub mod out;
 pub mod query;

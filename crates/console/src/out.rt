@@ -64,14 +64,18 @@ pub fn unreadable(name: &[u8], error: i32) {
     print(b"\n");
 }
 
-// A refusal's number and meaning.
-pub fn refused(n: u8) {
+// A refusal's number and meaning, and the line at fault where it has one.
+pub fn refused(n: u8, line: usize) {
     let mut words = [0u8; 64];
     let k = cli::words::meaning(&mut words, n);
     print(b"refused ");
     print_number(n as u64);
     print(b": ");
     print_words(&words, k);
+    if 0 < line {
+        print(b", line ");
+        print_number(line as u64);
+    }
     print(b"\n");
 }
 

@@ -30,13 +30,13 @@ length-is : (a : Answer) {n : ℕ} → IsReport a n → lengthOf a ≡ n
 unfolding IsReport outcomeOf lengthOf
 length-is (Answer.Verdict b) e = let z : _≡_ {A = ℕ} 0 1 = cc in absurd (omega arith)
 length-is (Answer.Length n) e = cc
-length-is (Answer.Refused n) e = let z : _≡_ {A = ℕ} 0 1 = cc in absurd (omega arith)
+length-is (Answer.Refused n i) e = let z : _≡_ {A = ℕ} 0 1 = cc in absurd (omega arith)
 
 length-room : {m : ReportCall} (a : Answer) {w o : List ℕ} → Reported m a w o → lengthOf a ≤ length o
 unfolding IsReport outcomeOf lengthOf
 length-room (Answer.Verdict b) p = omega arith
 length-room (Answer.Length n) p = written-report p refl .has-room
-length-room (Answer.Refused n) p = omega arith
+length-room (Answer.Refused n i) p = omega arith
 
 -- the bytes of a report are there
 module _ {m : ReportCall} {a : Answer} {w o : List ℕ} {n : ℕ} (p : Reported m a w o) (e : n ≡ lengthOf a) where

@@ -17,7 +17,7 @@ use Rattle.demands.specs.declared.Pair.{Pair}
 unfoldable pub lengthOf : Answer → ℕ
 lengthOf (Answer.Verdict b) = 0
 lengthOf (Answer.Length n) = n
-lengthOf (Answer.Refused n) = 0
+lengthOf (Answer.Refused n i) = 0
 
 -- both answers are reports, and the first bytes of the two outputs the same report
 unfoldable pub sameReports : Answer → List ℕ → Answer → List ℕ → Bool

@@ -28,7 +28,7 @@ pub fn length_of(a: Answer) -> usize
     match a {
         Answer::Verdict(b) => 0,
         Answer::Length(n) => n,
-        Answer::Refused(n) => 0,
+        Answer::Refused(n, line) => 0,
     }
 }
 

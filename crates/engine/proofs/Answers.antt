@@ -1,12 +1,12 @@
 -- Outcomes: refused or not, outcomes of different kinds, and the answer to a report call by its refusal.
 use Prim.Native.Nat.{ℕ}
-use mathlib.Core.Path.{_≡_, refl, sym, ap}
+use mathlib.Core.Path.{_≡_, refl, sym, ap, _∙_}
 use mathlib.Core.Bool.{Bool}
 use native.Mathlib.Omega.{arith}
 use Rattle.calendar.specs.declared.Fault.{Fault}
 use Rattle.engine.specs.Answers.{Outcome, verdict, report, refusal, unlessRefused, outcomeOf, answerBy, lengthIn}
 
-pub refused : {f : Fault} {n i : ℕ} (o : Outcome) → f ≡ Fault.At n i → unlessRefused f o ≡ refusal n
+pub refused : {f : Fault} {n i : ℕ} (o : Outcome) → f ≡ Fault.At n i → unlessRefused f o ≡ refusal n i
 unfolding unlessRefused
 refused o e = rw e
 
@@ -15,22 +15,22 @@ unfolding unlessRefused
 let-through o e = rw e
 
 -- a verdict and a report are no refusals
-pub verdict-apart : (b : Bool) (k : ℕ) → verdict b ≡ refusal k → ⊥
-verdict-apart b k e = let z : _≡_ {A = ℕ} 0 1 = cc in absurd (omega arith)
+pub verdict-apart : (b : Bool) (k i : ℕ) → verdict b ≡ refusal k i → ⊥
+verdict-apart b k i e = let z : _≡_ {A = ℕ} 0 1 = cc in absurd (omega arith)
 
-pub report-apart : (n k : ℕ) → report n ≡ refusal k → ⊥
-report-apart n k e = let z : _≡_ {A = ℕ} 0 1 = cc in absurd (omega arith)
+pub report-apart : (n k i : ℕ) → report n ≡ refusal k i → ⊥
+report-apart n k i e = let z : _≡_ {A = ℕ} 0 1 = cc in absurd (omega arith)
 
 -- an outcome that is a refusal names the first row; one that is none has no row
-pub refusal-found : {k : ℕ} (o : Outcome) → ((n : ℕ) → o ≡ refusal n → ⊥) → (f : Fault) → unlessRefused f o ≡ refusal k → (i : ℕ) × (f ≡ Fault.At k i)
+pub refusal-found : {k i : ℕ} (o : Outcome) → ((n j : ℕ) → o ≡ refusal n j → ⊥) → (f : Fault) → unlessRefused f o ≡ refusal k i → f ≡ Fault.At k i
 unfolding unlessRefused
-refusal-found {k} o h Fault.None e = absurd (h k e)
-refusal-found {k} o h (Fault.At n i) e = let z : n ≡ k = cc in (i, ap (λ (j : ℕ). Fault.At j i) z)
+refusal-found {k} {i} o h Fault.None e = absurd (h k i e)
+refusal-found {k} {i} o h (Fault.At n j) e = let z : n ≡ k = cc in let w : j ≡ i = cc in ap (λ (m : ℕ). Fault.At m j) z ∙ ap (λ (m : ℕ). Fault.At k m) w
 
-pub answer-found : {p : Outcome} (o : Outcome) → ((n : ℕ) → p ≡ refusal n → ⊥) → (f : Fault) → unlessRefused f o ≡ p → (f ≡ Fault.None) × (o ≡ p)
+pub answer-found : {p : Outcome} (o : Outcome) → ((n i : ℕ) → p ≡ refusal n i → ⊥) → (f : Fault) → unlessRefused f o ≡ p → (f ≡ Fault.None) × (o ≡ p)
 unfolding unlessRefused
 answer-found o h Fault.None e = (refl, e)
-answer-found o h (Fault.At n i) e = absurd (h n (sym e))
+answer-found o h (Fault.At n i) e = absurd (h n i (sym e))
 
 pub verdict-found : {t : Bool} (b : Bool) (f : Fault) → unlessRefused f (verdict b) ≡ verdict t → (f ≡ Fault.None) × (b ≡ t)
 verdict-found {t} b f e = let w = answer-found (verdict b) (verdict-apart t) f e in let same = w .1 in (w .0, cc)

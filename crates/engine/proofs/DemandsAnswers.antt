@@ -24,13 +24,13 @@ use Rattle.engine.proofs.Answers.{refused, let-through, verdict-apart, 
 
 module _ (rows : List Row) (o : Outcome) {its-kind : Outcome → Type 0} {a : Answer} (e : outcomeOf a ≡ unlessRefused (firstRefusal rows) o) where
   -- where the answer is no refusal, and no refusal is of the answer's kind
-  pub decided-by : ((n : ℕ) → o ≡ refusal n → ⊥) → its-kind o → ((n : ℕ) → its-kind (refusal n) → ⊥) → Decided rows its-kind a
+  pub decided-by : ((n i : ℕ) → o ≡ refusal n i → ⊥) → its-kind o → ((n i : ℕ) → its-kind (refusal n i) → ⊥) → Decided rows its-kind a
   unfolding NoneApplies unlessRefused
   decided-by h y g =
       record {
-        refused-when = λ k. (
-          λ r. let f = refusal-found o h (firstRefusal rows) (sym e ∙ r) in (f .0, first-iff rows k (f .0) .0 (f .1)),
-          λ x. e ∙ refused o (first-iff rows k (x .0) .1 (x .1)),
+        refused-when = λ k i. (
+          λ r. first-iff rows k i .0 (refusal-found o h (firstRefusal rows) (sym e ∙ r)),
+          λ x. e ∙ refused o (first-iff rows k i .1 x),
         );
         answered-when = (
           λ z k i r. none-where z (firstRefusal rows) refl k i r,
@@ -40,7 +40,7 @@ module _ (rows : List Row) (o : Outcome) {its-kind : Outcome → Type 0} {a : An
     where
       none-where : its-kind (outcomeOf a) → (f : Fault) → firstRefusal rows ≡ f → NoneApplies rows
       none-where z Fault.None q = none-iff rows .0 q
-      none-where z (Fault.At n i) q = absurd (g n (rw (e ∙ ap (λ (x : Fault). unlessRefused x o) q) at z))
+      none-where z (Fault.At n i) q = absurd (g n i (rw (e ∙ ap (λ (x : Fault). unlessRefused x o) q) at z))
 
 -- the work buffer by the rows that are asked before unfolding
 work-by : (early : List Row) (cal work : List ℕ) {left : List ℕ} → left ≡ workBy (firstRefusal early) cal work → WorkLeft early cal work left
@@ -58,7 +58,7 @@ module _ {m : MatchCall} {a : Answer} {left : List ℕ} (p : Matched m a left) w
   unfolding matchOutcome IsVerdict
   match-decided =
       decided-by (matchRows m) (verdict (verdictOf m)) (p .answered) (verdict-apart (verdictOf m)) (verdictOf m, refl)
-      (λ n z. verdict-apart (z .0) n (sym (z .1)))
+      (λ n i z. verdict-apart (z .0) n i (sym (z .1)))
 
   pub match-work : WorkLeft (earlyMatchRows m) (m .calendar) (m .work) left
   match-work = work-by (earlyMatchRows m) (m .calendar) (m .work) (p .work-left)
@@ -80,7 +80,7 @@ module _ {m : ReportCall} {a : Answer} {work-left out-left : List ℕ} (p : Repo
   unfolding reportOutcome IsLength
   report-decided =
       decided-by (reportRows m) (report (length bytes)) (p .answered) (report-apart (length bytes)) (length bytes, refl)
-      (λ n z. report-apart (z .0) n (sym (z .1)))
+      (λ n i z. report-apart (z .0) n i (sym (z .1)))
 
   pub report-work : WorkLeft (earlyRows (m .terms)) (m .terms .calendar) (m .terms .work) work-left
   report-work = work-by (earlyRows (m .terms)) (m .terms .calendar) (m .terms .work) (p .work-left-is)
@@ -111,9 +111,9 @@ module _ {m : ReportCall} {a : Answer} {work-left out-left : List ℕ} (p : Repo
       }
 
   -- any refusal leaves the output as it was
-  pub output-kept : (k : ℕ) → outcomeOf a ≡ refusal k → out-left ≡ m .output
+  pub output-kept : (k i : ℕ) → outcomeOf a ≡ refusal k i → out-left ≡ m .output
   unfolding outputAfter
-  output-kept k e = p .output-left-is ∙ ap (λ (o : Outcome). outputAfter o bytes (m .output)) (sym (p .answered) ∙ e)
+  output-kept k i e = p .output-left-is ∙ ap (λ (o : Outcome). outputAfter o bytes (m .output)) (sym (p .answered) ∙ e)
 
   pub output-left : OutputLeft m a out-left
   output-left =
@@ -127,11 +127,9 @@ module _ {m : ReportCall} {a : Answer} {work-left out-left : List ℕ} (p : Repo
 
 module _ {m : MatchCall} {left : List ℕ} where
   -- a refusal where nothing refuses
-  pub refuses-everything : {n : ℕ} → NoneApplies (matchRows m) → Matched m (Answer.Refused n) left → ⊥
+  pub refuses-everything : {n i : ℕ} → NoneApplies (matchRows m) → Matched m (Answer.Refused n i) left → ⊥
   unfolding NoneApplies outcomeOf
-  refuses-everything {n} h p =
-      let f = match-decided p .refused-when n .0 refl in
-      h n (f .0) (first-applies (matchRows m) (first-iff (matchRows m) n (f .0) .1 (f .1)))
+  refuses-everything {n} {i} h p = h n i (first-applies (matchRows m) (first-iff (matchRows m) n i .1 (match-decided p .refused-when n i .0 refl)))
 
   -- a length, made up or not, for a match
   pub length-given : {n : ℕ} → Matched m (Answer.Length n) left → ⊥
@@ -140,11 +138,9 @@ module _ {m : MatchCall} {left : List ℕ} where
 
 module _ {m : ReportCall} {work-left out-left : List ℕ} where
   -- a refusal where nothing refuses
-  pub refuses-report : {n : ℕ} → NoneApplies (reportRows m) → Reported m (Answer.Refused n) work-left out-left → ⊥
+  pub refuses-report : {n i : ℕ} → NoneApplies (reportRows m) → Reported m (Answer.Refused n i) work-left out-left → ⊥
   unfolding NoneApplies outcomeOf
-  refuses-report {n} h p =
-      let f = report-decided p .refused-when n .0 refl in
-      h n (f .0) (first-applies (reportRows m) (first-iff (reportRows m) n (f .0) .1 (f .1)))
+  refuses-report {n} {i} h p = h n i (first-applies (reportRows m) (first-iff (reportRows m) n i .1 (report-decided p .refused-when n i .0 refl)))
 
   -- a length that is not the report's
   pub made-up-length : {n : ℕ} → (n ≡ length (reportBytes (reportFor (m .terms))) → ⊥) → Reported m (Answer.Length n) work-left out-left → ⊥

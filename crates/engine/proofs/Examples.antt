@@ -102,21 +102,21 @@ table =
     ∷ row empty none (pos 0) (verdict true)
     -- the first and the last offset, and those beyond
     ∷ row empty any (pos 50400) (verdict true)
-    ∷ row empty any (pos 50401) (refusal 1)
+    ∷ row empty any (pos 50401) (refusal 1 0)
     ∷ row empty any (negsuc 50399) (verdict true)
-    ∷ row empty any (negsuc 50400) (refusal 1)
+    ∷ row empty any (negsuc 50400) (refusal 1 0)
     -- 1 goes before 4, and 4 before 7
-    ∷ row empty bad (pos 50401) (refusal 1)
-    ∷ row [] bad (pos 0) (refusal 4)
+    ∷ row empty bad (pos 50401) (refusal 1 0)
+    ∷ row [] bad (pos 0) (refusal 4 0)
     -- a line without CR LF, and no line
-    ∷ row (ascii "BEGIN:VCALENDAR") any (pos 0) (refusal 6)
-    ∷ row [] any (pos 0) (refusal 7)
+    ∷ row (ascii "BEGIN:VCALENDAR") any (pos 0) (refusal 6 1)
+    ∷ row [] any (pos 0) (refusal 7 1)
     -- an event: good, with an unsupported line, with a bad value, with no start
     ∷ row (event "DTSTART:20240311T080000Z") some (pos 0) (verdict true)
     ∷ row (event "DTSTART:20240311T080000Z") none (pos 0) (verdict false)
-    ∷ row (event "RDATE:20240311T080000Z") any (pos 0) (refusal 8)
-    ∷ row (event "DTSTART:20010229T000000Z") any (pos 0) (refusal 9)
-    ∷ row (event "SUMMARY:late shift") any (pos 0) (refusal 10)
+    ∷ row (event "RDATE:20240311T080000Z") any (pos 0) (refusal 8 3)
+    ∷ row (event "DTSTART:20010229T000000Z") any (pos 0) (refusal 9 3)
+    ∷ row (event "SUMMARY:late shift") any (pos 0) (refusal 10 2)
     ∷ []
 
 pub edges : AllHold table

@@ -40,7 +40,7 @@ use Rattle.engine.proofs.Answers.{refused, let-through}
 
 -- by what reading the contents answered
 module _ {c : Context} {u rows : List ℕ} {a b : ℕ} {o o′ entries : List ℕ} {x : ContentsRead} (k : ContentsAre c u rows a b o o′ entries x) (s : List ℕ) (q : Sections) where
-  pub contents-refusal : {n i : ℕ} → x .fault ≡ Fault.At n i → outcomeOf (Answer.Refused n) ≡ contentsOutcome c u s q
+  pub contents-refusal : {n i : ℕ} → x .fault ≡ Fault.At n i → outcomeOf (Answer.Refused n i) ≡ contentsOutcome c u s q
   unfolding contentsOutcome outcomeOf
   contents-refusal e = sym (refused (verdict (queryHolds c s q (treeIn u))) (contents-first c u ∙ sym (k .fault-is) ∙ e))
 
@@ -52,7 +52,7 @@ module _ {c : Context} {u rows : List ℕ} {a b : ℕ} {o o′ entries : List �
 -- by what reading the structure answered
 module _ {u index rows : List ℕ} {x : Structure} (k : StructureRead u index rows x) {f : Fault} (w : f ≡ structureRefusal x) where
   module _ (c : Context) (s : List ℕ) (q : Sections) where
-    pub structure-refusal-told : {n i : ℕ} → f ≡ Fault.At n i → outcomeOf (Answer.Refused n) ≡ unfoldedOutcome c u s q
+    pub structure-refusal-told : {n i : ℕ} → f ≡ Fault.At n i → outcomeOf (Answer.Refused n i) ≡ unfoldedOutcome c u s q
     unfolding unfoldedOutcome calendarRows outcomeOf
     structure-refusal-told e = sym (refused (verdict (queryHolds c s q (treeIn u))) (structure-refused u (contentsRows c u) (structure-found k w ∙ e)))
 
@@ -71,7 +71,7 @@ module _ (cal work : List ℕ) where
       record { answered = e ∙ ap (λ (u : List ℕ). unfoldedOutcome c u s q) (unfolded-front k); work-left = k .bytes }
 
   -- a refusal of the rows before unfolding leaves the buffer as it was
-  early : {o : Outcome} {f : Fault} {n i : ℕ} → f ≡ Fault.At n i → o ≡ refusal n → Answered o f cal work (Answer.Refused n) work
+  early : {o : Outcome} {f : Fault} {n i : ℕ} → f ≡ Fault.At n i → o ≡ refusal n i → Answered o f cal work (Answer.Refused n i) work
   unfolding outcomeOf workBy
   early e h = record { answered = sym h; work-left = sym (ap (λ (x : Fault). workBy x cal work) e) }
 
@@ -81,14 +81,14 @@ module _ (cal work : List ℕ) where
     abbrev later : List Row
     later = calendarRows c (unfolded cal)
 
-    query-refused : {n i : ℕ} → firstRefusal (queryRows s) ≡ Fault.At n i → QueryAnswered c cal s work (Answer.Refused n) work
+    query-refused : {n i : ℕ} → firstRefusal (queryRows s) ≡ Fault.At n i → QueryAnswered c cal s work (Answer.Refused n i) work
     unfolding queryOutcome
     query-refused e = early e (refused _ (stage-refused (queryRows s) later e))
 
-    pub match-refused-4 : queryRead s ≡ QueryRead.Bad → QueryAnswered c cal s work (Answer.Refused 4) work
+    pub match-refused-4 : queryRead s ≡ QueryRead.Bad → QueryAnswered c cal s work (Answer.Refused 4 0) work
     match-refused-4 e = query-refused (query-refused-4 s e)
 
-    pub match-refused-5 : queryRead s ≡ QueryRead.Misplaced → QueryAnswered c cal s work (Answer.Refused 5) work
+    pub match-refused-5 : queryRead s ≡ QueryRead.Misplaced → QueryAnswered c cal s work (Answer.Refused 5 0) work
     match-refused-5 e = query-refused (query-refused-5 s e)
 
     pub match-query-passed : {left : List ℕ} {a : Answer} (q : Sections) → queryRead s ≡ QueryRead.Of q → CalendarAnswered c cal s q work a left
@@ -114,11 +114,11 @@ module _ (cal s : List ℕ) (o : ℤ) (work : List ℕ) where
   matched e h a =
       record { answered = a .answered ∙ e; work-left = a .work-left ∙ ap (λ (y : Fault). workBy y cal work) (sym h) }
 
-  match-early : {n i : ℕ} → firstRefusal (earlyMatchRows call) ≡ Fault.At n i → Matched call (Answer.Refused n) work
+  match-early : {n i : ℕ} → firstRefusal (earlyMatchRows call) ≡ Fault.At n i → Matched call (Answer.Refused n i) work
   unfolding matchOutcome matchRows
   match-early e = matched refl e (early cal work refl (refused _ (stage-refused (earlyMatchRows call) _ e)))
 
-  pub match-refused-1 : offsetRead o ≡ OffsetRead.Bad → Matched call (Answer.Refused 1) work
+  pub match-refused-1 : offsetRead o ≡ OffsetRead.Bad → Matched call (Answer.Refused 1 0) work
   unfolding earlyMatchRows offsetRow
   match-refused-1 e = match-early (row-applies _ _ (ap not (read-out o e)))
 
@@ -127,7 +127,7 @@ module _ (cal s : List ℕ) (o : ℤ) (work : List ℕ) where
     unfolding earlyMatchRows offsetRow
     early-left = row-passed _ _ (ap not (read-good o e .0))
 
-    pub match-refused-sizes : {n i : ℕ} → sizeFault cal work ≡ Fault.At n i → Matched call (Answer.Refused n) work
+    pub match-refused-sizes : {n i : ℕ} → sizeFault cal work ≡ Fault.At n i → Matched call (Answer.Refused n i) work
     match-refused-sizes k = match-early (early-left ∙ sizes-refused cal work _ k)
 
     module _ (k : sizeFault cal work ≡ Fault.None) where

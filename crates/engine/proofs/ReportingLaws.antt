@@ -146,7 +146,7 @@ module _ {m : CalendarTerms} {r : Collected} {ss es left : List ℕ} (k : Collec
   unfolding reportOutcome reportRows lengthIn outputAfter secondsIn secondsTold periodsBy
   seconds-refused {n} {i} {out} e =
       let f = sym (k .fault-is) ∙ e in
-      let o : reportOutcome (into out) ≡ refusal n = refused _ (stage-refused (collectRows m) _ f) in
+      let o : reportOutcome (into out) ≡ refusal n i = refused _ (stage-refused (collectRows m) _ f) in
       record {
         fault-is = sym (stage-refused (collectRows m) _ f);
         length-is = ap lengthIn (sym o);

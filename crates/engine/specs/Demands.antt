@@ -26,9 +26,9 @@ use Rattle.engine.specs.declared.Answer.{Answer}
 
 -- ---- Demand 1: an answer or one numbered refusal, and what memory then holds
 
--- number k is given exactly when row k is the first that applies, and an answer of its own kind exactly when none does
+-- number k is given with line i exactly when row k is the first that applies, its fault at that line, and an answer of its own kind exactly when none does
 pub record Decided (rows : List Row) (its-kind : Outcome → Type 0) (a : Answer) : Type 0 where
-  pub refused-when : (k : ℕ) → outcomeOf a ≡ refusal k ↔ (i : ℕ) × FirstApplies rows k i
+  pub refused-when : (k i : ℕ) → outcomeOf a ≡ refusal k i ↔ FirstApplies rows k i
   pub answered-when : its-kind (outcomeOf a) ↔ NoneApplies rows
 
 -- the work buffer is as it was where a row applies that is asked before the calendar is unfolded; otherwise the unfolded calendar stands first in it
@@ -49,7 +49,7 @@ IsReport a n = outcomeOf a ≡ report n
 
 -- any refusal leaves the output as it was; a report stands first in it, as long as was answered, and the rest is as it was
 pub record OutputLeft (m : ReportCall) (a : Answer) (left : List ℕ) : Type 0 where
-  pub kept-when : (k : ℕ) → outcomeOf a ≡ refusal k → left ≡ m .output
+  pub kept-when : (k i : ℕ) → outcomeOf a ≡ refusal k i → left ≡ m .output
   pub length-is : (n : ℕ) → IsReport a n → n ≡ length (reportBytes (reportFor (m .terms)))
   pub written-when : (n : ℕ) → IsReport a n → left ≡ reportBytes (reportFor (m .terms)) ++ drop n (m .output)
 

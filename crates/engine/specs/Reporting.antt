@@ -38,7 +38,7 @@ reportOutcome m = unlessRefused (firstRefusal (reportRows m)) (report (length (r
 unfoldable pub outputAfter : Outcome → List ℕ → List ℕ → List ℕ
 outputAfter (verdict b) bytes out = out
 outputAfter (report n) bytes out = bytes ++ drop (length bytes) out
-outputAfter (refusal k) bytes out = out
+outputAfter (refusal k i) bytes out = out
 
 -- the whole promise of a report call: its answer, every byte of the work buffer and every byte of the output
 pub record Reported (m : ReportCall) (a : Answer) (work-left out-left : List ℕ) : Type 0 where

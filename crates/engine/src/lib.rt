@@ -17,8 +17,8 @@ pub enum Answer {
     Verdict(bool),
     // The report's length.
     Length(usize),
-    // The refusal's number.
-    Refused(u8),
+    // The refusal's number, and the line at fault: 0 where it has none.
+    Refused(u8, usize),
 }
 
 // A report's refusal or none, its length, and how many seconds it has of each busy type.
@@ -35,7 +35,7 @@ fn answer_by(fault: Fault, length: usize) -> Answer
     ensures { λ r. ⌜ r ≡ answerBy fault length ⌝ }
 {
     match fault {
-        Fault::At(n, line) => Answer::Refused(n),
+        Fault::At(n, line) => Answer::Refused(n, line),
         Fault::None => Answer::Length(length),
     }
 }
@@ -45,9 +45,9 @@ pub fn matches(cal: &[u8], query: &[u8], offset: i64, work: &mut [u8]) -> Answer
     ensures { λ r. ⌜ Matched (record { calendar = now (cal .entry); query = now (query .entry); offset = offset; work = now (work .entry) }) r (now (work .exit)) ⌝ }
 {
     match refusals::read_offset(offset) {
-        OffsetRead::Bad => Answer::Refused(1),
+        OffsetRead::Bad => Answer::Refused(1, 0),
         OffsetRead::Of(shift) => match refusals::check_sizes(cal, work) {
-            Fault::At(n, line) => Answer::Refused(n),
+            Fault::At(n, line) => Answer::Refused(n, line),
             Fault::None => matching::match_query(work, cal, query, Context { shift: shift }),
         },
     }

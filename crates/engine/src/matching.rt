@@ -39,7 +39,7 @@ fn match_contents(
     let read = contents::read_contents(&mut column, &mut entries, s, index, rows, c, 0, 1);
     let f = read.fault;
     match f {
-        Fault::At(k, line) => Answer::Refused(k),
+        Fault::At(k, line) => Answer::Refused(k, line),
         Fault::None => {
             let holds = filter::components::query_holds(query, q, s, index, rows, &entries, c);
             Answer::Verdict(holds)
@@ -64,7 +64,7 @@ fn match_structured(
     ensures { λ r. ⌜ outcomeOf r ≡ unfoldedOutcome c (now (s .entry)) (now (query .entry)) q ⌝ }
 {
     match calendar::faults::structure_fault(structure) {
-        Fault::At(k, line) => Answer::Refused(k),
+        Fault::At(k, line) => Answer::Refused(k, line),
         Fault::None => match_contents(s, index, rows, query, q, c),
     }
 }
@@ -158,8 +158,8 @@ pub fn match_query(work: &mut [u8], cal: &[u8], query: &[u8], c: Context) -> Ans
     ensures { λ r. ⌜ QueryAnswered c (now (cal .entry)) (now (query .entry)) (now (work .entry)) r (now (work .exit)) ⌝ }
 {
     match query_check::read_query(query) {
-        QueryRead::Bad => Answer::Refused(4),
-        QueryRead::Misplaced => Answer::Refused(5),
+        QueryRead::Bad => Answer::Refused(4, 0),
+        QueryRead::Misplaced => Answer::Refused(5, 0),
         QueryRead::Of(q) => match_calendar(work, cal, query, q, c),
     }
 }

@@ -6,10 +6,10 @@
 // The first word of standard output is the status:
 //   BEGIN:VCALENDAR  a report          match, no        a verdict (`match`, `no match`)
 //   verified:        a report that reads back as itself    differs:    one that does not
-//   refused          `refused 9: ..`   unreadable:      a file that cannot be read, its name and the reason
+//   refused          `refused 9: .., line 14` and the line   unreadable:      a file that cannot be read, its name and the reason
 //   wrong:           a wrong or missing argument, or a query in bad hex; the usage follows
 // A batch prints a line for each file, tab between two: name, verdict where a query was given, `report`, `refused` or `unreadable`,
-// its length, refusal number or reason, and the busy seconds of BUSY, BUSY-TENTATIVE and BUSY-UNAVAILABLE; then a line of
+// its length, refusal number or reason, the line at fault or 0, and the busy seconds of BUSY, BUSY-TENTATIVE and BUSY-UNAVAILABLE; then a line of
 // counts that begins with `files`. A report that replaces an older one beside its file adds `replaced`, and one that cannot be
 // written `not written`.
 mod verify;
@@ -21,6 +21,7 @@ use console::args::Plan;
 use console::args::Planned;
 use console::file;
 use console::file::Got;
+use console::line;
 use console::out;
 use console::query;
 use engine::Answer;
@@ -32,7 +33,8 @@ fn print_first(bytes: &[u8], n: usize) {
     }
 }
 
-fn print_answer(a: Answer, bytes: &[u8]) {
+// What was answered: a verdict, the first of these bytes, or a refusal with the line at fault.
+fn print_answer(a: Answer, bytes: &[u8], cal: &[u8], work: &mut [u8]) {
     match a {
         Answer::Verdict(yes) => {
             if yes {
@@ -42,14 +44,17 @@ fn print_answer(a: Answer, bytes: &[u8]) {
             out::print(b"no match\n");
         }
         Answer::Length(n) => print_first(bytes, n),
-        Answer::Refused(n) => out::refused(n),
+        Answer::Refused(n, line) => {
+            out::refused(n, line);
+            line::show_fault(cal, work, line);
+        }
     }
 }
 
 fn report_on(p: Plan, cal: &[u8], n: usize, work: &mut [u8], out: &mut [u8]) {
     if n <= cal.len() {
         let a = engine::report(&cal[0..n], p.start, p.end, p.offset, p.stamp, work, out);
-        print_answer(a, out);
+        print_answer(a, out, &cal[0..n], work);
     }
 }
 
@@ -71,7 +76,7 @@ fn match_on(offset: i64, cal: &[u8], n: usize, query: &[u8], k: usize, work: &mu
     if n <= cal.len() {
         if k <= query.len() {
             let a = engine::matches(&cal[0..n], &query[0..k], offset, work);
-            print_answer(a, query);
+            print_answer(a, query, &cal[0..n], work);
         }
     }
 }

@@ -6,15 +6,17 @@ use console::args::Plan;
 use console::args::Planned;
 use console::file;
 use console::file::Got;
+use console::line;
 use console::out;
 use console::out::print;
 use engine::Answer;
 
-// Says the refusal, where the answer is one.
-fn says_refusal(a: Answer) -> bool {
+// Says the refusal of a calendar and shows the line at fault, where the answer is a refusal.
+fn says_refusal(a: Answer, cal: &[u8], work: &mut [u8]) -> bool {
     match a {
-        Answer::Refused(n) => {
-            out::refused(n);
+        Answer::Refused(n, line) => {
+            out::refused(n, line);
+            line::show_fault(cal, work, line);
             true
         }
         Answer::Length(_) => false,
@@ -65,10 +67,10 @@ fn verify(p: Plan, again: i64, cal: &[u8], work: &mut [u8], out: &mut [u8]) {
     );
     let first = t.first;
     let second = t.second;
-    if says_refusal(first) {
+    if says_refusal(first, cal, work) {
         return;
     }
-    if says_refusal(second) {
+    if says_refusal(second, out, &mut work_again) {
         return;
     }
     let same = demands::same_reports(first, out, second, &out_again);

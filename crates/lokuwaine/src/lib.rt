@@ -4,10 +4,11 @@ use engine::Answer;
 ghost use mathlib.Core.Path.{_≡_};
 ghost use Rattle.lokuwaine.specs.Spreading.{verdictValue, spreadOf, MatchSpread, ReportSpread};
 
-// The kind of an answer, 0 for a verdict, 1 for a report's length and 2 for a refusal, and its value.
+// The kind of an answer, 0 for a verdict, 1 for a report's length and 2 for a refusal, its value, and the line at fault or 0.
 pub struct Spread {
     pub kind: u64,
     pub value: u64,
+    pub line: u64,
 }
 
 // 1 for yes and 0 for no.
@@ -24,14 +25,17 @@ fn spread_of(a: Answer) -> Spread
         Answer::Verdict(yes) => Spread {
             kind: 0,
             value: verdict_value(yes),
+            line: 0,
         },
         Answer::Length(n) => Spread {
             kind: 1,
             value: n as u64,
+            line: 0,
         },
-        Answer::Refused(n) => Spread {
+        Answer::Refused(n, line) => Spread {
             kind: 2,
             value: n as u64,
+            line: line as u64,
         },
     }
 }
@@ -50,7 +54,7 @@ pub extern "C" fn lokuwaine_match(
 {
     let s = spread_of(engine::matches(cal, query, offset, work));
     *value = s.value;
-    *line = 0;
+    *line = s.line;
     s.kind
 }
 
@@ -71,6 +75,6 @@ pub extern "C" fn lokuwaine_report(
 {
     let s = spread_of(engine::report(cal, start, end, offset, stamp, work, out));
     *value = s.value;
-    *line = 0;
+    *line = s.line;
     s.kind
 }

@@ -16,6 +16,14 @@ struct State {
     any: bool,
 }
 
+// Where a refusal's fault stands, if it has a line.
+fn print_line(line: usize) {
+    if 0 < line {
+        print(b" at line ");
+        print_number(line as u64);
+    }
+}
+
 fn print_answer(a: Answer) {
     match a {
         Answer::Verdict(yes) => {
@@ -26,9 +34,10 @@ fn print_answer(a: Answer) {
             print(b"report ");
             print_number(n as u64);
         }
-        Answer::Refused(n) => {
+        Answer::Refused(n, line) => {
             print(b"refused ");
             print_number(n as u64);
+            print_line(line);
         }
     }
 }

@@ -1,5 +1,5 @@
 // Runs cases of the public calls: one a line on standard input (`cases::case`), a line with its answer on standard output.
-// Both buffers are filled with 0xA5 before the call. The answer: its kind, its number, a line (0),
+// Both buffers are filled with 0xA5 before the call. The answer: its kind, its number, the line at fault or 0,
 // Adler-32 of the whole work buffer, and of the whole output buffer.
 mod adler;
 
@@ -16,21 +16,25 @@ fn print_answer(a: Answer) {
         Answer::Verdict(yes) => {
             print(b"verdict\t");
             print_number(yes as u64);
+            print(b"\t0");
         }
         Answer::Length(n) => {
             print(b"length\t");
             print_number(n as u64);
+            print(b"\t0");
         }
-        Answer::Refused(n) => {
+        Answer::Refused(n, line) => {
             print(b"refusal\t");
             print_number(n as u64);
+            print(b"\t");
+            print_number(line as u64);
         }
     }
 }
 
 // The two checksums, and the end of the line.
 fn print_sums(work: &[u8], out: &[u8]) {
-    print(b"\t0\t");
+    print(b"\t");
     print_number(adler::adler(work));
     print(b"\t");
     print_number(adler::adler(out));

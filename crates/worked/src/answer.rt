@@ -43,20 +43,25 @@ fn put_report(given: &mut [u8], report: &[u8], whole: bool) -> usize {
     at
 }
 
-// A number of one or two digits.
-fn put_number(given: &mut [u8], at: usize, n: u8) -> usize {
-    let low = [48 + n % 10];
-    if n < 10 {
-        return put(given, at, &low);
-    }
-    let high = [48 + n / 10 % 10];
-    let next = put(given, at, &high);
-    put(given, next, &low)
+fn put_number(given: &mut [u8], at: usize, n: u64) -> usize {
+    let mut digits = [0u8; 20];
+    let k = io::decimal(n, &mut digits);
+    put(given, at, &digits[..k])
 }
 
-fn put_refusal(given: &mut [u8], n: u8) -> usize {
+// Where a refusal's fault stands, if it has a line.
+fn put_place(given: &mut [u8], at: usize, line: usize) -> usize {
+    if line == 0 {
+        return at;
+    }
+    let begun = put(given, at, b", line ");
+    put_number(given, begun, line as u64)
+}
+
+fn put_refusal(given: &mut [u8], n: u8, line: usize) -> usize {
     let begun = put(given, 0, b"| refused ");
-    let ended = put_number(given, begun, n);
+    let told = put_number(given, begun, n as u64);
+    let ended = put_place(given, told, line);
     put(given, ended, b"\n")
 }
 
@@ -72,6 +77,6 @@ pub fn put_answer(given: &mut [u8], a: Answer, out: &[u8], whole: bool) -> usize
     match a {
         Answer::Verdict(yes) => put_verdict(given, yes),
         Answer::Length(n) => put_report(given, part(out, 0, n), whole),
-        Answer::Refused(n) => put_refusal(given, n),
+        Answer::Refused(n, line) => put_refusal(given, n, line),
     }
 }

@@ -69,7 +69,7 @@ fn report_lent(work: &mut [u8], out: &mut [u8], cal: &[u8], p: Plan, w: usize, o
             );
         }
     }
-    Answer::Refused(0)
+    Answer::Refused(0, 0)
 }
 
 // The same for a match.
@@ -77,7 +77,7 @@ fn match_lent(work: &mut [u8], cal: &[u8], query: &[u8], offset: i64, w: usize) 
     if w <= work.len() {
         return engine::matches(cal, query, offset, &mut work[..w]);
     }
-    Answer::Refused(0)
+    Answer::Refused(0, 0)
 }
 
 // The answer to a report's question, as the file writes it.

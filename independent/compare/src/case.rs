@@ -88,12 +88,12 @@ impl Case {
 impl Outcome {
     /// The replay form of the answer, a line without its end.
     pub fn written(&self) -> String {
-        let (kind, number) = match self.answer {
-            Answer::Verdict(yes) => ("verdict", usize::from(yes)),
-            Answer::Length(length) => ("length", length),
-            Answer::Refused(number) => ("refusal", number.into()),
+        let (kind, number, line) = match self.answer {
+            Answer::Verdict(yes) => ("verdict", usize::from(yes), 0),
+            Answer::Length(length) => ("length", length, 0),
+            Answer::Refused(refusal) => ("refusal", refusal.number.into(), refusal.line),
         };
-        format!("{kind}\t{number}\t0\t{}\t{}", adler32(&self.work), adler32(&self.out))
+        format!("{kind}\t{number}\t{line}\t{}\t{}", adler32(&self.work), adler32(&self.out))
     }
 }
 

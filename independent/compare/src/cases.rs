@@ -18,6 +18,9 @@ pub fn make(seed: u64, number: u64) -> Case {
     profile(&mut maker);
     let Maker { mut lines, marks, focus, .. } = maker;
 
+    if random.often(60) {
+        damage::faults(random, &mut lines);
+    }
     if random.often(70) {
         (0..1 + random.below(2)).for_each(|_| damage::lines(random, &mut lines));
     }
@@ -173,13 +176,15 @@ fn fill(random: &mut Random, lines: &mut Vec<Vec<u8>>) {
     let target = random.number(&[65_535, 65_536, 65_536, 65_536, 65_537, 65_600]) as usize;
     let mut length: usize = lines.iter().map(|line| line.len() + 2).sum();
     let at = random.below(lines.len() - 1) + 1;
+    // Now and then as many lines as there is room for.
+    let (least, spread) = [(4, 1), (8, 40), (8, 900), (8, 900)][random.below(4)];
     let mut extra = Vec::new();
     // A line is at least `X:` and CR LF, four bytes; the last one takes what is left.
     while target >= length + 4 {
         let missing = target - length;
-        let mut this = missing.min(8 + random.below(900));
+        let mut this = missing.min(least + random.below(spread));
         if missing - this < 4 && missing != this {
-            this = missing.min(this - 4);
+            this = if this < 8 { missing } else { this - 4 };
         }
         let mut line = b"X:".to_vec();
         line.resize(this - 2, b'v');

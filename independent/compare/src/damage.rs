@@ -3,6 +3,73 @@
 
 use crate::random::Random;
 
+/// Pieces for a place directly in the calendar, their lines cut at `|`, by the refusal that
+/// each makes: 6 to 10.
+const FAULTS: [&[&[u8]]; 5] = [
+    &[
+        b"X-A:\x7f", b"X-A;B=\"open:1", b"X-A;B=open", b"", b"X-A:a\rb", b"X-A:a\nb", b" X-A:1", b"X A:1",
+        b"X-A;B=\"a\"b:1", b"X-A;B=\"\x01\":1", b"X-A:1|X-A;:1", b"END:VCALENDAR|X-A",
+    ],
+    &[
+        b"END:X-OUT", b"BEGIN:X-OPEN", b"BEGIN;A=b:X|END:X", b"BEGIN:X|END;A=b:X", b"BEGIN:VCALENDAR|END:VCALENDAR",
+        b"END:VCALENDAR", b"BEGIN:X-A|BEGIN:VEVENT|END:VEVENT|END:X-A", b"BEGIN:X-A|BEGIN:X-B|END:X-A|END:X-B",
+        b"BEGIN:|END:",
+    ],
+    &[
+        b"BEGIN:VEVENT|RDATE:x|END:VEVENT",
+        b"BEGIN:VEVENT|RRULE:FREQ=YEARLY|DTSTART:x|END:VEVENT",
+        b"BEGIN:VEVENT|BEGIN:X-A|RDATE:x|END:X-A|DTSTART;TZID=x:y|END:VEVENT",
+        b"BEGIN:VFREEBUSY|DTEND;TZID=:|DTEND;TZID=:|END:VFREEBUSY",
+        b"BEGIN:VEVENT|X-A:1|EXDATE:|EXDATE:|END:VEVENT",
+    ],
+    &[
+        b"BEGIN:VEVENT|DTSTART:|END:VEVENT",
+        b"BEGIN:VEVENT|DURATION:x|RDATE:|END:VEVENT",
+        b"BEGIN:VEVENT|DTSTART:20240311T080000Z|BEGIN:X-A|DURATION:x|END:X-A|DURATION:-P1D|END:VEVENT",
+        b"BEGIN:VFREEBUSY|FREEBUSY:20240311T080000Z/PT0S|END:VFREEBUSY",
+        b"BEGIN:VFREEBUSY|DTSTART:x|FREEBUSY:x|END:VFREEBUSY",
+    ],
+    &[
+        b"BEGIN:VEVENT|END:VEVENT",
+        b"BEGIN:VEVENT|BEGIN:X-A|DTSTART:x|END:X-A|END:VEVENT",
+        b"BEGIN:VEVENT|DTSTART:20240311T080000Z|DTSTART:20240311T080000Z|END:VEVENT",
+        b"BEGIN:VEVENT|X-A:1|DTSTART:20240311T080000Z|DTEND:20240311T080000Z|END:VEVENT",
+        b"BEGIN:VFREEBUSY|DTEND:20240311T080000Z|DTSTART:20240311T080000Z|END:VFREEBUSY",
+        b"BEGIN:VFREEBUSY|DTEND:20240311T080000Z|DTEND:20240311T080000Z|END:VFREEBUSY",
+    ],
+];
+
+/// Puts in some faults of one refusal or two, so that it matters which comes first.
+pub fn faults(random: &mut Random, lines: &mut Vec<Vec<u8>>) {
+    let between = between_components(lines);
+    if between.is_empty() {
+        return;
+    }
+    let kinds = [random.below(FAULTS.len()), random.below(FAULTS.len())];
+    let mut places: Vec<usize> = (0..2 + random.below(3)).map(|_| between[random.below(between.len())]).collect();
+    // From the back, so that the places before it stay.
+    places.sort_unstable_by(|a, b| b.cmp(a));
+    for at in places {
+        let kind = kinds[random.below(kinds.len())];
+        let piece = random.pick(FAULTS[kind]);
+        lines.splice(at..at, piece.split(|&b| b == b'|').map(<[u8]>::to_vec));
+    }
+}
+
+/// The lines, counted from 0, before which something can be put directly in the calendar.
+fn between_components(lines: &[Vec<u8>]) -> Vec<usize> {
+    let starts_with = |line: &[u8], word: &[u8]| line.get(..word.len()).is_some_and(|l| l.eq_ignore_ascii_case(word));
+    let mut depth = 0;
+    let mut places = Vec::new();
+    for (number, line) in lines.iter().enumerate() {
+        if depth == 1 {
+            places.push(number);
+        }
+        depth += i32::from(starts_with(line, b"BEGIN:")) - i32::from(starts_with(line, b"END:"));
+    }
+    places
+}
+
 /// Harms the list of lines once.
 pub fn lines(random: &mut Random, lines: &mut Vec<Vec<u8>>) {
     if lines.is_empty() {

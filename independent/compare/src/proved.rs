@@ -88,14 +88,14 @@ pub fn ask(case: &Case) -> Given {
 }
 
 impl Given {
-    /// Whether kind, value, line (0) and all of both buffers are those of the outcome.
+    /// Whether kind, value, line and all of both buffers are those of the outcome.
     pub fn agrees_with(&self, outcome: &Outcome) -> bool {
-        let (kind, value) = match outcome.answer {
-            Answer::Verdict(yes) => (0, u64::from(yes)),
-            Answer::Length(length) => (1, length as u64),
-            Answer::Refused(number) => (2, u64::from(number)),
+        let answer = match outcome.answer {
+            Answer::Verdict(yes) => (0, u64::from(yes), 0),
+            Answer::Length(length) => (1, length as u64, 0),
+            Answer::Refused(refusal) => (2, refusal.number.into(), refusal.line as u64),
         };
-        (self.kind, self.value, self.line) == (kind, value, 0) && self.work == outcome.work && self.out == outcome.out
+        (self.kind, self.value, self.line) == answer && self.work == outcome.work && self.out == outcome.out
     }
 
     /// What it gave, for a reader.

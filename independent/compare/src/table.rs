@@ -1,10 +1,10 @@
-//! The table of counts: how many answers of each kind and number came out.
-//! Lengths are counted in bands, and how many different ones there are.
+//! The table of counts: how many answers of each kind and number came out, and which lines
+//! refusals told. Lengths are counted in bands, and how many different ones there are.
 
 use std::collections::BTreeSet;
 use std::fmt;
 
-use plain::Answer;
+use plain::{Answer, Refusal};
 
 use crate::case::{Case, Outcome};
 
@@ -20,6 +20,8 @@ pub struct Table {
     lengths: BTreeSet<usize>,
     match_refusals: [u64; 13],
     report_refusals: [u64; 13],
+    /// Refusals by number that told no line, the first, a later one, the one behind the last.
+    told: [[u64; 4]; 13],
     long_calendars: u64,
 }
 
@@ -39,11 +41,25 @@ impl Table {
                     _ => self.long_reports += 1,
                 }
             }
-            Answer::Refused(number) => {
+            Answer::Refused(refusal) => {
+                let number = usize::from(refusal.number);
                 let refusals = if of_match { &mut self.match_refusals } else { &mut self.report_refusals };
-                refusals[usize::from(number)] += 1;
+                refusals[number] += 1;
+                self.told[number][place(refusal, &outcome.work)] += 1;
             }
         }
+    }
+}
+
+/// In which column of `told` a refusal is counted. Only wrong nesting tells a line behind the
+/// last. All lines are then well formed, so that each CR LF in the work buffer ends one.
+fn place(refusal: Refusal, work: &[u8]) -> usize {
+    let lines = || work.windows(2).filter(|two| two == b"\r\n").count();
+    match refusal.line {
+        0 => 0,
+        line if refusal.number == 7 && line > lines() => 3,
+        1 => 1,
+        _ => 2,
     }
 }
 
@@ -63,9 +79,11 @@ impl fmt::Display for Table {
             self.long_reports,
             self.lengths.len()
         )?;
-        writeln!(f, "refusal    match   report")?;
+        writeln!(f, "refusal    match   report  no line  line 1    later  past the end")?;
         for number in 1..=12 {
-            writeln!(f, "{number:7} {:8} {:8}", self.match_refusals[number], self.report_refusals[number])?;
+            let [none, first, later, behind] = self.told[number];
+            let (of_match, of_report) = (self.match_refusals[number], self.report_refusals[number]);
+            writeln!(f, "{number:7} {of_match:8} {of_report:8} {none:8} {first:7} {later:8} {behind:13}")?;
         }
         Ok(())
     }

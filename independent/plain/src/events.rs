@@ -7,6 +7,7 @@ use crate::lines::Line;
 use crate::nesting::{children, own_lines, Component};
 use crate::time::{Context, Kind, Time, DAY};
 use crate::values::{self, BusyType, Duration, Fault, Limit, Rule};
+use crate::Refusal;
 
 /// What a component means for time.
 #[derive(Clone, Debug)]
@@ -127,28 +128,28 @@ fn overlap(a: &Range<i64>, b: &Range<i64>) -> bool {
 /// Reads what each component means, in the order of the components, or gives refusal 8, 9
 /// or 10. Only lines directly in VEVENT and VFREEBUSY are read, which stand directly in
 /// VCALENDAR, so going through these in order is going through the lines in file order.
-pub fn read(text: &[u8], lines: &[Line], components: &[Component], context: &Context) -> Result<Vec<Meaning>, u8> {
+/// Refusal 10 waits until all are read, and is then for the first that breaks a rule.
+pub fn read(text: &[u8], lines: &[Line], components: &[Component], context: &Context) -> Result<Vec<Meaning>, Refusal> {
     let mut meanings = vec![Meaning::Other; components.len()];
-    let mut broken = false;
+    let mut broken = None;
     for number in children(components, 0) {
         let name = components[number].name(text, lines);
         let own = own_lines(lines, components, number);
         let meaning = if name.eq_ignore_ascii_case(b"VEVENT") {
-            EventLines::read(text, own, context).map(|e| e.event().map(Meaning::Event))
+            EventLines::read(text, own, context)?.event().map(Meaning::Event)
         } else if name.eq_ignore_ascii_case(b"VFREEBUSY") {
-            BlockLines::read(text, own, context).map(|b| b.block().map(Meaning::Block))
+            BlockLines::read(text, own, context)?.block().map(Meaning::Block)
         } else {
             continue;
         };
-        match meaning.map_err(Fault::refusal)? {
+        match meaning {
             Some(meaning) => meanings[number] = meaning,
-            None => broken = true,
+            None => broken = broken.or(Some(number)),
         }
     }
-    if broken {
-        Err(10)
-    } else {
-        Ok(meanings)
+    match broken {
+        None => Ok(meanings),
+        Some(first) => Err(Refusal { number: 10, line: components[first].begin_line(lines).number() }),
     }
 }
 
@@ -184,7 +185,7 @@ struct EventLines<'a> {
 }
 
 impl<'a> EventLines<'a> {
-    fn read<'l>(text: &'a [u8], own: impl Iterator<Item = &'l Line>, context: &Context) -> Result<Self, Fault> {
+    fn read<'l>(text: &'a [u8], own: impl Iterator<Item = &'l [Line]>, context: &Context) -> Result<Self, Refusal> {
         let mut read = EventLines {
             start: Once::new(),
             end: Once::new(),
@@ -193,21 +194,27 @@ impl<'a> EventLines<'a> {
             status: Once::new(),
             transparency: Once::new(),
         };
-        for line in own {
-            match EventProperty::named(line.name(text)) {
-                EventProperty::Start => read.start.put(values::event_time(text, line, context)?),
-                EventProperty::End => read.end.put(values::event_time(text, line, context)?),
-                EventProperty::Duration => {
-                    read.duration.put(values::duration(line.value(text)).ok_or(Fault::BadValue)?);
-                }
-                EventProperty::Rule => read.rule.put(values::rule(line.value(text), context)?),
-                EventProperty::Status => read.status.put(line.value(text)),
-                EventProperty::Transparency => read.transparency.put(line.value(text)),
-                EventProperty::Unsupported => return Err(Fault::Unsupported),
-                EventProperty::Unread => {}
+        for stretch in own {
+            for line in stretch {
+                read.add(text, line, context).map_err(|fault| fault.on(line))?;
             }
         }
         Ok(read)
+    }
+
+    /// Reads one more line.
+    fn add(&mut self, text: &'a [u8], line: &Line, context: &Context) -> Result<(), Fault> {
+        match EventProperty::named(line.name(text)) {
+            EventProperty::Start => self.start.put(values::event_time(text, line, context)?),
+            EventProperty::End => self.end.put(values::event_time(text, line, context)?),
+            EventProperty::Duration => self.duration.put(values::duration(line.value(text)).ok_or(Fault::BadValue)?),
+            EventProperty::Rule => self.rule.put(values::rule(line.value(text), context)?),
+            EventProperty::Status => self.status.put(line.value(text)),
+            EventProperty::Transparency => self.transparency.put(line.value(text)),
+            EventProperty::Unsupported => return Err(Fault::Unsupported),
+            EventProperty::Unread => {}
+        }
+        Ok(())
     }
 
     /// The event, or nothing if a component rule is broken.
@@ -287,22 +294,30 @@ struct BlockLines {
 }
 
 impl BlockLines {
-    fn read<'l>(text: &[u8], own: impl Iterator<Item = &'l Line>, context: &Context) -> Result<Self, Fault> {
+    fn read<'l>(text: &[u8], own: impl Iterator<Item = &'l [Line]>, context: &Context) -> Result<Self, Refusal> {
         let mut read = BlockLines { start: Once::new(), end: Once::new(), periods: Vec::new() };
-        for line in own {
-            let name = line.name(text);
-            if name.eq_ignore_ascii_case(b"DTSTART") {
-                read.start.put(values::block_time(text, line, context)?);
-            } else if name.eq_ignore_ascii_case(b"DTEND") {
-                read.end.put(values::block_time(text, line, context)?);
-            } else if name.eq_ignore_ascii_case(b"FREEBUSY") {
-                let before = read.periods.len();
-                let take = |start, end| read.periods.push(Period { start, end, busy: None });
-                let busy = values::free_busy(text, line, context, take)?;
-                read.periods[before..].iter_mut().for_each(|p| p.busy = busy);
+        for stretch in own {
+            for line in stretch {
+                read.add(text, line, context).map_err(|fault| fault.on(line))?;
             }
         }
         Ok(read)
+    }
+
+    /// Reads one more line.
+    fn add(&mut self, text: &[u8], line: &Line, context: &Context) -> Result<(), Fault> {
+        let name = line.name(text);
+        if name.eq_ignore_ascii_case(b"DTSTART") {
+            self.start.put(values::block_time(text, line, context)?);
+        } else if name.eq_ignore_ascii_case(b"DTEND") {
+            self.end.put(values::block_time(text, line, context)?);
+        } else if name.eq_ignore_ascii_case(b"FREEBUSY") {
+            let before = self.periods.len();
+            let take = |start, end| self.periods.push(Period { start, end, busy: None });
+            let busy = values::free_busy(text, line, context, take)?;
+            self.periods[before..].iter_mut().for_each(|p| p.busy = busy);
+        }
+        Ok(())
     }
 
     /// The block, or nothing if a component rule is broken.

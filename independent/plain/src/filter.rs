@@ -311,6 +311,7 @@ impl Search<'_, '_> {
         let tests = self.query.properties.iter().enumerate();
         tests.filter(|(_, test)| test.component == number).all(|(property, test)| {
             let mut named = own_lines(self.lines, self.components, component)
+                .flatten()
                 .filter(|line| line.name(self.text).eq_ignore_ascii_case(test.name));
             if test.demand.is_absent() {
                 return named.next().is_none();

@@ -1,5 +1,6 @@
-//! Answers the two questions of document 01, match and report, in plain Rust.
-//! The stages run in the order of its table of refusals; each has its own module.
+//! Answers the two questions of document 01, match and report, in plain Rust, and says the line
+//! of a refusal, as request R-1 asks. The stages run in the order of the table of refusals;
+//! each has its own module.
 
 #![forbid(unsafe_code)]
 #![warn(missing_docs)]
@@ -27,8 +28,24 @@ pub enum Answer {
     Verdict(bool),
     /// The number of bytes of a report that was written.
     Length(usize),
-    /// The number of the refusal, 1 to 12.
-    Refused(u8),
+    /// No answer, and why.
+    Refused(Refusal),
+}
+
+/// Why there is no answer.
+#[derive(Clone, Copy, Debug, PartialEq, Eq)]
+pub struct Refusal {
+    /// The number in the table of refusals, 1 to 12.
+    pub number: u8,
+    /// The line that it is about, the first being 1; 0 for all but refusals 6 to 10.
+    pub line: usize,
+}
+
+impl Refusal {
+    /// A refusal that is about no line.
+    fn of(number: u8) -> Self {
+        Refusal { number, line: 0 }
+    }
 }
 
 /// Does the calendar match the query? On refusals 1 to 5 `work` is unchanged,
@@ -43,10 +60,10 @@ pub fn report(cal: &[u8], start: u64, end: u64, offset: i64, stamp: u64, work: &
     try_report(cal, (start, end), offset, stamp, work, out).map_or_else(Answer::Refused, Answer::Length)
 }
 
-fn try_match(cal: &[u8], query: &[u8], offset: i64, work: &mut [u8]) -> Result<bool, u8> {
-    let context = Context::new(offset).ok_or(1)?;
+fn try_match(cal: &[u8], query: &[u8], offset: i64, work: &mut [u8]) -> Result<bool, Refusal> {
+    let context = Context::new(offset).ok_or(Refusal::of(1))?;
     check_buffer(cal, work)?;
-    let query = Query::read(query)?;
+    let query = Query::read(query).map_err(Refusal::of)?;
     let text = unfolded(cal, work);
     let (lines, components) = structure(text)?;
     let meanings = events::read(text, &lines, &components, &context)?;
@@ -60,24 +77,24 @@ fn try_report(
     stamp: u64,
     work: &mut [u8],
     out: &mut [u8],
-) -> Result<usize, u8> {
-    let range = time::range(start, end).ok_or(1)?;
-    let stamp = i64::try_from(stamp).ok().filter(|&s| s <= LAST_SECOND).ok_or(1)?;
-    let context = Context::new(offset).ok_or(1)?;
+) -> Result<usize, Refusal> {
+    let range = time::range(start, end).ok_or(Refusal::of(1))?;
+    let stamp = i64::try_from(stamp).ok().filter(|&s| s <= LAST_SECOND).ok_or(Refusal::of(1))?;
+    let context = Context::new(offset).ok_or(Refusal::of(1))?;
     check_buffer(cal, work)?;
     let text = unfolded(cal, work);
     let (lines, components) = structure(text)?;
     let meanings = events::read(text, &lines, &components, &context)?;
-    let pieces = report::pieces(&meanings, &range).ok_or(11)?;
-    report::write(&report::merged(pieces), &range, stamp, out).ok_or(12)
+    let pieces = report::pieces(&meanings, &range).ok_or(Refusal::of(11))?;
+    report::write(&report::merged(pieces), &range, stamp, out).ok_or(Refusal::of(12))
 }
 
 /// Refusals 2 and 3.
-fn check_buffer(cal: &[u8], work: &[u8]) -> Result<(), u8> {
+fn check_buffer(cal: &[u8], work: &[u8]) -> Result<(), Refusal> {
     if cal.len() > LONGEST_CALENDAR {
-        Err(2)
+        Err(Refusal::of(2))
     } else if work.len() < cal.len() {
-        Err(3)
+        Err(Refusal::of(3))
     } else {
         Ok(())
     }
@@ -90,9 +107,9 @@ fn unfolded<'a>(cal: &[u8], work: &'a mut [u8]) -> &'a [u8] {
 }
 
 /// Refusals 6 and 7: the lines and the components that they make.
-fn structure(text: &[u8]) -> Result<(Vec<Line>, Vec<Component>), u8> {
-    let lines = lines::cut(text).ok_or(6)?;
-    let components = nesting::read(text, &lines).ok_or(7)?;
+fn structure(text: &[u8]) -> Result<(Vec<Line>, Vec<Component>), Refusal> {
+    let lines = lines::cut(text).map_err(|line| Refusal { number: 6, line })?;
+    let components = nesting::read(text, &lines).map_err(|line| Refusal { number: 7, line })?;
     Ok((lines, components))
 }
 

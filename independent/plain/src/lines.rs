@@ -4,13 +4,15 @@
 /// The longest line without its CR LF.
 const LONGEST_LINE: usize = 1_024;
 
-/// A well formed line: where it starts in the text, and its parts counted from there.
+/// A well formed line: where it starts in the text, its parts counted from there, and which
+/// line it is. A line has four bytes or more, so that its number fits.
 #[derive(Clone, Copy, Debug)]
 pub struct Line {
     start: u32,
     name_end: u16,
     colon: u16,
     end: u16,
+    number: u16,
 }
 
 impl Line {
@@ -32,6 +34,11 @@ impl Line {
     /// Whether there is any parameter.
     pub fn has_parameters(&self) -> bool {
         self.name_end != self.colon
+    }
+
+    /// Which line of the text it is, the first being 1.
+    pub fn number(&self) -> usize {
+        self.number.into()
     }
 
     fn part<'a>(&self, text: &'a [u8], from: u16, to: u16) -> &'a [u8] {
@@ -121,22 +128,33 @@ fn first_fold(bytes: &[u8]) -> Option<usize> {
     Some(at + place)
 }
 
-/// Cuts the unfolded text into lines, or nothing if some line is badly formed. The CR LF at
-/// the end of each line must be all the controls that there are; they are counted for all
-/// lines at once.
-pub fn cut(text: &[u8]) -> Option<Vec<Line>> {
+/// Cuts the unfolded text into lines, or gives the number of the first that is badly formed.
+/// The CR LF at the end of each line must be all the controls that there are; they are counted
+/// for all lines at once.
+pub fn cut(text: &[u8]) -> Result<Vec<Line>, usize> {
     let mut lines = Vec::with_capacity(text.len() / 24 + 2);
     let mut start = 0;
-    while start < text.len() {
-        let line = read_line(text, start)?;
+    while let Some(line) = read_line(text, start, lines.len() + 1) {
         start += usize::from(line.end) + 2;
         lines.push(line);
     }
-    (controls(text) == 2 * lines.len()).then_some(lines)
+    if start == text.len() && controls(text) == 2 * lines.len() {
+        Ok(lines)
+    } else {
+        Err(first_bad(text, &lines))
+    }
+}
+
+/// The number of the first badly formed line: of the lines read, the first that has controls
+/// besides its CR LF, as one read past its true end has too; else the next line.
+#[cold]
+fn first_bad(text: &[u8], lines: &[Line]) -> usize {
+    let good = |line: &Line| controls(line.part(text, 0, line.end + 2)) == 2;
+    lines.iter().take_while(|line| good(line)).count() + 1
 }
 
 /// Reads the line that starts there, controls apart.
-fn read_line(text: &[u8], start: usize) -> Option<Line> {
+fn read_line(text: &[u8], start: usize, number: usize) -> Option<Line> {
     let bytes = &text[start..];
     let name_end = name_length(bytes);
     if name_end == 0 {
@@ -153,7 +171,13 @@ fn read_line(text: &[u8], start: usize) -> Option<Line> {
     if end > LONGEST_LINE || bytes.get(end + 1) != Some(&b'\n') {
         return None;
     }
-    Some(Line { start: start as u32, name_end: name_end as u16, colon: colon as u16, end: end as u16 })
+    Some(Line {
+        start: start as u32,
+        name_end: name_end as u16,
+        colon: colon as u16,
+        end: end as u16,
+        number: number as u16,
+    })
 }
 
 /// Where the parameter whose name starts at `from` ends.

@@ -13,9 +13,9 @@ const EVENT_DEPTH: usize = 2;
 /// A component, by the places of its lines.
 #[derive(Clone, Copy, Debug)]
 pub struct Component {
-    /// The number of its BEGIN line.
+    /// The place of its BEGIN line in the list of lines, the first being 0.
     begin: usize,
-    /// The number of its END line.
+    /// The place of its END line.
     end: usize,
     /// The number of the first component behind it and its descendants.
     next: usize,
@@ -24,7 +24,12 @@ pub struct Component {
 impl Component {
     /// The component's name.
     pub fn name<'a>(&self, text: &'a [u8], lines: &[Line]) -> &'a [u8] {
-        lines[self.begin].value(text)
+        self.begin_line(lines).value(text)
+    }
+
+    /// The component's BEGIN line.
+    pub fn begin_line<'l>(&self, lines: &'l [Line]) -> &'l Line {
+        &lines[self.begin]
     }
 }
 
@@ -35,21 +40,22 @@ pub fn children(components: &[Component], parent: usize) -> impl Iterator<Item =
     std::iter::successors(step(parent + 1), move |&child| step(components[child].next))
 }
 
-/// The property lines directly in component `number`, in file order: the stretches of
+/// The property lines directly in component `number`, in file order, as the stretches of
 /// lines between its inner components.
 pub fn own_lines<'a>(
     lines: &'a [Line],
     components: &'a [Component],
     number: usize,
-) -> impl Iterator<Item = &'a Line> + 'a {
+) -> impl Iterator<Item = &'a [Line]> + 'a {
     let this = &components[number];
     let starts = std::iter::once(this.begin).chain(children(components, number).map(|c| components[c].end));
     let ends = children(components, number).map(|c| components[c].begin).chain(std::iter::once(this.end));
-    starts.zip(ends).flat_map(|(start, end)| &lines[start + 1..end])
+    starts.zip(ends).map(|(start, end)| &lines[start + 1..end])
 }
 
-/// Lists the components, or nothing if the nesting is wrong. Component 0 is VCALENDAR.
-pub fn read(text: &[u8], lines: &[Line]) -> Option<Vec<Component>> {
+/// Lists the components, component 0 being VCALENDAR, or gives the number of the line that
+/// breaks the nesting; if none does but VCALENDAR is not closed, the number behind the last.
+pub fn read(text: &[u8], lines: &[Line]) -> Result<Vec<Component>, usize> {
     let mut components: Vec<Component> = Vec::new();
     let mut open = [0; DEEPEST];
     let mut depth = 0;
@@ -59,18 +65,18 @@ pub fn read(text: &[u8], lines: &[Line]) -> Option<Vec<Component>> {
         let ends = name.eq_ignore_ascii_case(b"END");
         // Only the first line stands outside every component, and it begins one.
         if depth == 0 && !(number == 0 && begins) {
-            return None;
+            return Err(line.number());
         }
         if !begins && !ends {
             continue;
         }
         let value = line.value(text);
         if line.has_parameters() || !is_name(value) {
-            return None;
+            return Err(line.number());
         }
         if begins {
             if depth == DEEPEST || components.len() == MOST || !may_stand(value, depth + 1) {
-                return None;
+                return Err(line.number());
             }
             open[depth] = components.len();
             depth += 1;
@@ -80,13 +86,17 @@ pub fn read(text: &[u8], lines: &[Line]) -> Option<Vec<Component>> {
             let next = components.len();
             let innermost = &mut components[open[depth]];
             if !value.eq_ignore_ascii_case(lines[innermost.begin].value(text)) {
-                return None;
+                return Err(line.number());
             }
             innermost.end = number;
             innermost.next = next;
         }
     }
-    Some(components).filter(|all| depth == 0 && !all.is_empty())
+    if depth == 0 && !components.is_empty() {
+        Ok(components)
+    } else {
+        Err(lines.len() + 1)
+    }
 }
 
 /// Whether a component of that name may stand at that depth.

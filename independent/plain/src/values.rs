@@ -3,6 +3,7 @@
 
 use crate::lines::{is_name, Line};
 use crate::time::{number, Context, Kind, Time, DAY};
+use crate::Refusal;
 
 /// The longest duration in seconds.
 const LONGEST_DURATION: i64 = 315_360_000;
@@ -17,12 +18,13 @@ pub enum Fault {
 }
 
 impl Fault {
-    /// The refusal's number.
-    pub fn refusal(self) -> u8 {
-        match self {
+    /// The refusal for that line.
+    pub fn on(self, line: &Line) -> Refusal {
+        let number = match self {
             Fault::Unsupported => 8,
             Fault::BadValue => 9,
-        }
+        };
+        Refusal { number, line: line.number() }
     }
 }
 

@@ -16,8 +16,8 @@ enum-known-a-2 c = search needs
 enum-known-a-3 : tie.Need-enum-known-a-3
 enum-known-a-3 c = search needs
 
-cast-t8 : tie.Need-cast-t8
-cast-t8 c = search needs
+cast-t9 : tie.Need-cast-t9
+cast-t9 c = search needs
 
 returns : tie.Need-returns
 returns c = spread-verdict (c .before .before .a .given .1) (c .verdict-value .ensures)
@@ -36,7 +36,7 @@ spread-of-spec =
     verdict-value-requires
     enum-known-a-2
     enum-known-a-3
-    cast-t8
+    cast-t9
     returns
     returns-2
     returns-3)
