@@ -24,28 +24,29 @@ use Rattle.line.specs.Reading.{headOf, valueOf, nameOf, parameterTexts, lineOf,
 use Rattle.delimiters.specs.Delimiters.{delimiterOf}
 use Rattle.delimiters.specs.Innermost.{isCalendar, isEvent, isFreeBusy, mayBegin}
 use Rattle.periods.specs.Periods.{period, secondIn, covers}
-use Rattle.periods.specs.BusyTypes.{reportPlace, sameBusy}
+use Rattle.periods.specs.BusyTypes.{BusyPeriod, reportPlace, sameBusy}
 use Rattle.periods.specs.declared.Period.{Period}
 use Rattle.periods.specs.declared.BusyType.{BusyType}
 use Rattle.values.specs.Period.{utcBy, utcAt, endBy as periodEnd, periodTo, periodFrom, periodOf, periodItems, allPeriods, goodPeriods}
 use Rattle.values.specs.Rule.{numberTo, frequencyPart, intervalBy as intervalPart, countBy, namedPart, partOf, noParts, withPart, withParts, ruleBy, ruleOf}
-use Rattle.values.specs.Times.{atSecond, timeBy, readTime, formOf, timeOf}
+use Rattle.values.specs.Times.{atSecond, timeBy, readTime, formOf, timeOf, utcOnly}
 use Rattle.property.specs.Properties.{propertyOf, timeIn, startBy, endBy, unlessZoned, durationBy, ruleValue, busyNamed, busyOf, typeValue, valueAs, propertyValueOf, beforePeriods, withPeriods}
 use Rattle.nesting.specs.Nesting.{afterBegin, afterEnd, afterProperty, walk, outcome, nestingOf}
 use Rattle.nesting.specs.Components.{delimitedFrom, itemsOf, treeOf, componentsIn, propertiesIn, itemsBelow}
 use Rattle.table.specs.Runs.{lead, leadIf, runs}
 use Rattle.events.specs.ComponentProperties.{noProperties, timeGiven, durationGiven, ruleGiven, withProperty, withSpan, withBusy, withProperties}
-use Rattle.events.specs.Events.{Entry, event, block, kindNumber, sameKind, isDate, statedEnd, statedDuration, endingBy, limitBy, repeatBy, daysBy, intervalBy, busyByStatus, busyBy, eventMade, eventWith as eventEnding, eventFrom, eventBy, blockFrom, blockBy}
+use Rattle.events.specs.Events.{Entry, event, block, kindNumber, sameKind, isDate, statedEnd, statedDuration, endingBy, limitBy, repeatBy, daysBy, intervalBy, busyByStatus, busyBy, eventMade, eventWith as eventEnding, eventFrom, eventBy, blockBetween, blockFrom, blockBy}
 use Rattle.events.specs.declared.Event.{Event}
+use Rattle.events.specs.declared.Block.{Block}
 use Rattle.calendar.specs.Meaning.{Meaning, fault, calendar, scopeOf, componentScope, propertyValuesIn, faultOr, faultIn, valueFault, eventOf, blockOf, isBroken, brokenOr, ruleFault, periodsBy, blockPeriods, entryOf, entriesOf, fileLines, componentsOf, byRules, byValues, byLines, contentsOf, meaningOf}
 use Rattle.recurrence.specs.Candidates.{firstAt, spanOf, candidateOf, startsBefore}
 use Rattle.recurrence.specs.Instances.{stepOf, startOf, repeats, isInstance, occurs, defaultLength, lengthBy, isZeroLength, endOf}
-use Rattle.recurrence.specs.TimeRange.{EventIn, Decides, endsAfter, instanceIn}
+use Rattle.recurrence.specs.TimeRange.{EventIn, Decides, overlaps, endsAfter, instanceIn, betweenIn, periodsOverlap, boundsIn, blockIn}
 use Rattle.recurrence.proofs.Instances.{none-stands}
 use Rattle.recurrence.proofs.Candidates.{before-candidate, none-after, search-finds, search-ends}
 use Rattle.pieces.specs.BusyPeriods.{entryPeriods, busyPeriods}
 use Rattle.pieces.specs.Covered.{ofType, coveredBy, covered}
-use Rattle.examples.specs.Examples.{seconds, refused, Claim, time, duration, range, noPiece, periods, last, calendarBytes, meaningWith, eventWith, blockWith, startingAt, lasting, OneEvent, Entries, Last, Holds, All, table}
+use Rattle.examples.specs.Examples.{seconds, refused, Claim, time, duration, range, blockRange, noPiece, periods, last, calendarBytes, meaningWith, eventWith, blockWith, startingAt, lasting, OneEvent, OneBlock, Entries, Last, Holds, All, table}
 use Rattle.pieces.proofs.Pieces.{no-pieces}
 
 -- ---- lists of periods
@@ -102,6 +103,23 @@ of-event (calendar []) f P g h = clash h refl
 of-event (calendar (event e ∷ [])) f P g h = record { given = e; means = refl; so = g e h }
 of-event (calendar (event e ∷ x ∷ xs)) f P g h = clash h refl
 of-event (calendar (block k ps ∷ xs)) f P g h = clash h refl
+
+-- the test holds of its one block
+ofBlock : Meaning → (Block → List BusyPeriod → Bool) → Bool
+ofBlock (fault n i) f = false
+ofBlock (calendar []) f = false
+ofBlock (calendar (event e ∷ xs)) f = false
+ofBlock (calendar (block k ps ∷ [])) f = f k ps
+ofBlock (calendar (block k ps ∷ x ∷ xs)) f = false
+
+of-block : (m : Meaning) (f : Block → List BusyPeriod → Bool) (P : Block → List BusyPeriod → Type 0)
+    → ((k : Block) (ps : List BusyPeriod) → f k ps ≡ true → P k ps) → ofBlock m f ≡ true → OneBlock m P
+unfolding ofBlock
+of-block (fault n i) f P g h = clash h refl
+of-block (calendar []) f P g h = clash h refl
+of-block (calendar (event e ∷ xs)) f P g h = clash h refl
+of-block (calendar (block k ps ∷ [])) f P g h = record { given = k; listed = ps; means = refl; so = g k ps h }
+of-block (calendar (block k ps ∷ x ∷ xs)) f P g h = clash h refl
 
 -- the test holds of its entries
 ofEntries : Meaning → (List Entry → Bool) → Bool
@@ -169,6 +187,17 @@ is-last : (k s : ℕ) (e : Event) → isLast k s e ≡ true → Last e k s
 unfolding isLast
 is-last k s e h = last-by e k s h
 
+-- ---- blocks
+
+inBlock : ℕ → ℕ → Bool → Block → List BusyPeriod → Bool
+inBlock a b true k ps = blockIn k ps a b
+inBlock a b false k ps = not (blockIn k ps a b)
+
+in-block : (a b : ℕ) (t : Bool) (k : Block) (ps : List BusyPeriod) → inBlock a b t k ps ≡ true → blockIn k ps a b ≡ t
+unfolding inBlock
+in-block a b true k ps h = h
+in-block a b false k ps h = not-true _ h
+
 hasPeriods : ℕ → List Period → List Entry → Bool
 hasPeriods n qs es = samePeriods (runs (covered BusyType.Busy es) 0 n) qs
 
@@ -184,6 +213,7 @@ test (time s (refused r)) = isFault r 3 (startingAt s)
 test (duration s (seconds n)) = ofEvent (lasting s) (hasLength n)
 test (duration s (refused r)) = isFault r 4 (lasting s)
 test (range ls a b t) = ofEvent (eventWith ls) (inRange a b t)
+test (blockRange ls a b t) = ofBlock (blockWith ls) (inBlock a b t)
 test (noPiece ls a b) = ofEvent (eventWith ls) isZeroLength
 test (periods ls n qs) = ofEntries (blockWith ls) (hasPeriods n qs)
 test (last ls k s) = ofEvent (eventWith ls) (isLast k s)
@@ -195,6 +225,7 @@ sound (time s (refused r)) h = is-fault r 3 _ h
 sound (duration s (seconds n)) h = of-event _ (hasLength n) _ (has-length n) h
 sound (duration s (refused r)) h = is-fault r 4 _ h
 sound (range ls a b t) h = of-event _ (inRange a b t) _ (in-range a b t) h
+sound (blockRange ls a b t) h = of-block _ (inBlock a b t) _ (in-block a b t) h
 sound (noPiece ls a b) h = of-event _ isZeroLength _ (no-pieces a b) h
 sound (periods ls n qs) h = of-entries _ (hasPeriods n qs) _ (has-periods n qs) h
 sound (last ls k s) h = of-event _ (isLast k s) _ (is-last k s) h
@@ -208,7 +239,7 @@ unfolding tests
 all-hold [] h = tt
 all-hold (c ∷ cs) h = (sound c (and-left (test c) (tests cs) h), all-hold cs (and-right (test c) (tests cs) h))
 
--- document 01, Examples at the edges: every row holds
+-- document 01, Examples at the edges, and R-2: every row holds
 pub edges : All table
-unfolding table calendarBytes meaningWith eventWith blockWith startingAt lasting isFault startsAt hasLength ofEvent ofEntries inRange isLast hasPeriods tests test isUtc samePeriod samePeriods isDigit upper sameName firstOutside before after splitParts headOf valueOf nameOf parameterTexts lineOf parametersNamed someList hasParameter hasTwice hasList digitPair pairAt joined yearAt checkedDay three dateAt checkedTime timeAt clockOf clockAt readDateTime isLeap yearDays daysBeforeYear monthLengths lengthIn beforeIn monthDays daysBeforeMonth dayNumber isDay timeStart nextStage weightOf blank withDigit fitting unitTo withUnit step textRuns finish durationText durationSeconds withinLimit limited readDuration epoch since utcSecond propertyOf timeIn startBy unlessZoned durationBy valueAs propertyValueOf beforePeriods withPeriods atSecond timeBy readTime formOf timeOf reportPlace sameBusy faultOr byValues secondIn covers lead leadIf runs firstAt spanOf startsBefore stepOf startOf repeats isInstance occurs defaultLength lengthBy isZeroLength endOf endsAfter instanceIn entryPeriods busyPeriods ofType coveredBy covered isLetter isNameByte isControl isName isBreak isBlank isFold unfolded cut contentLines scanStep isEnding scan isWellFormed lineCheckFrom lineCheck plainSplit valuesNamed firstValue delimiterOf isCalendar isEvent isFreeBusy mayBegin afterBegin afterEnd afterProperty walk outcome nestingOf delimitedFrom itemsOf treeOf componentsIn propertiesIn itemsBelow scopeOf componentScope propertyValuesIn faultIn valueFault eventOf blockOf isBroken brokenOr ruleFault periodsBy blockPeriods entryOf entriesOf fileLines componentsOf byRules byLines contentsOf meaningOf noProperties timeGiven durationGiven ruleGiven withProperty withSpan withBusy withProperties kindNumber sameKind isDate statedEnd statedDuration endingBy limitBy repeatBy daysBy intervalBy busyByStatus busyBy eventMade eventEnding eventFrom eventBy blockFrom blockBy endBy ruleValue busyNamed busyOf typeValue utcBy utcAt periodEnd periodTo periodFrom periodOf periodItems allPeriods goodPeriods numberTo frequencyPart intervalPart countBy namedPart partOf noParts withPart withParts ruleBy ruleOf decimal pooled
+unfolding table calendarBytes meaningWith eventWith blockWith startingAt lasting isFault startsAt hasLength ofEvent ofBlock ofEntries inRange inBlock isLast hasPeriods tests test isUtc samePeriod samePeriods isDigit upper sameName firstOutside before after splitParts headOf valueOf nameOf parameterTexts lineOf parametersNamed someList hasParameter hasTwice hasList digitPair pairAt joined yearAt checkedDay three dateAt checkedTime timeAt clockOf clockAt readDateTime isLeap yearDays daysBeforeYear monthLengths lengthIn beforeIn monthDays daysBeforeMonth dayNumber isDay timeStart nextStage weightOf blank withDigit fitting unitTo withUnit step textRuns finish durationText durationSeconds withinLimit limited readDuration epoch since utcSecond propertyOf timeIn startBy unlessZoned durationBy valueAs propertyValueOf beforePeriods withPeriods atSecond timeBy readTime formOf timeOf utcOnly reportPlace sameBusy faultOr byValues secondIn covers lead leadIf runs firstAt spanOf startsBefore stepOf startOf repeats isInstance occurs defaultLength lengthBy isZeroLength endOf endsAfter instanceIn overlaps betweenIn periodsOverlap boundsIn blockIn entryPeriods busyPeriods ofType coveredBy covered isLetter isNameByte isControl isName isBreak isBlank isFold unfolded cut contentLines scanStep isEnding scan isWellFormed lineCheckFrom lineCheck plainSplit valuesNamed firstValue delimiterOf isCalendar isEvent isFreeBusy mayBegin afterBegin afterEnd afterProperty walk outcome nestingOf delimitedFrom itemsOf treeOf componentsIn propertiesIn itemsBelow scopeOf componentScope propertyValuesIn faultIn valueFault eventOf blockOf isBroken brokenOr ruleFault periodsBy blockPeriods entryOf entriesOf fileLines componentsOf byRules byLines contentsOf meaningOf noProperties timeGiven durationGiven ruleGiven withProperty withSpan withBusy withProperties kindNumber sameKind isDate statedEnd statedDuration endingBy limitBy repeatBy daysBy intervalBy busyByStatus busyBy eventMade eventEnding eventFrom eventBy blockBetween blockFrom blockBy endBy ruleValue busyNamed busyOf typeValue utcBy utcAt periodEnd periodTo periodFrom periodOf periodItems allPeriods goodPeriods numberTo frequencyPart intervalPart countBy namedPart partOf noParts withPart withParts ruleBy ruleOf decimal pooled
 edges = all-hold table refl

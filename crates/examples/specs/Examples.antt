@@ -1,4 +1,4 @@
--- The proved examples of document 01, Examples at the edges: one table, of the definitions that the contracts cite.
+-- The proved examples of document 01, Examples at the edges, and those of R-2: one table, of the definitions that the contracts cite.
 use Prim.Native.Nat.{ℕ, _<_}
 use Prim.Native.String.{String}
 use mathlib.Core.Path.{_≡_}
@@ -11,12 +11,14 @@ use Rattle.time.specs.declared.date_time.Kind.{Kind}
 use Rattle.periods.specs.Periods.{period}
 use Rattle.periods.specs.declared.Period.{Period}
 use Rattle.periods.specs.declared.BusyType.{BusyType}
+use Rattle.periods.specs.BusyTypes.{BusyPeriod}
 use Rattle.table.specs.Runs.{runs}
-use Rattle.events.specs.Events.{Entry, event}
+use Rattle.events.specs.Events.{Entry, event, block}
 use Rattle.events.specs.declared.Event.{Event}
+use Rattle.events.specs.declared.Block.{Block}
 use Rattle.calendar.specs.Meaning.{Meaning, fault, calendar, meaningOf}
 use Rattle.recurrence.specs.Instances.{startOf, occurs, lengthBy}
-use Rattle.recurrence.specs.TimeRange.{EventIn, Decides}
+use Rattle.recurrence.specs.TimeRange.{EventIn, blockIn, Decides}
 use Rattle.pieces.specs.Covered.{covered}
 use Rattle.pieces.specs.Pieces.{busyPieces}
 
@@ -34,6 +36,8 @@ pub data Claim : Type 0 where
   duration : String → Value → Claim
   -- an event's lines, a range, and whether the event is in it
   range : List String → ℕ → ℕ → Bool → Claim
+  -- a block's lines, a range, and whether the block is in it
+  blockRange : List String → ℕ → ℕ → Bool → Claim
   -- the lines of an event without a busy piece in a range
   noPiece : List String → ℕ → ℕ → Claim
   -- a block's lines, how many seconds from 0 are looked at, and the covered ones of type BUSY as periods
@@ -77,6 +81,13 @@ pub record OneEvent (m : Meaning) (P : Event → Type 0) : Type 0 where
   pub means : m ≡ calendar (event given ∷ [])
   pub so : P given
 
+-- a calendar of one block alone, of which and of whose periods something holds
+pub record OneBlock (m : Meaning) (P : Block → List BusyPeriod → Type 0) : Type 0 where
+  pub given : Block
+  pub listed : List BusyPeriod
+  pub means : m ≡ calendar (block given listed ∷ [])
+  pub so : P given listed
+
 -- a calendar without a fault, of whose entries something holds
 pub record Entries (m : Meaning) (P : List Entry → Type 0) : Type 0 where
   pub given : List Entry
@@ -95,6 +106,7 @@ Holds (time s (refused r)) = startingAt s ≡ fault r 3
 Holds (duration s (seconds n)) = OneEvent (lasting s) (λ e. lengthBy e (e .ending) ≡ n)
 Holds (duration s (refused r)) = lasting s ≡ fault r 4
 Holds (range ls a b t) = OneEvent (eventWith ls) (λ e. Decides t (EventIn e a b))
+Holds (blockRange ls a b t) = OneBlock (blockWith ls) (λ k ps. blockIn k ps a b ≡ t)
 Holds (noPiece ls a b) = OneEvent (eventWith ls) (λ e. busyPieces a b (event e ∷ []) ≡ [])
 Holds (periods ls n qs) = Entries (blockWith ls) (λ es. runs (covered BusyType.Busy es) 0 n ≡ qs)
 Holds (last ls k s) = OneEvent (eventWith ls) (λ e. Last e k s)
@@ -118,6 +130,14 @@ table =
     ∷ range ("DTSTART:19700101T001640Z" ∷ "DTEND:19700101T003320Z" ∷ []) 2_000 3_000 false
     ∷ range ("DTSTART:19700101T001640Z" ∷ "DTEND:19700101T003320Z" ∷ []) 1_999 2_000 true
     ∷ range ("DTSTART:19700101T003320Z" ∷ []) 2_000 3_000 true
+    -- R-2: a block with both ends, both sides of both; its periods play no part; a block by its periods
+    ∷ blockRange ("DTSTART:19700101T001640Z" ∷ "DTEND:19700101T003320Z" ∷ []) 2_000 3_000 true
+    ∷ blockRange ("DTSTART:19700101T001640Z" ∷ "DTEND:19700101T003320Z" ∷ []) 2_001 3_000 false
+    ∷ blockRange ("DTSTART:19700101T001640Z" ∷ "DTEND:19700101T003320Z" ∷ []) 500 1_000 false
+    ∷ blockRange ("DTSTART:19700101T001640Z" ∷ "DTEND:19700101T003320Z" ∷ []) 500 1_001 true
+    ∷ blockRange ("DTSTART:19700101T001640Z" ∷ "DTEND:19700101T003320Z" ∷ "FREEBUSY:19700101T010000Z/PT1H" ∷ []) 3_600 3_700 false
+    ∷ blockRange ("FREEBUSY:19700101T001640Z/19700101T003320Z" ∷ []) 2_000 3_000 false
+    ∷ blockRange ("FREEBUSY:19700101T001640Z/19700101T003320Z" ∷ []) 1_999 2_000 true
     ∷ noPiece ("DTSTART:19700101T003320Z" ∷ []) 2_000 3_000
     ∷ periods ("FREEBUSY:19700101T000010Z/19700101T000020Z,19700101T000020Z/19700101T000030Z" ∷ []) 40 (period 10 30 ∷ [])
     ∷ periods ("FREEBUSY:19700101T000010Z/19700101T000020Z,19700101T000021Z/19700101T000030Z" ∷ []) 40 (period 10 20 ∷ period 21 30 ∷ [])

@@ -41,7 +41,7 @@ use Rattle.calendar.proofs.Meaning.{eventOf-small}
 use Rattle.recurrence.specs.TimeRange.{EventIn, betweenIn, periodsOverlap, boundsIn, blockIn, Decides}
 use Rattle.recurrence.proofs.Blocks.{periods-iff}
 use Rattle.recurrence.proofs.Candidates.{search-finds}
-use Rattle.recurrence.proofs.TimeRange.{decided-once, overlaps-iff, instance-in-iff}
+use Rattle.recurrence.proofs.TimeRange.{decided-once, overlaps-iff, between-iff, instance-in-iff}
 use Rattle.recurrence.specs.Instances.{instancesAtMost}
 use Rattle.filter.specs.Tests.{eventIn, blockRangeIn, componentIn, rangeHolds, someComponentNamed, someComponent, componentHolds, childrenHold, componentTest, queryHolds}
 use Rattle.filter.specs.FilterRules.{ValuePasses, ParameterPasses, LinePasses, PropertyPasses, ComponentIn, RangePasses, ComponentPasses, QueryPasses}
@@ -312,10 +312,10 @@ module _ (c : Context) (k : Component) (a b : ℕ) where
   event-says o EventRead.Broken x h = clash h refl
 
   block-says : componentScope k ≡ Scope.FreeBusy → (r : BlockRead) → blockOf c k ≡ r → blockRangeIn c k r a b ≡ true → ComponentIn c k a b
-  unfolding blockRangeIn blockIn betweenIn
+  unfolding blockRangeIn blockIn
   block-says o (BlockRead.Of x) e h =
       by-ends a b busyPeriods (x .start) (x .end)
-      (λ s t y z w. ComponentIn.block-between x s t o e y z (overlaps-iff a b s t .0 w))
+      (λ s t y z w. ComponentIn.block-between x s t o e y z (between-iff a b s t .0 w))
       (λ y w. let i = periods-iff a b busyPeriods .0 w in ComponentIn.block-period x o e y (i .which) (i .listed) (overlaps-iff a b _ _ .0 (i .passes)))
       h
   block-says o BlockRead.Broken e h = clash h refl
@@ -342,10 +342,10 @@ module _ (c : Context) (k : Component) (a b : ℕ) where
       sym (decided-once true _ (search-finds (i .number) (i .passes)) (some-decides a b (eventOf-small c k e x) l))
 
   scope-holds : b ≤ lastSecond → ComponentIn c k a b → componentIn c (componentScope k) k a b ≡ true
-  unfolding blockIn betweenIn
+  unfolding blockIn
   scope-holds l (ComponentIn.event-in e o x n i) =
       as-event o (EventRead.Of e) x (in-event l e x (record { number = n; passes = instance-in-iff e a b n .1 i }))
-  scope-holds l (ComponentIn.block-between x s t o e y z h) = as-block o x e (sym (both-ends c a b x (propertiesIn (k .items)) s t y z (sym (overlaps-iff a b s t .1 h))))
+  scope-holds l (ComponentIn.block-between x s t o e y z h) = as-block o x e (sym (both-ends c a b x (propertiesIn (k .items)) s t y z (sym (between-iff a b s t .1 h))))
   scope-holds l (ComponentIn.block-period x o e y p m h) =
       as-block o x e (by-periods a b busyPeriods (x .start) (x .end) y ∙ periods-iff a b busyPeriods .1 (record { which = p; listed = m; passes = overlaps-iff a b _ _ .1 h }))
 

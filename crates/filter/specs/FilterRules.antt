@@ -21,7 +21,7 @@ use Rattle.events.specs.declared.Bound.{Bound}
 use Rattle.events.specs.declared.Block.{Block}
 use Rattle.events.specs.declared.BlockRead.{BlockRead}
 use Rattle.calendar.specs.Meaning.{componentScope, eventOf, blockOf, blockPeriods}
-use Rattle.recurrence.specs.TimeRange.{InstanceIn, Overlaps}
+use Rattle.recurrence.specs.TimeRange.{InstanceIn, BetweenIn, Overlaps}
 
 -- ---- a value against a record's text, its collation and its flag
 
@@ -61,9 +61,9 @@ pub data PropertyPasses (p : List ℕ) (q : Sections) (i : ℕ) (r : PropertyRec
 pub data ComponentIn (c : Context) (k : Component) (a b : ℕ) : Type 0 where
   -- an event: some instance is in range
   event-in : (e : Event) → componentScope k ≡ Scope.Event → eventOf c k ≡ EventRead.Of e → (n : ℕ) → InstanceIn e a b n → ComponentIn c k a b
-  -- a block with both ends, as an event between them
+  -- a block with both ends: by them alone
   block-between : (x : Block) (s t : ℕ) → componentScope k ≡ Scope.FreeBusy → blockOf c k ≡ BlockRead.Of x → x .start ≡ Bound.At s → x .end ≡ Bound.At t
-      → Overlaps a b s t → ComponentIn c k a b
+      → BetweenIn a b s t → ComponentIn c k a b
   -- any other block: some period is in range
   block-period : (x : Block) → componentScope k ≡ Scope.FreeBusy → blockOf c k ≡ BlockRead.Of x
       → ((s t : ℕ) → x .start ≡ Bound.At s → x .end ≡ Bound.At t → ⊥) → (p : BusyPeriod) → List·Memᴰ p (blockPeriods c (propertiesIn (k .items)))

@@ -12,7 +12,7 @@ use Rattle.ascii.proofs.Bools.{and-left, and-right, and-both}
 use Rattle.periods.specs.declared.Period.{Period}
 use Rattle.events.specs.declared.Event.{Event}
 use Rattle.recurrence.specs.Instances.{startOf, endOf, lengthBy, isZeroLength, occurs}
-use Rattle.recurrence.specs.TimeRange.{overlaps, endsAfter, instanceIn, periodsOverlap, Overlaps, InstanceIn, Decides}
+use Rattle.recurrence.specs.TimeRange.{overlaps, endsAfter, instanceIn, betweenIn, periodsOverlap, Overlaps, BetweenIn, InstanceIn, Decides}
 use Rattle.recurrence.proofs.Instances.{zero-length-end, takes-place-iff}
 
 -- it stands
@@ -80,6 +80,17 @@ overlaps-iff a b s t = (λ e. says (eqb s t) refl e, tests)
         ap (λ (z : Bool). cond z (leb a s && ltb s b) (ltb a t && ltb s b)) (ne-eqb s t n) ∙ and-both (lt-ltb a t f) (lt-ltb s b g)
     tests (Overlaps.no-length e f g) =
         ap (λ (z : Bool). cond z (leb a s && ltb s b) (ltb a t && ltb s b)) (eq-eqb s t e) ∙ and-both (le-leb a s f) (lt-ltb s b g)
+
+pub between-iff : (a b s t : ℕ) → (betweenIn a b s t ≡ true) ↔ BetweenIn a b s t
+unfolding betweenIn
+between-iff a b s t = (
+  λ h.
+      record {
+        ends-at-or-after = leb-true a t (and-left (leb a t) (ltb s b) h);
+        starts-before = ltb-true s b (and-right (leb a t) (ltb s b) h);
+      },
+  λ i. and-both (le-leb a t (i .ends-at-or-after)) (lt-ltb s b (i .starts-before)),
+)
 
 module _ (e : Event) (a k : ℕ) where
   ends-says : endsAfter e a k ≡ true → ((lengthBy e (e .ending) ≡ 0 → ⊥) → a < endOf e k) × (lengthBy e (e .ending) ≡ 0 → a ≤ startOf e k)

@@ -1,4 +1,4 @@
--- The time range test (document 01, Events and blocks; RFC 4791 9.9): is an event or a block in the range from a up to, but not including, b?
+-- The time range test (document 01, Events and blocks, and R-2; RFC 4791 9.9): is an event or a block in the range from a up to, but not including, b?
 use Prim.Native.Nat.{ℕ, _≤_, _<_}
 use mathlib.Core.Path.{_≡_}
 use mathlib.Core.Bool.{Bool, true, false, cond, _&&_, _||_}
@@ -28,9 +28,9 @@ pub record EventIn (e : Event) (a b : ℕ) : Type 0 where
   pub number : ℕ
   pub passes : instanceIn e a b number ≡ true
 
--- a block with both ends, tested as an event between them is
+-- a block with both ends goes by them alone: one that ends where the range starts is in it, one that starts where the range ends is not
 unfoldable pub betweenIn : ℕ → ℕ → ℕ → ℕ → Bool
-betweenIn a b s t = overlaps a b s t
+betweenIn a b s t = leb a t && ltb s b
 
 -- any other block goes by its periods, free ones too; without one it is in no range
 unfoldable pub periodsOverlap : ℕ → ℕ → List Period → Bool
@@ -52,6 +52,11 @@ blockIn k ps a b = boundsIn a b (k .start) (k .end) ps
 pub data Overlaps (a b s t : ℕ) : Type 0 where
   with-length : (s ≡ t → ⊥) → a < t → s < b → Overlaps a b s t
   no-length : s ≡ t → a ≤ s → s < b → Overlaps a b s t
+
+-- a block from s to t, against the range
+pub record BetweenIn (a b s t : ℕ) : Type 0 where
+  pub ends-at-or-after : a ≤ t
+  pub starts-before : s < b
 
 -- instance k of an event is in range
 pub record InstanceIn (e : Event) (a b k : ℕ) : Type 0 where

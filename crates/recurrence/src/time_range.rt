@@ -20,11 +20,11 @@ pub fn overlaps(a: u64, b: u64, s: u64, t: u64) -> bool
     }
 }
 
-// A block with both ends is tested as an event between them is.
+// A block with both ends is in the range also where it ends at the range's start.
 pub fn between_in(a: u64, b: u64, s: u64, t: u64) -> bool
     ensures { λ r. ⌜ r ≡ betweenIn a b s t ⌝ }
 {
-    overlaps(a, b, s, t)
+    (a <= t) & (s < b)
 }
 
 // Does instance k end after a, or, of zero length, start at a or later?
