@@ -25,6 +25,8 @@ pub struct Maker<'r> {
     pub faults: usize,
     /// Seconds at which something starts or ends.
     pub marks: Vec<i64>,
+    /// DTSTART and DTEND of blocks that have both.
+    pub spans: Vec<(i64, i64)>,
     pub lines: Vec<Vec<u8>>,
 }
 
@@ -39,7 +41,7 @@ impl<'r> Maker<'r> {
         };
         let spread = random.number(&[30, 7_200, DAY, 10 * DAY, 10 * DAY, 90 * DAY, 700 * DAY, LAST_SECOND]);
         let faults = random.number(&[0, 0, 0, 0, 0, 0, 0, 4, 20, 120, 300]) as usize;
-        Maker { random, offset, focus, spread, faults, marks: Vec::new(), lines: Vec::new() }
+        Maker { random, offset, focus, spread, faults, marks: Vec::new(), spans: Vec::new(), lines: Vec::new() }
     }
 
     fn fault(&mut self) -> bool {
@@ -482,6 +484,9 @@ impl<'r> Maker<'r> {
                     let (parameters, value) = (self.time_parameters(kind), self.time(kind, second));
                     own.push(format!("{name}{parameters}:{value}"));
                 }
+            }
+            if own.len() == 2 {
+                self.spans.push((first, last));
             }
         }
         for _ in 0..self.random.below(5) {

@@ -16,7 +16,8 @@ pub fn make(seed: u64, number: u64) -> Case {
     let mut offset = offset(random);
     let mut maker = Maker::new(random, offset);
     profile(&mut maker);
-    let Maker { mut lines, marks, focus, .. } = maker;
+    let Maker { mut lines, marks, spans, focus, .. } = maker;
+    let places = queries::Places { marks, spans, focus };
 
     if random.often(60) {
         damage::faults(random, &mut lines);
@@ -55,12 +56,11 @@ pub fn make(seed: u64, number: u64) -> Case {
     }
     let work = work_length(random, calendar.len());
     if random.often(500) {
-        let query = queries::make(random, &lines, &marks, focus);
+        let query = queries::make(random, &lines, &places);
         let out = random.below(6);
         Case { calendar, query: Some(query), start: 0, end: 0, offset, stamp: 0, work, out }
     } else {
-        let (start, end) =
-            if random.often(15) { queries::edgy_range(random) } else { queries::range(random, &marks, focus) };
+        let (start, end) = if random.often(15) { queries::edgy_range(random) } else { queries::range(random, &places) };
         let stamp = stamp(random);
         let mut case = Case { calendar, query: None, start, end, offset, stamp, work, out: 0 };
         case.out = output_length(random, &case);

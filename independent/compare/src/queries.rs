@@ -52,8 +52,26 @@ impl Query {
     }
 }
 
-/// A range, mostly within the limits, that often starts or ends at a mark.
-pub fn range(random: &mut Random, marks: &[i64], focus: i64) -> (u64, u64) {
+/// The seconds around which ranges are made.
+pub struct Places {
+    pub marks: Vec<i64>,
+    pub spans: Vec<(i64, i64)>,
+    pub focus: i64,
+}
+
+/// A range, mostly within the limits, that often starts or ends at a mark, or stands just before
+/// or behind a span.
+pub fn range(random: &mut Random, places: &Places) -> (u64, u64) {
+    let Places { marks, spans, focus } = places;
+    if !spans.is_empty() && random.often(300) {
+        let (first, last) = spans[random.below(spans.len())];
+        let (step, length) = (random.number(&[-1, 0, 0, 1]), random.number(&[1, 2, 60, 3_600, 86_400]));
+        return if random.often(500) {
+            limited(last + step, last + step + length)
+        } else {
+            limited(first + step - length, first + step)
+        };
+    }
     let point = |random: &mut Random| {
         let second = if !marks.is_empty() && random.often(650) {
             marks[random.below(marks.len())] + random.number(&[-1, 0, 0, 0, 1])
@@ -76,8 +94,13 @@ pub fn range(random: &mut Random, marks: &[i64], focus: i64) -> (u64, u64) {
         }
         _ => (point(random), point(random)),
     };
-    let (start, end) = (a.min(b).min(LAST_SECOND - 1), a.max(b).min(LAST_SECOND));
-    (start as u64, end.max(start + 1) as u64)
+    limited(a.min(b), a.max(b))
+}
+
+/// The range, or what is nearest to it within the limits and not empty.
+fn limited(start: i64, end: i64) -> (u64, u64) {
+    let start = start.clamp(0, LAST_SECOND - 1);
+    (start as u64, end.clamp(start + 1, LAST_SECOND) as u64)
 }
 
 /// A range that is at or beyond a limit.
@@ -106,9 +129,8 @@ pub fn edgy_range(random: &mut Random) -> (u64, u64) {
 }
 
 /// A query for the calendar of those lines.
-pub fn make(random: &mut Random, lines: &[Vec<u8>], marks: &[i64], focus: i64) -> Vec<u8> {
-    let mut query =
-        if random.often(450) { fitting(random, lines, marks, focus) } else { well_formed(random, lines, marks, focus) };
+pub fn make(random: &mut Random, lines: &[Vec<u8>], places: &Places) -> Vec<u8> {
+    let mut query = if random.often(450) { fitting(random, lines, places) } else { well_formed(random, lines, places) };
     if random.often(90) {
         spoil(random, &mut query);
     }
@@ -134,7 +156,7 @@ pub fn make(random: &mut Random, lines: &[Vec<u8>], marks: &[i64], focus: i64) -
     bytes
 }
 
-fn well_formed(random: &mut Random, lines: &[Vec<u8>], marks: &[i64], focus: i64) -> Query {
+fn well_formed(random: &mut Random, lines: &[Vec<u8>], places: &Places) -> Query {
     let mut query = Query {
         ranges: Vec::new(),
         texts: Vec::new(),
@@ -147,7 +169,7 @@ fn well_formed(random: &mut Random, lines: &[Vec<u8>], marks: &[i64], focus: i64
         2 => 8,
         _ => 1 + random.below(3),
     };
-    query.ranges = (0..ranges).map(|_| range(random, marks, focus)).collect();
+    query.ranges = (0..ranges).map(|_| range(random, places)).collect();
     if random.often(80) {
         query.text(b"spare text \xff");
     }
@@ -218,7 +240,7 @@ fn well_formed(random: &mut Random, lines: &[Vec<u8>], marks: &[i64], focus: i64
 
 /// A query made after some lines of one component: its chain of components, and tests that
 /// those lines pass in most cases.
-fn fitting(random: &mut Random, lines: &[Vec<u8>], marks: &[i64], focus: i64) -> Query {
+fn fitting(random: &mut Random, lines: &[Vec<u8>], places: &Places) -> Query {
     let mut query = Query {
         ranges: Vec::new(),
         texts: Vec::new(),
@@ -238,7 +260,7 @@ fn fitting(random: &mut Random, lines: &[Vec<u8>], marks: &[i64], focus: i64) ->
         }
     }
     chain.truncate(8);
-    query.ranges.push(if random.often(300) { (0, LAST_SECOND as u64) } else { range(random, marks, focus) });
+    query.ranges.push(if random.often(300) { (0, LAST_SECOND as u64) } else { range(random, places) });
     let calendar = query.text(b"VCALENDAR");
     query.components.push([0, calendar, 0, 0]);
     for &number in chain.iter().skip(1) {

@@ -103,7 +103,8 @@ impl Event {
 impl Block {
     fn in_range(&self, range: &Range<i64>) -> bool {
         match &self.span {
-            Some(span) => overlap(span, range),
+            // One that ends where the range starts is in it.
+            Some(span) => range.start <= span.end && span.start < range.end,
             None => self.periods.iter().any(|p| overlap(&(p.start..p.end), range)),
         }
     }

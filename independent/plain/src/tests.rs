@@ -1,4 +1,5 @@
-//! The worked examples of document 01, and refusals with their lines, run on the public calls.
+//! The worked examples of document 01, refusals with their lines and blocks at the ends of a
+//! range, run on the public calls.
 //! The cases with answers are replayed by the `compare` program instead.
 
 use crate::{matches, report, Answer, Refusal};
@@ -107,4 +108,42 @@ fn lines_of_values_and_components() {
     refused(&calendar(&[good, broken, broken].concat()), 10, 5);
     refused(&calendar("BEGIN:VEVENT|BEGIN:X|DTSTART:x|END:X|DTSTART:x|END:VEVENT|"), 9, 6);
     refused(&calendar("BEGIN:VFREEBUSY|X:1|FREEBUSY:x|END:VFREEBUSY|"), 9, 4);
+}
+
+/// Whether a component of that name with those lines, `|` between two, is in the range.
+fn in_range(name: &str, lines: &str, start: u64, end: u64) -> bool {
+    let cal = file(&format!("BEGIN:{name}\n{}\nEND:{name}\n", lines.replace('|', "\n")));
+    let mut query = vec![1];
+    query.extend([start.to_be_bytes(), end.to_be_bytes()].concat());
+    query.extend(b"\x02\x09VCALENDAR");
+    query.push(name.len() as u8);
+    query.extend(name.as_bytes());
+    query.extend([2, 0, 0, 0, 0, 0, 1, 1, 0, 0, 0]);
+    match matches(&cal, &query, 0, &mut vec![0; cal.len()]) {
+        Answer::Verdict(yes) => yes,
+        other => panic!("{other:?}"),
+    }
+}
+
+#[test]
+fn blocks_at_the_ends_of_a_range() {
+    let ends = "DTSTART:19700101T001640Z|DTEND:19700101T003320Z";
+    let period = "FREEBUSY:19700101T001640Z/19700101T003320Z";
+    for block in [ends.to_string(), format!("{ends}|{period}"), format!("{ends}|FREEBUSY:19700101T010000Z/PT1H")] {
+        assert!(in_range("VFREEBUSY", &block, 1_999, 3_000));
+        assert!(in_range("VFREEBUSY", &block, 2_000, 3_000));
+        assert!(!in_range("VFREEBUSY", &block, 2_001, 3_000));
+        assert!(!in_range("VFREEBUSY", &block, 500, 1_000));
+        assert!(in_range("VFREEBUSY", &block, 500, 1_001));
+        assert!(!in_range("VFREEBUSY", &block, 3_600, 3_700));
+    }
+    // By periods, one end alone or none, and events.
+    let start = format!("DTSTART:19700101T000000Z|{period}");
+    let end = format!("DTEND:19700101T010000Z|{period}");
+    for (name, lines) in [("VFREEBUSY", period), ("VFREEBUSY", &start), ("VFREEBUSY", &end), ("VEVENT", ends)] {
+        assert!(in_range(name, lines, 1_999, 3_000));
+        assert!(!in_range(name, lines, 2_000, 3_000));
+        assert!(!in_range(name, lines, 500, 1_000));
+        assert!(in_range(name, lines, 500, 1_001));
+    }
 }
