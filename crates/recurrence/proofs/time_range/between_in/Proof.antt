@@ -1,4 +1,4 @@
--- The definition's own test.
+-- `recurrence::time_range::between_in` meets its contract: the test is the definition's own.
 use mathlib.Core.Path.{refl}
 use Rattle.recurrence.specs.TimeRange.{betweenIn}
 use Rattle.recurrence.proofs.time_range.between_in.Statement.{statement}
