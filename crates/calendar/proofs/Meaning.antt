@@ -9,7 +9,7 @@ use Rattle.nesting.specs.Files.{nestingIn, structureBy}
 use Rattle.nesting.specs.declared.Structure.{Structure}
 use Rattle.values.specs.declared.times.Context.{Context}
 use Rattle.events.specs.Events.{Entry, event, block}
-use Rattle.calendar.specs.Meaning.{Meaning, fault, calendar, byRules, byValues, byLines, valueFault, ruleFault, entriesOf, fileLines, componentsOf, contentsOf, meaningOf, faultOf, structureFault, structureRefusal, propertyValuesIn, eventOf, blockOf, eventEntry, blockEntry, entryOf, componentScope}
+use Rattle.calendar.specs.Meaning.{Meaning, fault, calendar, byRules, byValues, byLines, valueFault, ruleFault, entriesAmong, entriesOf, fileLines, componentsOf, contentsOf, meaningOf, faultOf, structureFault, structureRefusal, propertyValuesIn, eventOf, blockOf, eventEntry, blockEntry, entryOf, componentScope}
 use Rattle.calendar.specs.declared.ValueCheck.{ValueCheck}
 use Rattle.calendar.specs.declared.RuleCheck.{RuleCheck}
 use Rattle.calendar.specs.declared.Fault.{Fault}
@@ -20,7 +20,7 @@ use Rattle.property.specs.declared.Scope.{Scope}
 use Rattle.property.proofs.Properties.{propertyValueOf-small}
 use Rattle.nesting.specs.Components.{Numbered, Component, propertiesIn}
 use Rattle.periods.specs.BusyTypes.{BusyPeriod}
-use Rattle.events.specs.Sizes.{EventSmall}
+use Rattle.events.specs.Sizes.{EventSmall, EventsSmall}
 use Rattle.events.specs.declared.Event.{Event}
 use Rattle.events.specs.declared.EventRead.{EventRead}
 use Rattle.events.specs.declared.BlockRead.{BlockRead}
@@ -125,36 +125,41 @@ eventOf-small c k e q = event-small _ e (property-values-small c Scope.Event (pr
 
 -- the event of an entry that is one
 eventOr : Event → Entry → Event
-eventOr y (event e) = e
+eventOr y (event e gone) = e
 eventOr y (block k ps) = y
 
 isOne : Entry → Bool
-isOne (event e) = true
+isOne (event e gone) = true
 isOne (block k ps) = false
 
-event-entry-small : (c : Context) (k : Component) (r : EventRead) → eventOf c k ≡ r → (e : Event) → List·Memᴰ (event e) (eventEntry r) → EventSmall e
-unfolding eventOr
-event-entry-small c k (EventRead.Of y) q e d = subst EventSmall (sym (ap (eventOr e) (List·Memᴰ·eq-of-singleton d))) (eventOf-small c k y q)
-event-entry-small c k EventRead.Broken q e d = absurd (List·Memᴰ·not-nil d)
+module _ (c : Context) (all : List Component) (e : Event) (gone : List ℕ) where
+  event-entry-small : (k : Component) (r : EventRead) (g : List ℕ) → eventOf c k ≡ r → List·Memᴰ (event e gone) (eventEntry r g) → EventSmall e
+  unfolding eventOr
+  event-entry-small k (EventRead.Of y) g q d = subst EventSmall (sym (ap (eventOr e) (List·Memᴰ·eq-of-singleton d))) (eventOf-small c k y q)
+  event-entry-small k EventRead.Broken g q d = absurd (List·Memᴰ·not-nil d)
 
-no-block-entry : (r : BlockRead) (ps : List BusyPeriod) (e : Event) → List·Memᴰ (event e) (blockEntry r ps) → ⊥
-unfolding isOne
-no-block-entry (BlockRead.Of k) ps e d = clash refl (ap isOne (List·Memᴰ·eq-of-singleton d))
-no-block-entry BlockRead.Broken ps e d = List·Memᴰ·not-nil d
+  no-block-entry : (r : BlockRead) (ps : List BusyPeriod) → List·Memᴰ (event e gone) (blockEntry r ps) → ⊥
+  unfolding isOne
+  no-block-entry (BlockRead.Of k) ps d = clash refl (ap isOne (List·Memᴰ·eq-of-singleton d))
+  no-block-entry BlockRead.Broken ps d = List·Memᴰ·not-nil d
 
-entry-small : (c : Context) (o : Scope) (k : Component) (e : Event) → List·Memᴰ (event e) (entryOf c o k) → EventSmall e
-unfolding entryOf
-entry-small c Scope.Event k e d = event-entry-small c k (eventOf c k) refl e d
-entry-small c Scope.FreeBusy k e d = absurd (no-block-entry (blockOf c k) _ e d)
-entry-small c Scope.Other k e d = absurd (List·Memᴰ·not-nil d)
+  entry-small : (o : Scope) (k : Component) → List·Memᴰ (event e gone) (entryOf c all o k) → EventSmall e
+  unfolding entryOf
+  entry-small Scope.Event k d = event-entry-small k (eventOf c k) _ refl d
+  entry-small Scope.FreeBusy k d = absurd (no-block-entry (blockOf c k) _ d)
+  entry-small Scope.Other k d = absurd (List·Memᴰ·not-nil d)
+
+  among-small : (ks : List Component) → List·Memᴰ (event e gone) (entriesAmong c all ks) → EventSmall e
+  unfolding entriesAmong
+  among-small [] d = absurd (List·Memᴰ·not-nil d)
+  among-small (k ∷ ks) d = go (List·Memᴰ·append-cases (entryOf c all (componentScope k) k) d) (among-small ks)
+    where
+      go : List·Memᴰ (event e gone) (entryOf c all (componentScope k) k) ⊎ List·Memᴰ (event e gone) (entriesAmong c all ks)
+          → (List·Memᴰ (event e gone) (entriesAmong c all ks) → EventSmall e) → EventSmall e
+      go (inl m) r = entry-small (componentScope k) k m
+      go (inr m) r = r m
 
 -- the events of a calendar are small
-pub entries-small : (c : Context) (ks : List Component) (e : Event) → List·Memᴰ (event e) (entriesOf c ks) → EventSmall e
+pub entries-small : (c : Context) (ks : List Component) → EventsSmall (entriesOf c ks)
 unfolding entriesOf
-entries-small c [] e d = absurd (List·Memᴰ·not-nil d)
-entries-small c (k ∷ ks) e d = go (List·Memᴰ·append-cases (entryOf c (componentScope k) k) d) (entries-small c ks e)
-  where
-    go : List·Memᴰ (event e) (entryOf c (componentScope k) k) ⊎ List·Memᴰ (event e) (entriesOf c ks) → (List·Memᴰ (event e) (entriesOf c ks) → EventSmall e)
-        → EventSmall e
-    go (inl m) r = entry-small c (componentScope k) k e m
-    go (inr m) r = r m
+entries-small c ks e gone d = among-small c ks e gone ks d

@@ -111,22 +111,31 @@ unfoldable pub blockPeriods : Context → List Numbered → List BusyPeriod
 blockPeriods c [] = []
 blockPeriods c (x ∷ xs) = periodsBy (propertyValueOf c Scope.FreeBusy (x .line)) (x .line) ++ blockPeriods c xs
 
-abbrev pub eventEntry : EventRead → List Entry
-eventEntry (EventRead.Of e) = event e ∷ []
-eventEntry EventRead.Broken = []
+-- the starts that are taken away from an event, by all the components of its calendar: no property that is read takes one away
+unfoldable pub removedFrom : Context → List Component → Component → List ℕ
+removedFrom c all k = []
+
+abbrev pub eventEntry : EventRead → List ℕ → List Entry
+eventEntry (EventRead.Of e) gone = event e gone ∷ []
+eventEntry EventRead.Broken gone = []
 
 abbrev pub blockEntry : BlockRead → List BusyPeriod → List Entry
 blockEntry (BlockRead.Of b) ps = block b ps ∷ []
 blockEntry BlockRead.Broken ps = []
 
-unfoldable pub entryOf : Context → Scope → Component → List Entry
-entryOf c Scope.Event k = eventEntry (eventOf c k)
-entryOf c Scope.FreeBusy k = blockEntry (blockOf c k) (blockPeriods c (propertiesIn (k .items)))
-entryOf c Scope.Other k = []
+-- the entry of a component, beside all the components of its calendar
+unfoldable pub entryOf : Context → List Component → Scope → Component → List Entry
+entryOf c all Scope.Event k = eventEntry (eventOf c k) (removedFrom c all k)
+entryOf c all Scope.FreeBusy k = blockEntry (blockOf c k) (blockPeriods c (propertiesIn (k .items)))
+entryOf c all Scope.Other k = []
 
+unfoldable pub entriesAmong : Context → List Component → List Component → List Entry
+entriesAmong c all [] = []
+entriesAmong c all (k ∷ ks) = entryOf c all (componentScope k) k ++ entriesAmong c all ks
+
+-- those of a calendar
 unfoldable pub entriesOf : Context → List Component → List Entry
-entriesOf c [] = []
-entriesOf c (k ∷ ks) = entryOf c (componentScope k) k ++ entriesOf c ks
+entriesOf c ks = entriesAmong c ks ks
 
 -- the lines of a file, each as it is read
 unfoldable pub fileLines : List ℕ → List ContentLine

@@ -28,12 +28,12 @@ use Rattle.report.specs.Writing.{packed}
 use Rattle.events.specs.Events.{Entry}
 use Rattle.calendar.specs.Meaning.{structureRefusal, entriesOf, componentsOf}
 use Rattle.calendar.specs.declared.Fault.{Fault}
-use Rattle.pieces.specs.BusyPeriods.{busyPeriods}
+use Rattle.pieces.specs.BusyPeriods.{statedPeriods, instancePeriods, gathered, busyPeriods}
 use Rattle.pieces.specs.Columns.{flat, stored, Stored, Room}
 use Rattle.pieces.specs.Covered.{coveredBy, covered}
-use Rattle.pieces.specs.Pieces.{busyPieces}
-use Rattle.pieces.proofs.Columns.{stored-all}
-use Rattle.pieces.proofs.Pieces.{busyPieces-cover, pieces-inside}
+use Rattle.pieces.specs.Pieces.{piecesOf, busyPieces}
+use Rattle.pieces.proofs.Columns.{stored-as, stored-then, stored-few, stored-long, stored-all}
+use Rattle.pieces.proofs.Pieces.{piecesOf-append, busyPieces-cover, pieces-inside}
 use Rattle.refusals.specs.Refusals.{Row, firstRefusal, row, structureRows, contentsRows, calendarRows}
 use Rattle.refusals.specs.Offsets.{offsetGood, offsetRead}
 use Rattle.refusals.specs.Stages.{workBy}
@@ -212,6 +212,17 @@ module _ (a e : ℕ) (es : List Entry) where
             few = t .few;
           }
 
+-- the pieces of stated periods, and behind them those of instances, are all
+pub all-pieces : (a e : ℕ) (es : List Entry) {o o′ o″ : List ℕ} {n m : ℕ} → Stored o 0 (piecesOf a e (gathered statedPeriods es)) o′ n
+    → Stored o′ n (piecesOf a e (gathered instancePeriods es)) o″ m → Stored o 0 (busyPieces a e es) o″ m
+unfolding busyPieces busyPeriods
+all-pieces a e es x y = stored-as (stored-then x y) (sym (piecesOf-append a e (gathered statedPeriods es) (gathered instancePeriods es)))
+
+-- room and number for the pieces of events
+pub stated-room : {c : Context} {u rows : List ℕ} {a e : ℕ} {o o′ entries : List ℕ} {x : ContentsRead} → ContentsAre c u rows a e o o′ entries x → x .fault ≡ Fault.None
+    → Room o → Room o′ × (x .count ≤ 513)
+stated-room k q l = (stored-long (k .stored q) ∙ l, stored-few (k .stored q) (omega arith))
+
 -- ---- refusals 8 to 11, then the tables
 
 module _ {c : Context} {u rows : List ℕ} {a e : ℕ} {o o′ entries : List ℕ} {x : ContentsRead} (k : ContentsAre c u rows a e o o′ entries x) {r : Collected} {us vs : List ℕ} where
@@ -222,13 +233,14 @@ module _ {c : Context} {u rows : List ℕ} {a e : ℕ} {o o′ entries : List �
     contents-pass : Tabled (pieceRows c u a e) (fewestPeriods a e (entriesOf c (componentsOf u))) r us vs → ContentsTabled c u a e r us vs
     contents-pass t = tabled-passed (contents-passed c u _ (sym (k .fault-is) ∙ q)) t
 
-    pub contents-many : 512 < x .count → r ≡ noTables (Fault.At 11 0) → ContentsTabled c u a e r us vs
-    unfolding pieceRows
-    contents-many m w = contents-pass (tabled-refused (stored-many a e _ (k .stored q) m) w)
+    module _ {o″ : List ℕ} {n : ℕ} (d : Stored o′ (x .count) (piecesOf a e (gathered instancePeriods (entriesOf c (componentsOf u)))) o″ n) where
+      pub contents-many : 512 < n → r ≡ noTables (Fault.At 11 0) → ContentsTabled c u a e r us vs
+      unfolding pieceRows
+      contents-many m w = contents-pass (tabled-refused (stored-many a e _ (all-pieces a e _ (k .stored q) d) m) w)
 
-    pub contents-few : x .count ≤ 512 → Room o → a < e → Typed o′ (x .count) r us vs → ContentsTabled c u a e r us vs
-    unfolding pieceRows
-    contents-few m l w t = contents-pass (tabled-stored a e _ (k .stored q) m l w t)
+      pub contents-few : n ≤ 512 → Room o → a < e → Typed o″ n r us vs → ContentsTabled c u a e r us vs
+      unfolding pieceRows
+      contents-few m l w t = contents-pass (tabled-stored a e _ (all-pieces a e _ (k .stored q) d) m l w t)
 
 -- ---- from the calendar on
 

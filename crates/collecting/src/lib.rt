@@ -1,6 +1,7 @@
 // Refusals 1 to 3 and 6 to 11 of a report, then its period tables: what a report is written from.
 // Nothing is written but the work buffer and the columns of the tables.
 use calendar::Fault;
+use contents::instances;
 use nesting::Structure;
 use refusals::OffsetRead;
 use structure::Found;
@@ -8,8 +9,9 @@ use time::limits;
 use values::times::Context;
 ghost use mathlib.Core.Path.{_≡_};
 ghost use Prim.Native.Nat.{_*_, _≤_, _<_};
-ghost use lib.ListN.{length};
+ghost use lib.ListN.{length, getD};
 ghost use Rattle.pieces.specs.Columns.{Room};
+ghost use Rattle.contents.specs.Removed.{RemovedRows};
 ghost use Rattle.values.specs.Times.{ContextGood};
 ghost use Rattle.time.specs.Limits.{lastSecond};
 ghost use Rattle.collecting.specs.Collecting.{Collects};
@@ -72,6 +74,8 @@ fn collect_stored(
     ends: &mut [u32],
     column: &mut [u32],
     entries: &mut [u64],
+    places: &[u32],
+    removed: &[u32],
     s: &[u8],
     index: &[u32],
     rows: &[u32],
@@ -82,6 +86,7 @@ fn collect_stored(
     requires { ⌜ (length (now starts) ≡ 512) × (length (now ends) ≡ 512) ⌝ }
     requires { ⌜ Room (now column) ⌝ }
     requires { ⌜ length (now entries) ≡ 3072 ⌝ }
+    requires { ⌜ RemovedRows c (now s) (now rows) (now places) (now removed) (getD (now rows) 2 0) ⌝ }
     requires { ⌜ ContextGood c ⌝ }
     requires { ⌜ FileRows (now s) (now index) (now rows) ⌝ }
     requires { ⌜ (start < end) × (end ≤ lastSecond) ⌝ }
@@ -89,10 +94,23 @@ fn collect_stored(
 {
     let read = contents::read_contents(column, entries, s, index, rows, c, start, end);
     let f = read.fault;
-    let n = read.count;
+    let stated = read.count;
     match f {
         Fault::At(k, line) => refused(Fault::At(k, line)),
         Fault::None => {
+            let n = instances::store_events(
+                column,
+                stated,
+                entries,
+                places,
+                removed,
+                s,
+                index,
+                rows,
+                c,
+                start,
+                end,
+            );
             if 512 < n {
                 return refused(Fault::At(11, 0));
             }
@@ -101,7 +119,7 @@ fn collect_stored(
     }
 }
 
-// The same with memory of its own: room for 513 pieces of three numbers, and for 256 rows of twelve.
+// The same with memory of its own: room for 513 pieces of three numbers, and for 256 rows of twelve. No start is taken away from any event.
 fn collect_contents(
     starts: &mut [u32],
     ends: &mut [u32],
@@ -120,11 +138,15 @@ fn collect_contents(
 {
     let mut column = [0u32; 1539];
     let mut entries = [0u64; 3072];
+    let places = [0u32; 257];
+    let removed = [0u32; 1];
     collect_stored(
         starts,
         ends,
         &mut column,
         &mut entries,
+        &places,
+        &removed,
         s,
         index,
         rows,

@@ -2,7 +2,7 @@
 use Prim.Native.Nat.{ℕ, _+_, _*_, _-_, _≤_, _<_}
 use mathlib.Core.Path.{_≡_, refl, sym, ap, subst, _∙_}
 use mathlib.Core.Bool.{Bool, true, false, cond}
-use mathlib.Core.List.{List, [], _∷_, _++_, append-assoc, append-nil}
+use mathlib.Core.List.{List, [], _∷_, _++_, append-nil}
 use native.Mathlib.Omega.{arith}
 use borrow.Author.Tests.{ne-eqb, ltb-true, ltb-false}
 use lib.Dec.{eqb, ltb}
@@ -33,20 +33,21 @@ use Rattle.events.specs.Sizes.{EventSmall}
 use Rattle.events.proofs.EntryRows.{event-put, block-put, event-kept, block-kept}
 use Rattle.calendar.specs.Checks.{ruleElse}
 use Rattle.calendar.specs.Checks.{faultElse}
-use Rattle.calendar.specs.Meaning.{Meaning, scopeOf, componentScope, faultOr, faultIn, valueFault, eventOf, blockOf, eventBroken, blockBroken, isBroken, brokenOr, ruleFault, blockPeriods, eventEntry, blockEntry, entryOf, entriesOf, componentsOf, fileLines, byRules, byValues, contentsOf, faultOf, structureFault, structureRefusal}
+use Rattle.calendar.specs.Meaning.{Meaning, scopeOf, componentScope, faultOr, faultIn, valueFault, eventOf, blockOf, eventBroken, blockBroken, isBroken, brokenOr, ruleFault, blockPeriods, removedFrom, eventEntry, blockEntry, entryOf, entriesAmong, entriesOf, componentsOf, fileLines, byRules, byValues, contentsOf, faultOf, structureFault, structureRefusal}
 use Rattle.calendar.proofs.Meaning.{structure-refusal, no-refusal}
 use Rattle.calendar.specs.declared.ValueCheck.{ValueCheck}
 use Rattle.calendar.specs.declared.RuleCheck.{RuleCheck}
 use Rattle.calendar.specs.declared.Fault.{Fault}
 use Rattle.calendar.proofs.Meaning.{eventOf-small}
 use Rattle.calendar.proofs.Checks.{faultIn-else}
-use Rattle.pieces.specs.BusyPeriods.{eventPeriods, entryPeriods, busyPeriods}
-use Rattle.pieces.specs.Pieces.{piecesOf, busyPieces}
+use Rattle.pieces.specs.BusyPeriods.{statedPeriods, gathered}
+use Rattle.pieces.specs.Pieces.{piecesOf}
 use Rattle.pieces.specs.Columns.{Stored, Room}
-use Rattle.pieces.proofs.Columns.{stored-none, stored-as, stored-then, stored-few}
+use Rattle.pieces.proofs.BusyPeriods.{gathered-append}
+use Rattle.pieces.proofs.Columns.{stored-none, stored-as, stored-few}
 use Rattle.pieces.proofs.Pieces.{piecesOf-none, piecesOf-append}
 use Rattle.contents.specs.Lines.{together, linesFault, LinesGood}
-use Rattle.contents.specs.Contents.{componentFault, EntryStands, EntryGood, EntryBroken, EntryIs, entry-good, entry-broken, entry-unsupported, entry-bad, ContentsAre}
+use Rattle.contents.specs.Contents.{componentFault, statedIn, EntryStands, EntryGood, EntryBroken, EntryIs, entry-good, entry-broken, entry-unsupported, entry-bad, ContentsAre}
 use Rattle.contents.specs.declared.EntryRead.{EntryRead}
 use Rattle.contents.specs.declared.ContentsRead.{ContentsRead}
 use Rattle.contents.proofs.LinesStoring.{Left, left-start, left-then, left-none}
@@ -92,33 +93,40 @@ scopeNumber Scope.Other = 0
 scopes-apart : {A : Type 0} {o : Scope} (x y : Scope) → (scopeNumber x ≡ scopeNumber y → ⊥) → o ≡ x → o ≡ y → A
 scopes-apart x y f p q = absurd (f (ap scopeNumber (sym p ∙ q)))
 
--- ---- what entries are worth
+-- ---- the periods that entries state
 
-busyPeriods-append : (xs ys : List Entry) → busyPeriods (xs ++ ys) ≡ busyPeriods xs ++ busyPeriods ys
-unfolding busyPeriods
-busyPeriods-append [] ys = refl
-busyPeriods-append (x ∷ xs) ys =
-    ap (λ (l : List BusyPeriod). entryPeriods x ++ l) (busyPeriods-append xs ys) ∙ sym (append-assoc (entryPeriods x) (busyPeriods xs) (busyPeriods ys))
+event-stated : (r : EventRead) (g h : List ℕ) → gathered statedPeriods (eventEntry r g) ≡ gathered statedPeriods (eventEntry r h)
+unfolding gathered statedPeriods
+event-stated (EventRead.Of e) g h = refl
+event-stated EventRead.Broken g h = refl
 
-one-event : (e : Event) → busyPeriods (event e ∷ []) ≡ eventPeriods e
-unfolding busyPeriods entryPeriods
-one-event e = append-nil (eventPeriods e)
+-- beside whatever components
+any-stated : (c : Context) (all : List Component) (o : Scope) (x : Component) → gathered statedPeriods (entryOf c all o x) ≡ gathered statedPeriods (entryOf c [] o x)
+unfolding entryOf
+any-stated c all Scope.Event x = event-stated (eventOf c x) (removedFrom c all x) (removedFrom c [] x)
+any-stated c all Scope.FreeBusy x = refl
+any-stated c all Scope.Other x = refl
 
-one-block : (k : Block) (ps : List BusyPeriod) → busyPeriods (block k ps ∷ []) ≡ ps
-unfolding busyPeriods entryPeriods
-one-block k ps = append-nil ps
+event-states : (e : Event) (gone : List ℕ) → gathered statedPeriods (event e gone ∷ []) ≡ []
+unfolding gathered statedPeriods
+event-states e gone = refl
 
-no-entry : (a b : ℕ) → piecesOf a b (busyPeriods []) ≡ []
-unfolding busyPeriods
-no-entry a b = piecesOf-none a b
+block-states : (k : Block) (ps : List BusyPeriod) → gathered statedPeriods (block k ps ∷ []) ≡ ps
+unfolding gathered statedPeriods
+block-states k ps = append-nil ps
 
-entries-append : (a b : ℕ) (xs ys : List Entry) → busyPieces a b (xs ++ ys) ≡ piecesOf a b (busyPeriods xs) ++ busyPieces a b ys
-unfolding busyPieces
-entries-append a b xs ys = ap (piecesOf a b) (busyPeriods-append xs ys) ∙ piecesOf-append a b (busyPeriods xs) (busyPeriods ys)
+-- those of components in file order
+unfoldable pub allStated : Context → List Component → List BusyPeriod
+allStated c [] = []
+allStated c (x ∷ xs) = statedIn c x ++ allStated c xs
 
-no-entries : (c : Context) (a b : ℕ) → busyPieces a b (entriesOf c []) ≡ []
-unfolding busyPieces entriesOf
-no-entries c a b = no-entry a b
+among-stated : (c : Context) (all ks : List Component) → gathered statedPeriods (entriesAmong c all ks) ≡ allStated c ks
+unfolding entriesAmong gathered allStated statedIn
+among-stated c all [] = refl
+among-stated c all (k ∷ ks) =
+    gathered-append statedPeriods (entryOf c all (componentScope k) k) (entriesAmong c all ks)
+    ∙ ap (λ (l : List BusyPeriod). l ++ gathered statedPeriods (entriesAmong c all ks)) (any-stated c all (componentScope k) k)
+    ∙ ap (λ (l : List BusyPeriod). gathered statedPeriods (entryOf c [] (componentScope k) k) ++ l) (among-stated c all ks)
 
 -- ---- an event
 
@@ -140,9 +148,12 @@ module _ (c : Context) (x : Component) (w : componentScope x ≡ Scope.Event) wh
     unfolding isBroken
     broken-as z t = ap (λ (o : Scope). isBroken c o x) w ∙ ap eventBroken (sym event-read ∙ t)
 
-    entry-as : (e : Event) → y ≡ EventRead.Of e → busyPeriods (entryOf c (componentScope x) x) ≡ eventPeriods e
-    unfolding entryOf
-    entry-as e t = ap (λ (o : Scope). busyPeriods (entryOf c o x)) w ∙ ap (λ (z : EventRead). busyPeriods (eventEntry z)) (sym event-read ∙ t) ∙ one-event e
+    states-nothing : (e : Event) → y ≡ EventRead.Of e → statedIn c x ≡ []
+    unfolding statedIn entryOf
+    states-nothing e t =
+        ap (λ (o : Scope). gathered statedPeriods (entryOf c [] o x)) w
+        ∙ ap (λ (z : EventRead). gathered statedPeriods (eventEntry z (removedFrom c [] x))) (sym event-read ∙ t)
+        ∙ event-states e (removedFrom c [] x)
 
     event-stands : (e : Event) {k : ℕ} {old new : List ℕ} → y ≡ EventRead.Of e → EntryPut old k (eventRow e) new → EntryStands c x k old new
     event-stands e {k} {old} {new} t p =
@@ -157,14 +168,14 @@ module _ (c : Context) (x : Component) (w : componentScope x ≡ Scope.Event) wh
     lines-none : Stored o n [] o₁ m₁
     lines-none = stored-as (h .stored) (ap (piecesOf a b) (periods-event c (propertiesIn (x .items))) ∙ piecesOf-none a b)
 
-    pub event-good : (e : Event) {k m : ℕ} {o′ old new : List ℕ} → y ≡ EventRead.Of e → EntryPut old k (eventRow e) new
-        → Stored o₁ m₁ (piecesOf a b (eventPeriods e)) o′ m → EntryIs c x k a b o n o′ old new (EntryRead.Of m)
-    event-good e t p d =
+    pub event-good : (e : Event) {k : ℕ} {old new : List ℕ} → y ≡ EventRead.Of e → EntryPut old k (eventRow e) new
+        → EntryIs c x k a b o n o₁ old new (EntryRead.Of m₁)
+    event-good e t p =
         entry-good
         (record {
           no-fault = event-fault (h .no-fault);
           unbroken = broken-as (EventRead.Of e) t;
-          stored = stored-as (stored-then lines-none d) (sym (ap (piecesOf a b) (entry-as e t)));
+          stored = stored-as lines-none (sym (ap (piecesOf a b) (states-nothing e t) ∙ piecesOf-none a b));
           stands = event-stands e t p;
         })
 
@@ -188,12 +199,12 @@ module _ (c : Context) (x : Component) (w : componentScope x ≡ Scope.FreeBusy)
     unfolding isBroken
     block-broken-as z t = ap (λ (o : Scope). isBroken c o x) w ∙ ap blockBroken (sym block-read ∙ t)
 
-    block-entry-as : (k : Block) → y ≡ BlockRead.Of k → busyPeriods (entryOf c (componentScope x) x) ≡ blockPeriods c (propertiesIn (x .items))
-    unfolding entryOf
-    block-entry-as k t =
-        ap (λ (o : Scope). busyPeriods (entryOf c o x)) w
-        ∙ ap (λ (z : BlockRead). busyPeriods (blockEntry z (blockPeriods c (propertiesIn (x .items))))) (sym block-read ∙ t)
-        ∙ one-block k (blockPeriods c (propertiesIn (x .items)))
+    states-periods : (k : Block) → y ≡ BlockRead.Of k → statedIn c x ≡ blockPeriods c (propertiesIn (x .items))
+    unfolding statedIn entryOf
+    states-periods k t =
+        ap (λ (o : Scope). gathered statedPeriods (entryOf c [] o x)) w
+        ∙ ap (λ (z : BlockRead). gathered statedPeriods (blockEntry z (blockPeriods c (propertiesIn (x .items))))) (sym block-read ∙ t)
+        ∙ block-states k (blockPeriods c (propertiesIn (x .items)))
 
     block-stands : (d : Block) {k : ℕ} {old new : List ℕ} → y ≡ BlockRead.Of d → EntryPut old k (blockRow d) new → EntryStands c x k old new
     block-stands d {k} {old} {new} t p =
@@ -210,7 +221,7 @@ module _ (c : Context) (x : Component) (w : componentScope x ≡ Scope.FreeBusy)
         (record {
           no-fault = block-fault (h .no-fault);
           unbroken = block-broken-as (BlockRead.Of d) t;
-          stored = stored-as (h .stored) (ap (piecesOf a b) (periods-block c (propertiesIn (x .items)) ∙ sym (block-entry-as d t)));
+          stored = stored-as (h .stored) (ap (piecesOf a b) (periods-block c (propertiesIn (x .items)) ∙ sym (states-periods d t)));
           stands = block-stands d t p;
         })
 
@@ -230,13 +241,13 @@ other-lines c (x ∷ xs) = ap (λ (v : PropertyValue). faultOr (x .number) v (fa
 
 module _ (c : Context) (x : Component) (w : componentScope x ≡ Scope.Other) (k a b : ℕ) {n : ℕ} {o entries : List ℕ} where
   pub other-good : EntryIs c x k a b o n o entries entries (EntryRead.Of n)
-  unfolding componentFault isBroken entryOf
+  unfolding componentFault isBroken statedIn entryOf gathered
   other-good =
       entry-good
       (record {
         no-fault = ap (λ (y : Scope). linesFault c y (propertiesIn (x .items))) w ∙ other-lines c (propertiesIn (x .items));
         unbroken = ap (λ (y : Scope). isBroken c y x) w;
-        stored = stored-as (stored-none o n) (sym (ap (λ (y : Scope). piecesOf a b (busyPeriods (entryOf c y x))) w ∙ no-entry a b));
+        stored = stored-as (stored-none o n) (sym (ap (λ (y : Scope). piecesOf a b (gathered statedPeriods (entryOf c [] y x))) w ∙ piecesOf-none a b));
         stands =
             record {
               event = λ z. scopes-apart Scope.Other Scope.Event (λ v. omega (arith, v)) w z;
@@ -248,9 +259,13 @@ module _ (c : Context) (x : Component) (w : componentScope x ≡ Scope.Other) (k
 
 -- ---- from component to component
 
--- the busy pieces of components
+-- the pieces of what components state
 abbrev pub piecesIn : Context → ℕ → ℕ → List Component → List BusyPeriod
-piecesIn c a b ks = busyPieces a b (entriesOf c ks)
+piecesIn c a b ks = piecesOf a b (allStated c ks)
+
+no-pieces : (c : Context) (a b : ℕ) → piecesIn c a b [] ≡ []
+unfolding allStated
+no-pieces c a b = piecesOf-none a b
 
 -- the events and blocks of the rows below k stand in the column
 pub record EntriesBelow (c : Context) (s rows entries : List ℕ) (k : ℕ) : Type 0 where
@@ -362,9 +377,9 @@ module _ {c : Context} {a b : ℕ} {s rows o₀ : List ℕ} {m : ℕ} {o entries
         ∙ ap (λ (ks : List Component). ruleElse rules (ruleFault c ks)) (sym listed)
         ∙ g .first-broken
 
-    pieces-here : piecesIn c a b (componentsBy s rows k m) ≡ piecesOf a b (busyPeriods (entryOf c (componentScope x) x)) ++ piecesIn c a b rest
-    unfolding entriesOf
-    pieces-here = ap (piecesIn c a b) listed ∙ entries-append a b (entryOf c (componentScope x) x) (entriesOf c rest)
+    pieces-here : piecesIn c a b (componentsBy s rows k m) ≡ piecesOf a b (statedIn c x) ++ piecesIn c a b rest
+    unfolding allStated
+    pieces-here = ap (piecesIn c a b) listed ∙ piecesOf-append a b (statedIn c x) (allStated c rest)
 
     module _ {new : List ℕ} where
       -- the rows up to the next component's stand
@@ -437,7 +452,7 @@ module _ {c : Context} {a b : ℕ} {s rows o₀ : List ℕ} {m : ℕ} {o entries
 
 -- ---- all of them
 
-components-file : {s index rows : List ℕ} → FileRows s index rows → componentsOf s ≡ componentsBy s rows 1 (getD rows 2 0)
+pub components-file : {s index rows : List ℕ} → FileRows s index rows → componentsOf s ≡ componentsBy s rows 1 (getD rows 2 0)
 unfolding componentsOf fileLines treeIn
 components-file h = file-below h
 
@@ -492,7 +507,7 @@ module _ {s index rows : List ℕ} (h : FileRows s index rows) {m : ℕ} (w : m 
   -- no component is left
   pub contents-end : {c : Context} {a b : ℕ} {o o′ entries : List ℕ} {rules : RuleCheck} {n k : ℕ} {r : ContentsRead} → ReadingContents c a b s rows o m o′ entries rules n k → m ≤ k
       → r .fault ≡ faultOf (byValues ValueCheck.Good (byRules rules [])) → r .count ≡ n → ContentsAre c s rows a b o o′ entries r
-  unfolding contentsOf valueFault ruleFault
+  unfolding contentsOf valueFault ruleFault entriesOf
   contents-end {c} {a} {b} {o} {o′} {entries} {rules} {n} {k} {r} g l t q =
       let none : componentsBy s rows k m ≡ [] = components-none s rows l in
       let values : valueFault c (componentsOf s) ≡ ValueCheck.Good = ap (valueFault c) (sym all-of) ∙ sym (g .values) ∙ ap (valueFault c) none in
@@ -506,8 +521,11 @@ module _ {s index rows : List ℕ} (h : FileRows s index rows) {m : ℕ} (w : m 
             ∙ ap (λ (y : RuleCheck). faultOf (byValues ValueCheck.Good (byRules y (entriesOf c (componentsOf s))))) (sym first)
             ∙ ap (λ (y : ValueCheck). faultOf (byValues y (byRules (ruleFault c (componentsOf s)) (entriesOf c (componentsOf s))))) (sym values);
         stored = λ e.
-            let z = left-none (g .still (rules-good rules (sym t ∙ e))) (ap (piecesIn c a b) none ∙ no-entries c a b) in
-            subst (Stored o 0 (busyPieces a b (entriesOf c (componentsOf s))) o′) (sym q) (stored-as z (ap (piecesIn c a b) all-of));
+            let z = left-none (g .still (rules-good rules (sym t ∙ e))) (ap (piecesIn c a b) none ∙ no-pieces c a b) in
+            let stated : allStated c (componentsBy s rows 1 m) ≡ gathered statedPeriods (entriesAmong c (componentsOf s) (componentsOf s)) =
+            ap (allStated c) all-of ∙ sym (among-stated c (componentsOf s) (componentsOf s))
+            in
+            subst (Stored o 0 (piecesOf a b (gathered statedPeriods (entriesAmong c (componentsOf s) (componentsOf s)))) o′) (sym q) (stored-as z (ap (piecesOf a b) stated));
         entries = λ e.
             let z = g .known (rules-good rules (sym t ∙ e)) in
             record { room = g .size; events = λ p f u. z .events p (omega (arith, w)) u; blocks = λ p f u. z .blocks p (omega (arith, w)) u };

@@ -1,3 +1,4 @@
 pub mod LinesStoring
 pub mod LinesLaws
 pub mod Contents
+pub mod Removed

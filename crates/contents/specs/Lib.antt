@@ -1,3 +1,4 @@
 pub mod Lines
 pub mod EntryRows
+pub mod Removed
 pub mod Contents

@@ -1,5 +1,6 @@
-// The components right below VCALENDAR, each read once: refusals 8 to 10, the event or block as a row of numbers, and all of its busy pieces.
+// The components right below VCALENDAR, each read once: refusals 8 to 10, the event or block as a row of numbers, and the busy pieces of stated periods.
 // Lines and components are found by index and rows.
+pub mod instances;
 pub mod lines;
 
 use calendar::Fault;
@@ -10,7 +11,6 @@ use events::BlockRead;
 use events::EventRead;
 use events::rules;
 use lines::LinesRead;
-use pieces::storing;
 use property::Scope;
 use structure::rows;
 use values::times::Context;
@@ -73,7 +73,7 @@ fn read_event(
         LinesRead::Of(g, m) => match rules::event_by(g) {
             EventRead::Of(e) => {
                 events::rows::put_event(entries, k, e);
-                EntryRead::Of(storing::store_event(column, m, e, a, b))
+                EntryRead::Of(m)
             }
             EventRead::Broken => EntryRead::Broken,
         },
@@ -157,7 +157,7 @@ fn answer(values: ValueCheck, rules: RuleCheck, count: usize) -> ContentsRead
     }
 }
 
-// Refusals 8 to 10, the rows of all events and blocks, and the busy pieces from a up to, but not including, b.
+// Refusals 8 to 10, the rows of all events and blocks, and the busy pieces of stated periods from a up to, but not including, b.
 // Every component is read, whatever room is left, up to a value that is at fault: it goes before any rule.
 pub fn read_contents(
     column: &mut [u32],

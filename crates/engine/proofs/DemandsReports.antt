@@ -3,7 +3,7 @@
 use Prim.Native.Nat.{ℕ, _≤_, _<_, suc, _-_, _+_}
 use mathlib.Core.Path.{_≡_, refl, sym, ap, _∙_, subst}
 use mathlib.Core.Bool.{true, not, _&&_, Bool, false}
-use mathlib.Core.List.{List, [], _∷_, append-nil, append-assoc, List·Memᴰ, List·Memᴰ·head, List·Memᴰ·tail, List·Memᴰ·not-nil, List·Memᴰ·cases-cons, List·Memᴰ·append-cases}
+use mathlib.Core.List.{List, [], _∷_, _++_, append-nil, append-assoc, List·Memᴰ, List·Memᴰ·head, List·Memᴰ·tail, List·Memᴰ·not-nil, List·Memᴰ·cases-cons, List·Memᴰ·append-cases}
 use mathlib.Core.Logic.{_↔_, _⊎_, inl, inr, ⊎-elim}
 use native.Mathlib.Omega.{arith}
 use lib.IntN.{ℤ, pos}
@@ -25,7 +25,7 @@ use Rattle.events.specs.Events.{block}
 use Rattle.calendar.specs.Meaning.{entriesOf, componentsOf, faultOf}
 use Rattle.calendar.specs.declared.Fault.{Fault}
 use Rattle.calendar.proofs.Meaning.{entries-small}
-use Rattle.pieces.specs.BusyPeriods.{entryPeriods, busyPeriods}
+use Rattle.pieces.specs.BusyPeriods.{statedPeriods, instancePeriods, gathered, busyPeriods}
 use Rattle.pieces.specs.Covered.{ofType, coveredBy, covered, Covers}
 use Rattle.pieces.specs.Pieces.{busyPieces}
 use Rattle.pieces.proofs.Covered.{covered-iff}
@@ -55,8 +55,8 @@ read-entries o {r} w = ap (λ (u : List ℕ). entriesOf (contextOf o) (component
 
 -- these are its busy periods
 pub read-periods : (o : ℤ) {r : Report} → Writable r → busyPeriods (entriesIn (reportBytes r) o) ≡ reportPeriods r
-unfolding busyPeriods entryPeriods
-read-periods o {r} w = ap busyPeriods (read-entries o w) ∙ append-nil (reportPeriods r)
+unfolding busyPeriods gathered statedPeriods instancePeriods
+read-periods o {r} w = ap busyPeriods (read-entries o w) ∙ append-nil (reportPeriods r ++ []) ∙ append-nil (reportPeriods r)
 
 -- what it covers is what its periods cover
 pub read-covered : (o : ℤ) {r : Report} → Writable r → (b : BusyType) → isBusy b ≡ true → (x : ℕ) → coveredIn (reportBytes r) o b x ≡ covers (r .periods b) x

@@ -19,7 +19,7 @@ ghost use Rattle.query_check.specs.WellFormed.{recordsGood};
 ghost use Rattle.engine.specs.Answers.{outcomeOf};
 ghost use Rattle.engine.specs.MatchStages.{contentsOutcome, unfoldedOutcome, CalendarAnswered, QueryAnswered};
 
-// Refusals 8 to 10, then the filter. A match has no range: the pieces of the first second are stored, and nobody asks for them.
+// Refusals 8 to 10, then the filter. A match has no range: the pieces of the first second are stored, and nobody asks for them. No start is taken away from any event.
 fn match_contents(
     s: &[u8],
     index: &[u32],
@@ -36,12 +36,24 @@ fn match_contents(
 {
     let mut column = [0u32; 1539];
     let mut entries = [0u64; 3072];
+    let places = [0u32; 257];
+    let removed = [0u32; 1];
     let read = contents::read_contents(&mut column, &mut entries, s, index, rows, c, 0, 1);
     let f = read.fault;
     match f {
         Fault::At(k, line) => Answer::Refused(k, line),
         Fault::None => {
-            let holds = filter::components::query_holds(query, q, s, index, rows, &entries, c);
+            let holds = filter::components::query_holds(
+                query,
+                q,
+                s,
+                index,
+                rows,
+                &entries,
+                &places,
+                &removed,
+                c,
+            );
             Answer::Verdict(holds)
         }
     }

@@ -3,7 +3,6 @@
 use crate::ReportSeconds;
 use calendar::Fault;
 use report::lines;
-use table::seconds;
 ghost use mathlib.Core.Path.{_≡_};
 ghost use Prim.Native.Nat.{_+_, _≤_};
 ghost use lib.ListN.{length};
@@ -90,8 +89,8 @@ pub fn write_counted(
     ReportSeconds {
         fault,
         length: w.length,
-        busy: seconds::seconds_in(starts, ends, 0, busy),
-        tentative: seconds::seconds_in(starts, ends, busy, tentative),
-        unavailable: seconds::seconds_in(starts, ends, busy + tentative, unavailable),
+        busy: table::seconds::seconds_in(starts, ends, 0, busy),
+        tentative: table::seconds::seconds_in(starts, ends, busy, tentative),
+        unavailable: table::seconds::seconds_in(starts, ends, busy + tentative, unavailable),
     }
 }

@@ -128,7 +128,7 @@ blockFrom (TimeGiven.Given s) (TimeGiven.Given e) = blockBetween (s .second) (e 
 unfoldable pub blockBy : ComponentProperties → BlockRead
 blockBy g = cond (g .repeated) BlockRead.Broken (blockFrom (g .span .start) (g .span .end))
 
--- what a calendar holds: events, and blocks with their periods
+-- what a calendar holds: events, each with the starts that are taken away from it, and blocks with their periods
 pub data Entry : Type 0 where
-  event : Event → Entry
+  event : Event → List ℕ → Entry
   block : Block → List BusyPeriod → Entry

@@ -1,7 +1,9 @@
 -- How large the numbers of an event and of a block are, for sums and products over them.
 use Prim.Native.Nat.{ℕ, _≤_, _<_}
+use mathlib.Core.List.{List, List·Memᴰ}
 use Rattle.time.specs.Limits.{lastSecond}
 use Rattle.values.specs.Period.{DurationSmall}
+use Rattle.events.specs.Events.{Entry, event}
 use Rattle.events.specs.declared.Ending.{Ending}
 use Rattle.events.specs.declared.Repeat.{Repeat}
 use Rattle.events.specs.declared.Event.{Event}
@@ -26,3 +28,7 @@ pub record EventSmall (e : Event) : Type 0 where
   pub few-interval : e .interval ≤ 999
   pub ending-small : EndingSmall (e .start) (e .ending)
   pub repeat-small : RepeatSmall (e .start) (e .repeat)
+
+-- every event of a calendar is
+abbrev pub EventsSmall : List Entry → Type 0
+EventsSmall es = (e : Event) (gone : List ℕ) → List·Memᴰ (event e gone) es → EventSmall e

@@ -38,13 +38,14 @@ use Rattle.events.specs.ComponentProperties.{noProperties, timeGiven, durationG
 use Rattle.events.specs.Events.{Entry, event, block, kindNumber, sameKind, isDate, statedEnd, statedDuration, endingBy, limitBy, repeatBy, daysBy, intervalBy, busyByStatus, busyBy, eventMade, eventWith as eventEnding, eventFrom, eventBy, blockBetween, blockFrom, blockBy}
 use Rattle.events.specs.declared.Event.{Event}
 use Rattle.events.specs.declared.Block.{Block}
-use Rattle.calendar.specs.Meaning.{Meaning, fault, calendar, scopeOf, componentScope, propertyValuesIn, faultOr, faultIn, valueFault, eventOf, blockOf, isBroken, brokenOr, ruleFault, periodsBy, blockPeriods, entryOf, entriesOf, fileLines, componentsOf, byRules, byValues, byLines, contentsOf, meaningOf}
+use Rattle.calendar.specs.Meaning.{Meaning, fault, calendar, scopeOf, componentScope, propertyValuesIn, faultOr, faultIn, valueFault, eventOf, blockOf, isBroken, brokenOr, ruleFault, periodsBy, blockPeriods, removedFrom, entryOf, entriesAmong, entriesOf, fileLines, componentsOf, byRules, byValues, byLines, contentsOf, meaningOf}
 use Rattle.recurrence.specs.Candidates.{firstAt, spanOf, candidateOf, startsBefore}
+use Rattle.seconds.specs.Seconds.{among}
 use Rattle.recurrence.specs.Instances.{stepOf, startOf, repeats, isInstance, occurs, defaultLength, lengthBy, isZeroLength, endOf}
 use Rattle.recurrence.specs.TimeRange.{EventIn, Decides, overlaps, endsAfter, instanceIn, betweenIn, periodsOverlap, boundsIn, blockIn}
 use Rattle.recurrence.proofs.Instances.{none-stands}
 use Rattle.recurrence.proofs.Candidates.{before-candidate, none-after, search-finds, search-ends}
-use Rattle.pieces.specs.BusyPeriods.{entryPeriods, busyPeriods}
+use Rattle.pieces.specs.BusyPeriods.{statedPeriods, instancePeriods, gathered, busyPeriods}
 use Rattle.pieces.specs.Covered.{ofType, coveredBy, covered}
 use Rattle.examples.specs.Examples.{seconds, refused, Claim, time, duration, range, blockRange, noPiece, periods, last, calendarBytes, meaningWith, eventWith, blockWith, startingAt, lasting, OneEvent, OneBlock, Entries, Last, Holds, All, table}
 use Rattle.pieces.proofs.Pieces.{no-pieces}
@@ -77,13 +78,13 @@ same-periods (p ∷ ps) (q ∷ qs) h =
 
 -- ---- the last instance
 
-last-by : (e : Event) (k s : ℕ) → (occurs e k && (eqb (startOf e k) s && not (isInstance e (k + 1)))) ≡ true → Last e k s
+last-by : (e : Event) (k s : ℕ) → (occurs e [] k && (eqb (startOf e k) s && not (isInstance e (k + 1)))) ≡ true → Last e k s
 last-by e k s h =
-    let m = and-right (occurs e k) _ h in
+    let m = and-right (occurs e [] k) _ h in
     record {
-      there = and-left (occurs e k) _ h;
+      there = and-left (occurs e [] k) _ h;
       starts = eqb-true _ s (and-left (eqb (startOf e k) s) _ m);
-      none-later = λ j p. none-stands e (k + 1) (not-true _ (and-right (eqb (startOf e k) s) _ m)) j (omega arith);
+      none-later = λ j p. none-stands e [] (k + 1) (not-true _ (and-right (eqb (startOf e k) s) _ m)) j (omega arith);
     }
 
 -- ---- what a calendar means
@@ -92,23 +93,25 @@ last-by e k s h =
 ofEvent : Meaning → (Event → Bool) → Bool
 ofEvent (fault n i) f = false
 ofEvent (calendar []) f = false
-ofEvent (calendar (event e ∷ [])) f = f e
-ofEvent (calendar (event e ∷ x ∷ xs)) f = false
+ofEvent (calendar (event e [] ∷ [])) f = f e
+ofEvent (calendar (event e (g ∷ gs) ∷ [])) f = false
+ofEvent (calendar (event e gone ∷ x ∷ xs)) f = false
 ofEvent (calendar (block k ps ∷ xs)) f = false
 
 of-event : (m : Meaning) (f : Event → Bool) (P : Event → Type 0) → ((e : Event) → f e ≡ true → P e) → ofEvent m f ≡ true → OneEvent m P
 unfolding ofEvent
 of-event (fault n i) f P g h = clash h refl
 of-event (calendar []) f P g h = clash h refl
-of-event (calendar (event e ∷ [])) f P g h = record { given = e; means = refl; so = g e h }
-of-event (calendar (event e ∷ x ∷ xs)) f P g h = clash h refl
+of-event (calendar (event e [] ∷ [])) f P g h = record { given = e; means = refl; so = g e h }
+of-event (calendar (event e (y ∷ ys) ∷ [])) f P g h = clash h refl
+of-event (calendar (event e gone ∷ x ∷ xs)) f P g h = clash h refl
 of-event (calendar (block k ps ∷ xs)) f P g h = clash h refl
 
 -- the test holds of its one block
 ofBlock : Meaning → (Block → List BusyPeriod → Bool) → Bool
 ofBlock (fault n i) f = false
 ofBlock (calendar []) f = false
-ofBlock (calendar (event e ∷ xs)) f = false
+ofBlock (calendar (event e gone ∷ xs)) f = false
 ofBlock (calendar (block k ps ∷ [])) f = f k ps
 ofBlock (calendar (block k ps ∷ x ∷ xs)) f = false
 
@@ -117,7 +120,7 @@ of-block : (m : Meaning) (f : Block → List BusyPeriod → Bool) (P : Block →
 unfolding ofBlock
 of-block (fault n i) f P g h = clash h refl
 of-block (calendar []) f P g h = clash h refl
-of-block (calendar (event e ∷ xs)) f P g h = clash h refl
+of-block (calendar (event e gone ∷ xs)) f P g h = clash h refl
 of-block (calendar (block k ps ∷ [])) f P g h = record { given = k; listed = ps; means = refl; so = g k ps h }
 of-block (calendar (block k ps ∷ x ∷ xs)) f P g h = clash h refl
 
@@ -170,18 +173,18 @@ unfolding hasLength
 has-length n e h = eqb-true _ n h
 
 inRange : ℕ → ℕ → Bool → Event → Bool
-inRange a b true e = instanceIn e a b (candidateOf e a)
+inRange a b true e = instanceIn e [] a b (candidateOf e a)
 inRange a b false e = not (startsBefore e b (candidateOf e a)) && ltb 0 (stepOf e)
 
-in-range : (a b : ℕ) (t : Bool) (e : Event) → inRange a b t e ≡ true → Decides t (EventIn e a b)
+in-range : (a b : ℕ) (t : Bool) (e : Event) → inRange a b t e ≡ true → Decides t (EventIn e [] a b)
 unfolding inRange
 in-range a b true e h = search-finds _ h
 in-range a b false e h =
     let some-step = ltb-true 0 (stepOf e) (and-right (not (startsBefore e b (candidateOf e a))) _ h) in
-    search-ends _ (before-candidate e a some-step b) (none-after e b _ (not-true _ (and-left _ (ltb 0 (stepOf e)) h)) a)
+    search-ends _ (before-candidate e a some-step [] b) (none-after e b _ (not-true _ (and-left _ (ltb 0 (stepOf e)) h)) [] a)
 
 isLast : ℕ → ℕ → Event → Bool
-isLast k s e = occurs e k && (eqb (startOf e k) s && not (isInstance e (k + 1)))
+isLast k s e = occurs e [] k && (eqb (startOf e k) s && not (isInstance e (k + 1)))
 
 is-last : (k s : ℕ) (e : Event) → isLast k s e ≡ true → Last e k s
 unfolding isLast
@@ -226,7 +229,7 @@ sound (duration s (seconds n)) h = of-event _ (hasLength n) _ (has-length n) h
 sound (duration s (refused r)) h = is-fault r 4 _ h
 sound (range ls a b t) h = of-event _ (inRange a b t) _ (in-range a b t) h
 sound (blockRange ls a b t) h = of-block _ (inBlock a b t) _ (in-block a b t) h
-sound (noPiece ls a b) h = of-event _ isZeroLength _ (no-pieces a b) h
+sound (noPiece ls a b) h = of-event _ isZeroLength _ (λ e. no-pieces a b e []) h
 sound (periods ls n qs) h = of-entries _ (hasPeriods n qs) _ (has-periods n qs) h
 sound (last ls k s) h = of-event _ (isLast k s) _ (is-last k s) h
 
@@ -241,5 +244,5 @@ all-hold (c ∷ cs) h = (sound c (and-left (test c) (tests cs) h), all-hold cs (
 
 -- document 01, Examples at the edges, and R-2: every row holds
 pub edges : All table
-unfolding table calendarBytes meaningWith eventWith blockWith startingAt lasting isFault startsAt hasLength ofEvent ofBlock ofEntries inRange inBlock isLast hasPeriods tests test isUtc samePeriod samePeriods isDigit upper sameName firstOutside before after splitParts headOf valueOf nameOf parameterTexts lineOf parametersNamed someList hasParameter hasTwice hasList digitPair pairAt joined yearAt checkedDay three dateAt checkedTime timeAt clockOf clockAt readDateTime isLeap yearDays daysBeforeYear monthLengths lengthIn beforeIn monthDays daysBeforeMonth dayNumber isDay timeStart nextStage weightOf blank withDigit fitting unitTo withUnit step textRuns finish durationText durationSeconds withinLimit limited readDuration epoch since utcSecond propertyOf timeIn startBy unlessZoned durationBy valueAs propertyValueOf beforePeriods withPeriods atSecond timeBy readTime formOf timeOf utcOnly reportPlace sameBusy faultOr byValues secondIn covers lead leadIf runs firstAt spanOf startsBefore stepOf startOf repeats isInstance occurs defaultLength lengthBy isZeroLength endOf endsAfter instanceIn overlaps betweenIn periodsOverlap boundsIn blockIn entryPeriods busyPeriods ofType coveredBy covered isLetter isNameByte isControl isName isBreak isBlank isFold unfolded cut contentLines scanStep isEnding scan isWellFormed lineCheckFrom lineCheck plainSplit valuesNamed firstValue delimiterOf isCalendar isEvent isFreeBusy mayBegin afterBegin afterEnd afterProperty walk outcome nestingOf delimitedFrom itemsOf treeOf componentsIn propertiesIn itemsBelow scopeOf componentScope propertyValuesIn faultIn valueFault eventOf blockOf isBroken brokenOr ruleFault periodsBy blockPeriods entryOf entriesOf fileLines componentsOf byRules byLines contentsOf meaningOf noProperties timeGiven durationGiven ruleGiven withProperty withSpan withBusy withProperties kindNumber sameKind isDate statedEnd statedDuration endingBy limitBy repeatBy daysBy intervalBy busyByStatus busyBy eventMade eventEnding eventFrom eventBy blockBetween blockFrom blockBy endBy ruleValue busyNamed busyOf typeValue utcBy utcAt periodEnd periodTo periodFrom periodOf periodItems allPeriods goodPeriods numberTo frequencyPart intervalPart countBy namedPart partOf noParts withPart withParts ruleBy ruleOf decimal pooled
+unfolding table calendarBytes meaningWith eventWith blockWith startingAt lasting isFault startsAt hasLength ofEvent ofBlock ofEntries inRange inBlock isLast hasPeriods tests test isUtc samePeriod samePeriods isDigit upper sameName firstOutside before after splitParts headOf valueOf nameOf parameterTexts lineOf parametersNamed someList hasParameter hasTwice hasList digitPair pairAt joined yearAt checkedDay three dateAt checkedTime timeAt clockOf clockAt readDateTime isLeap yearDays daysBeforeYear monthLengths lengthIn beforeIn monthDays daysBeforeMonth dayNumber isDay timeStart nextStage weightOf blank withDigit fitting unitTo withUnit step textRuns finish durationText durationSeconds withinLimit limited readDuration epoch since utcSecond propertyOf timeIn startBy unlessZoned durationBy valueAs propertyValueOf beforePeriods withPeriods atSecond timeBy readTime formOf timeOf utcOnly reportPlace sameBusy faultOr byValues secondIn covers lead leadIf runs firstAt spanOf startsBefore stepOf startOf repeats among isInstance occurs defaultLength lengthBy isZeroLength endOf endsAfter instanceIn overlaps betweenIn periodsOverlap boundsIn blockIn statedPeriods instancePeriods gathered busyPeriods ofType coveredBy covered isLetter isNameByte isControl isName isBreak isBlank isFold unfolded cut contentLines scanStep isEnding scan isWellFormed lineCheckFrom lineCheck plainSplit valuesNamed firstValue delimiterOf isCalendar isEvent isFreeBusy mayBegin afterBegin afterEnd afterProperty walk outcome nestingOf delimitedFrom itemsOf treeOf componentsIn propertiesIn itemsBelow scopeOf componentScope propertyValuesIn faultIn valueFault eventOf blockOf isBroken brokenOr ruleFault periodsBy blockPeriods removedFrom entryOf entriesAmong entriesOf fileLines componentsOf byRules byLines contentsOf meaningOf noProperties timeGiven durationGiven ruleGiven withProperty withSpan withBusy withProperties kindNumber sameKind isDate statedEnd statedDuration endingBy limitBy repeatBy daysBy intervalBy busyByStatus busyBy eventMade eventEnding eventFrom eventBy blockBetween blockFrom blockBy endBy ruleValue busyNamed busyOf typeValue utcBy utcAt periodEnd periodTo periodFrom periodOf periodItems allPeriods goodPeriods numberTo frequencyPart intervalPart countBy namedPart partOf noParts withPart withParts ruleBy ruleOf decimal pooled
 edges = all-hold table refl

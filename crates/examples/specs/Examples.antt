@@ -78,7 +78,7 @@ lasting s = meaningWith "VEVENT" (ascii "DTSTART:19700101T000000Z" ∷ (ascii "D
 -- a calendar of one event alone, of which something holds
 pub record OneEvent (m : Meaning) (P : Event → Type 0) : Type 0 where
   pub given : Event
-  pub means : m ≡ calendar (event given ∷ [])
+  pub means : m ≡ calendar (event given [] ∷ [])
   pub so : P given
 
 -- a calendar of one block alone, of which and of whose periods something holds
@@ -96,18 +96,18 @@ pub record Entries (m : Meaning) (P : List Entry → Type 0) : Type 0 where
 
 -- instance k stands and starts at s, and none after it stands
 pub record Last (e : Event) (k s : ℕ) : Type 0 where
-  pub there : occurs e k ≡ true
+  pub there : occurs e [] k ≡ true
   pub starts : startOf e k ≡ s
-  pub none-later : (j : ℕ) → k < j → occurs e j ≡ false
+  pub none-later : (j : ℕ) → k < j → occurs e [] j ≡ false
 
 abbrev pub Holds : Claim → Type 0
 Holds (time s (seconds n)) = OneEvent (startingAt s) (λ e. (e .kind ≡ Kind.Utc) × (e .start ≡ n))
 Holds (time s (refused r)) = startingAt s ≡ fault r 3
 Holds (duration s (seconds n)) = OneEvent (lasting s) (λ e. lengthBy e (e .ending) ≡ n)
 Holds (duration s (refused r)) = lasting s ≡ fault r 4
-Holds (range ls a b t) = OneEvent (eventWith ls) (λ e. Decides t (EventIn e a b))
+Holds (range ls a b t) = OneEvent (eventWith ls) (λ e. Decides t (EventIn e [] a b))
 Holds (blockRange ls a b t) = OneBlock (blockWith ls) (λ k ps. blockIn k ps a b ≡ t)
-Holds (noPiece ls a b) = OneEvent (eventWith ls) (λ e. busyPieces a b (event e ∷ []) ≡ [])
+Holds (noPiece ls a b) = OneEvent (eventWith ls) (λ e. busyPieces a b (event e [] ∷ []) ≡ [])
 Holds (periods ls n qs) = Entries (blockWith ls) (λ es. runs (covered BusyType.Busy es) 0 n ≡ qs)
 Holds (last ls k s) = OneEvent (eventWith ls) (λ e. Last e k s)
 

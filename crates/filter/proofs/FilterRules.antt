@@ -36,14 +36,14 @@ use Rattle.events.specs.declared.EventRead.{EventRead}
 use Rattle.events.specs.declared.Bound.{Bound}
 use Rattle.events.specs.declared.Block.{Block}
 use Rattle.events.specs.declared.BlockRead.{BlockRead}
-use Rattle.calendar.specs.Meaning.{componentScope, eventOf, blockOf, blockPeriods}
+use Rattle.calendar.specs.Meaning.{componentScope, eventOf, blockOf, blockPeriods, removedFrom}
 use Rattle.calendar.proofs.Meaning.{eventOf-small}
 use Rattle.recurrence.specs.TimeRange.{EventIn, betweenIn, periodsOverlap, boundsIn, blockIn, Decides}
 use Rattle.recurrence.proofs.Blocks.{periods-iff}
 use Rattle.recurrence.proofs.Candidates.{search-finds}
 use Rattle.recurrence.proofs.TimeRange.{decided-once, overlaps-iff, between-iff, instance-in-iff}
 use Rattle.recurrence.specs.Instances.{instancesAtMost}
-use Rattle.filter.specs.Tests.{eventIn, blockRangeIn, componentIn, rangeHolds, someComponentNamed, someComponent, componentHolds, childrenHold, componentTest, queryHolds}
+use Rattle.filter.specs.Tests.{Whole, wholeOf, eventIn, blockRangeIn, componentIn, rangeHolds, someComponentNamed, someComponent, componentHolds, childrenHold, componentTest, queryHolds}
 use Rattle.filter.specs.FilterRules.{ValuePasses, ParameterPasses, LinePasses, PropertyPasses, ComponentIn, RangePasses, ComponentPasses, QueryPasses}
 use Rattle.filter.proofs.RangesLaws.{both-ends, some-at, some-decides}
 
@@ -302,16 +302,19 @@ module _ (a b : ℕ) (ps : List BusyPeriod) where
   by-ends Bound.None (Bound.At t) both other h = other (λ x y d e. no-bound d) h
   by-ends Bound.None Bound.None both other h = other (λ x y d e. no-bound d) h
 
-module _ (c : Context) (k : Component) (a b : ℕ) where
-  abbrev busyPeriods : List BusyPeriod
-  busyPeriods = blockPeriods c (propertiesIn (k .items))
+module _ (c : Whole) (k : Component) (a b : ℕ) where
+  abbrev gone : List ℕ
+  gone = removedFrom (c .context) (c .components) k
 
-  event-says : componentScope k ≡ Scope.Event → (r : EventRead) → eventOf c k ≡ r → eventIn r a b ≡ true → ComponentIn c k a b
+  abbrev busyPeriods : List BusyPeriod
+  busyPeriods = blockPeriods (c .context) (propertiesIn (k .items))
+
+  event-says : componentScope k ≡ Scope.Event → (r : EventRead) → eventOf (c .context) k ≡ r → eventIn r gone a b ≡ true → ComponentIn c k a b
   unfolding eventIn
-  event-says o (EventRead.Of e) x h = let i = some-at e a b instancesAtMost h in ComponentIn.event-in e o x (i .number) (instance-in-iff e a b (i .number) .0 (i .passes))
+  event-says o (EventRead.Of e) x h = let i = some-at e gone a b instancesAtMost h in ComponentIn.event-in e o x (i .number) (instance-in-iff e gone a b (i .number) .0 (i .passes))
   event-says o EventRead.Broken x h = clash h refl
 
-  block-says : componentScope k ≡ Scope.FreeBusy → (r : BlockRead) → blockOf c k ≡ r → blockRangeIn c k r a b ≡ true → ComponentIn c k a b
+  block-says : componentScope k ≡ Scope.FreeBusy → (r : BlockRead) → blockOf (c .context) k ≡ r → blockRangeIn (c .context) k r a b ≡ true → ComponentIn c k a b
   unfolding blockRangeIn blockIn
   block-says o (BlockRead.Of x) e h =
       by-ends a b busyPeriods (x .start) (x .end)
@@ -322,37 +325,37 @@ module _ (c : Context) (k : Component) (a b : ℕ) where
 
   scope-says : (o : Scope) → componentScope k ≡ o → componentIn c o k a b ≡ true → ComponentIn c k a b
   unfolding componentIn
-  scope-says Scope.Event o h = event-says o (eventOf c k) refl h
-  scope-says Scope.FreeBusy o h = block-says o (blockOf c k) refl h
+  scope-says Scope.Event o h = event-says o (eventOf (c .context) k) refl h
+  scope-says Scope.FreeBusy o h = block-says o (blockOf (c .context) k) refl h
   scope-says Scope.Other o h = clash h refl
 
   -- by what is read
-  as-event : componentScope k ≡ Scope.Event → (r : EventRead) → eventOf c k ≡ r → eventIn r a b ≡ true → componentIn c (componentScope k) k a b ≡ true
+  as-event : componentScope k ≡ Scope.Event → (r : EventRead) → eventOf (c .context) k ≡ r → eventIn r gone a b ≡ true → componentIn c (componentScope k) k a b ≡ true
   unfolding componentIn
-  as-event o r e h = ap (λ (w : Scope). componentIn c w k a b) o ∙ ap (λ (w : EventRead). eventIn w a b) e ∙ h
+  as-event o r e h = ap (λ (w : Scope). componentIn c w k a b) o ∙ ap (λ (w : EventRead). eventIn w gone a b) e ∙ h
 
-  as-block : componentScope k ≡ Scope.FreeBusy → (x : Block) → blockOf c k ≡ BlockRead.Of x → blockIn x busyPeriods a b ≡ true
+  as-block : componentScope k ≡ Scope.FreeBusy → (x : Block) → blockOf (c .context) k ≡ BlockRead.Of x → blockIn x busyPeriods a b ≡ true
       → componentIn c (componentScope k) k a b ≡ true
   unfolding componentIn blockRangeIn
-  as-block o x e h = ap (λ (w : Scope). componentIn c w k a b) o ∙ ap (λ (w : BlockRead). blockRangeIn c k w a b) e ∙ h
+  as-block o x e h = ap (λ (w : Scope). componentIn c w k a b) o ∙ ap (λ (w : BlockRead). blockRangeIn (c .context) k w a b) e ∙ h
 
-  in-event : b ≤ lastSecond → (e : Event) → eventOf c k ≡ EventRead.Of e → EventIn e a b → eventIn (EventRead.Of e) a b ≡ true
+  in-event : b ≤ lastSecond → (e : Event) → eventOf (c .context) k ≡ EventRead.Of e → EventIn e gone a b → eventIn (EventRead.Of e) gone a b ≡ true
   unfolding eventIn
   in-event l e x i =
-      sym (decided-once true _ (search-finds (i .number) (i .passes)) (some-decides a b (eventOf-small c k e x) l))
+      sym (decided-once true _ (search-finds (i .number) (i .passes)) (some-decides gone a b (eventOf-small (c .context) k e x) l))
 
   scope-holds : b ≤ lastSecond → ComponentIn c k a b → componentIn c (componentScope k) k a b ≡ true
   unfolding blockIn
   scope-holds l (ComponentIn.event-in e o x n i) =
-      as-event o (EventRead.Of e) x (in-event l e x (record { number = n; passes = instance-in-iff e a b n .1 i }))
-  scope-holds l (ComponentIn.block-between x s t o e y z h) = as-block o x e (sym (both-ends c a b x (propertiesIn (k .items)) s t y z (sym (between-iff a b s t .1 h))))
+      as-event o (EventRead.Of e) x (in-event l e x (record { number = n; passes = instance-in-iff e gone a b n .1 i }))
+  scope-holds l (ComponentIn.block-between x s t o e y z h) = as-block o x e (sym (both-ends (c .context) a b x (propertiesIn (k .items)) s t y z (sym (between-iff a b s t .1 h))))
   scope-holds l (ComponentIn.block-period x o e y p m h) =
       as-block o x e (by-periods a b busyPeriods (x .start) (x .end) y ∙ periods-iff a b busyPeriods .1 (record { which = p; listed = m; passes = overlaps-iff a b _ _ .1 h }))
 
   pub component-in-iff : b ≤ lastSecond → (componentIn c (componentScope k) k a b ≡ true) ↔ ComponentIn c k a b
   component-in-iff l = (scope-says (componentScope k) refl, scope-holds l)
 
-module _ (c : Context) (p : List ℕ) (q : Sections) (g : recordsGood p q ≡ true) where
+module _ (c : Whole) (p : List ℕ) (q : Sections) (g : recordsGood p q ≡ true) where
   -- ---- a record's range
 
   range-says : (r : ℕ) (k : Component) → rangeHolds c p q r k ≡ true → RangePasses c p q r k
@@ -478,12 +481,12 @@ module _ (c : Context) (p : List ℕ) (q : Sections) (g : recordsGood p q ≡ tr
   component-iff j ks l =
       record-iff j (q .components .count - suc j) l refl (λ x. children-iff (q .components .count - suc j) j x (omega arith)) ks
 
-  -- ---- the query
+-- ---- the query
 
-  module _ (tree : Items) (l : 0 < q .components .count) where
-    pub query-iff : (queryHolds c p q tree ≡ true) ↔ QueryPasses c p q tree
-    unfolding queryHolds
-    query-iff = component-iff 0 (componentsIn tree) l
+module _ (c : Context) (p : List ℕ) (q : Sections) (g : recordsGood p q ≡ true) (tree : Items) (l : 0 < q .components .count) where
+  pub query-iff : (queryHolds c p q tree ≡ true) ↔ QueryPasses c p q tree
+  unfolding queryHolds
+  query-iff = component-iff (wholeOf c tree) p q g 0 (componentsIn tree) l
 
-    pub query-decides : Decides (queryHolds c p q tree) (QueryPasses c p q tree)
-    query-decides = record { holds = query-iff .0; fails = λ n h. clash (query-iff .1 h) n }
+  pub query-decides : Decides (queryHolds c p q tree) (QueryPasses c p q tree)
+  query-decides = record { holds = query-iff .0; fails = λ n h. clash (query-iff .1 h) n }

@@ -34,7 +34,8 @@ use Rattle.events.specs.declared.EventRead.{EventRead}
 use Rattle.events.specs.declared.Block.{Block}
 use Rattle.events.specs.declared.BlockRead.{BlockRead}
 use Rattle.events.specs.declared.Bound.{Bound}
-use Rattle.calendar.specs.Meaning.{scopeOf, componentScope, eventOf, blockOf, periodsBy, blockPeriods}
+use Rattle.nesting.specs.Files.{treeIn}
+use Rattle.calendar.specs.Meaning.{scopeOf, componentScope, eventOf, blockOf, periodsBy, blockPeriods, removedFrom}
 use Rattle.calendar.specs.Periods.{periodsFrom, NextPeriod, NoPeriod}
 use Rattle.calendar.proofs.Periods.{periods-all}
 use Rattle.calendar.proofs.Meaning.{eventOf-small}
@@ -45,7 +46,7 @@ use Rattle.recurrence.proofs.Candidates.{in-range-few, search-ends}
 use Rattle.recurrence.proofs.TimeRange.{decided-once, periods-append}
 use Rattle.recurrence.specs.Instances.{instancesAtMost}
 use Rattle.contents.specs.EntryRows.{EntryRows}
-use Rattle.filter.specs.Tests.{eventIn, blockRangeIn, componentIn, rangeHolds}
+use Rattle.filter.specs.Tests.{Whole, wholeOf, eventIn, blockRangeIn, componentIn, rangeHolds}
 use Rattle.filter.specs.Ranges.{lineIn, linesIn, Given, Here, RowSmall, EndsOutside, RowOutside, RuledOut, Among}
 use Rattle.filter.proofs.Tests.{Beside, beside-here}
 
@@ -163,29 +164,33 @@ module _ (x : Block) (a b : ℕ) where
 
 -- ---- an event
 
-pub some-at : (e : Event) (a b n : ℕ) → someBelow n (instanceIn e a b) ≡ true → EventIn e a b
+pub some-at : (e : Event) (gone : List ℕ) (a b n : ℕ) → someBelow n (instanceIn e gone a b) ≡ true → EventIn e gone a b
 unfolding someBelow
-some-at e a b zero h = clash h refl
-some-at e a b (suc n) h = go (instanceIn e a b n) refl (some-at e a b n)
+some-at e gone a b zero h = clash h refl
+some-at e gone a b (suc n) h = go (instanceIn e gone a b n) refl (some-at e gone a b n)
   where
-    go : (t : Bool) → instanceIn e a b n ≡ t → (someBelow n (instanceIn e a b) ≡ true → EventIn e a b) → EventIn e a b
+    go : (t : Bool) → instanceIn e gone a b n ≡ t → (someBelow n (instanceIn e gone a b) ≡ true → EventIn e gone a b) → EventIn e gone a b
     go true q below = record { number = n; passes = q }
     go false q below =
-        below (sym (ap (λ (t : Bool). someBelow n (instanceIn e a b) || t) q ∙ or-false (someBelow n (instanceIn e a b))) ∙ h)
+        below (sym (ap (λ (t : Bool). someBelow n (instanceIn e gone a b) || t) q ∙ or-false (someBelow n (instanceIn e gone a b))) ∙ h)
 
 -- so few instances decide
-pub some-decides : {e : Event} (a b : ℕ) → EventSmall e → b ≤ lastSecond → Decides (someBelow instancesAtMost (instanceIn e a b)) (EventIn e a b)
-some-decides {e} a b h p = go (someBelow instancesAtMost (instanceIn e a b)) refl
+pub some-decides : {e : Event} (gone : List ℕ) (a b : ℕ) → EventSmall e → b ≤ lastSecond → Decides (someBelow instancesAtMost (instanceIn e gone a b)) (EventIn e gone a b)
+some-decides {e} gone a b h p = go (someBelow instancesAtMost (instanceIn e gone a b)) refl
   where
-    go : (t : Bool) → someBelow instancesAtMost (instanceIn e a b) ≡ t → Decides t (EventIn e a b)
-    go true q = record { holds = λ z. some-at e a b instancesAtMost q; fails = λ z i. clash refl z }
-    go false q = record { holds = λ z. clash z refl; fails = λ z i. clash (i .passes) (none-at (instanceIn e a b) instancesAtMost (i .number) (in-range-few a b (i .number) h p (i .passes)) q) }
+    go : (t : Bool) → someBelow instancesAtMost (instanceIn e gone a b) ≡ t → Decides t (EventIn e gone a b)
+    go true q = record { holds = λ z. some-at e gone a b instancesAtMost q; fails = λ z i. clash refl z }
+    go false q =
+        record {
+          holds = λ z. clash z refl;
+          fails = λ z i. clash (i .passes) (none-at (instanceIn e gone a b) instancesAtMost (i .number) (in-range-few gone a b (i .number) h p (i .passes)) q);
+        }
 
 -- an event without an instance from the first candidate on is in no range
 pub none-from : {e : Event} {a b k : ℕ} {r : Bool} → EventSmall e → b ≤ lastSecond → FirstCandidate e a k → MoreCandidates e b k r → not r ≡ true
-    → someBelow instancesAtMost (instanceIn e a b) ≡ false
-none-from {e} {a} {b} {k} h p f m n =
-    sym (decided-once false _ (search-ends k (f .none-before b) (m .none-from (not-true _ n) a)) (some-decides a b h p))
+    → (gone : List ℕ) → someBelow instancesAtMost (instanceIn e gone a b) ≡ false
+none-from {e} {a} {b} {k} h p f m n gone =
+    sym (decided-once false _ (search-ends k (f .none-before gone b) (m .none-from (not-true _ n) gone a)) (some-decides gone a b h p))
 
 -- ---- what a component is, by its row
 
@@ -233,19 +238,23 @@ module _ {c : Context} {s index rows column : List ℕ} (g : Given c s index row
       }
 
   -- what one look at the row rules out is not in the range
-  pub outside-fails : (a b : ℕ) → RowOutside rows column k a b → componentIn c (componentScope (componentBy s rows k)) (componentBy s rows k) a b ≡ false
-  unfolding componentIn eventIn blockRangeIn
+  pub outside-fails : (a b : ℕ) → RowOutside rows column k a b → componentIn (wholeOf c (treeIn s)) (componentScope (componentBy s rows k)) (componentBy s rows k) a b ≡ false
+  unfolding componentIn eventIn blockRangeIn wholeOf
   outside-fails a b o =
       let x = componentBy s rows k in
+      let w : Whole = wholeOf c (treeIn s) in
       by-kind (h .row)
-      (λ e y. ap (λ (w : Scope). componentIn c w x a b) y ∙ ap (λ (w : EventRead). eventIn w a b) (event-of e) ∙ o .no-instance e)
       (λ e y.
-      ap (λ (w : Scope). componentIn c w x a b) y
-      ∙ ap (λ (w : BlockRead). blockRangeIn c x w a b) (block-of e)
+      ap (λ (v : Scope). componentIn w v x a b) y
+      ∙ ap (λ (v : EventRead). eventIn v (removedFrom c (w .components) x) a b) (event-of e)
+      ∙ o .no-instance e (removedFrom c (w .components) x))
+      (λ e y.
+      ap (λ (v : Scope). componentIn w v x a b) y
+      ∙ ap (λ (v : BlockRead). blockRangeIn c x v a b) (block-of e)
       ∙ o .no-block e .outside (blockPeriods c (propertiesIn (x .items))))
-      (λ e y. ap (λ (w : Scope). componentIn c w x a b) y)
+      (λ e y. ap (λ (v : Scope). componentIn w v x a b) y)
 
-  pub ruled-out-fails : (p : List ℕ) (q : Sections) (r : ℕ) → RuledOut p q r rows column k → rangeHolds c p q r (componentBy s rows k) ≡ false
+  pub ruled-out-fails : (p : List ℕ) (q : Sections) (r : ℕ) → RuledOut p q r rows column k → rangeHolds (wholeOf c (treeIn s)) p q r (componentBy s rows k) ≡ false
   unfolding rangeHolds
   ruled-out-fails p q zero o = absurd (omega (arith, o .some))
   ruled-out-fails p q (suc r) o =

@@ -23,7 +23,7 @@ use Rattle.structure.specs.Rows.{FileRows, componentBy, componentsBy, numberedL
 use Rattle.structure.proofs.RowsLaws.{file-top, NextComponent, components-next, components-none}
 use Rattle.line.specs.Reading.{valueOf, lineOf}
 use Rattle.index.specs.Index.{lineBytes, Entry, Indexed}
-use Rattle.filter.specs.Tests.{someComponentNamed, someComponent, componentHolds, childrenHold, componentTest, queryHolds}
+use Rattle.filter.specs.Tests.{Whole, wholeOf, someComponentNamed, someComponent, componentHolds, childrenHold, componentTest, queryHolds}
 
 -- ---- what a good query gives
 
@@ -104,7 +104,7 @@ no-component n = refl
 
 -- ---- the components side by side: some one passes
 
-module _ (c : Context) (p : List ℕ) (q : Sections) (j : ℕ) where
+module _ (c : Whole) (p : List ℕ) (q : Sections) (j : ℕ) where
   unfoldable pub someHere : List Component → Bool
   someHere ks = someComponent c p q j (componentAt p q j) (λ i. childrenHold c p q (q .components .count - suc j) j i) ks
 
@@ -129,13 +129,13 @@ module _ (c : Context) (p : List ℕ) (q : Sections) (j : ℕ) where
     test-there f y =
         y ∙ ap (λ (t : Bool). cond t (not (someComponentNamed (textOf p q (r .name)) ks)) (someHere ks)) (sym (ne-eqb _ 1 f)) ∙ test-as
 
-pub child-as : (c : Context) (p : List ℕ) (q : Sections) (s rows : List ℕ) (i k : ℕ) {n : ℕ} {b : Bool} → n ≡ getD rows (4 * k + 2) 0
+pub child-as : (c : Whole) (p : List ℕ) (q : Sections) (s rows : List ℕ) (i k : ℕ) {n : ℕ} {b : Bool} → n ≡ getD rows (4 * k + 2) 0
     → b ≡ componentTest c p q i (componentsBy s rows (k + 1) n) → b ≡ componentTest c p q i (componentsBy s rows (k + 1) (getD rows (4 * k + 2) 0))
 child-as c p q s rows i k e h = h ∙ ap (λ (m : ℕ). componentTest c p q i (componentsBy s rows (k + 1) m)) e
 
 -- ---- the records of one parent: all before k hold
 
-module _ (c : Context) (p : List ℕ) (q : Sections) (parent : ℕ) (ks : List Component) where
+module _ (c : Whole) (p : List ℕ) (q : Sections) (parent : ℕ) (ks : List Component) where
   abbrev left : ℕ → Bool
   left k = childrenHold c p q (q .components .count - k) parent ks
 
@@ -210,8 +210,8 @@ pub first-record : {p : List ℕ} {q : Sections} → Fits p q → 0 < q .compone
 first-record h = omega (arith, h .components-some)
 
 module _ {s index rows : List ℕ} (h : FileRows s index rows) where
-  pub query-as : (c : Context) (p : List ℕ) (q : Sections) {n : ℕ} {t : Bool} → n ≡ getD rows 2 0 → t ≡ componentTest c p q 0 (componentsBy s rows 0 n)
+  pub query-as : (c : Context) (p : List ℕ) (q : Sections) {n : ℕ} {t : Bool} → n ≡ getD rows 2 0 → t ≡ componentTest (wholeOf c (treeIn s)) p q 0 (componentsBy s rows 0 n)
       → t ≡ queryHolds c p q (treeIn s)
   unfolding queryHolds
   query-as c p q e w =
-      w ∙ ap (λ (m : ℕ). componentTest c p q 0 (componentsBy s rows 0 m)) e ∙ ap (componentTest c p q 0) (sym (file-top h))
+      w ∙ ap (λ (m : ℕ). componentTest (wholeOf c (treeIn s)) p q 0 (componentsBy s rows 0 m)) e ∙ ap (componentTest (wholeOf c (treeIn s)) p q 0) (sym (file-top h))

@@ -4,7 +4,7 @@ use mathlib.Core.Path.{_≡_, refl, sym, ap, _∙_, subst}
 use mathlib.Core.Bool.{Bool, true, false, not, _&&_, _||_, and-true, and-false}
 use mathlib.Core.List.{List, _∷_}
 use native.Mathlib.Omega.{arith}
-use lib.Dec.{eqb}
+use lib.Dec.{eqb, ltb}
 use lib.ListN.{getD}
 use borrow.Author.Count.{below-more}
 use borrow.Author.Tests.{eqb-true, eqb-false, ne-eqb}
@@ -25,20 +25,24 @@ use Rattle.events.specs.declared.EventRead.{EventRead}
 use Rattle.events.specs.declared.Block.{Block}
 use Rattle.events.specs.declared.BlockRead.{BlockRead}
 use Rattle.events.specs.Sizes.{EventSmall}
-use Rattle.calendar.specs.Meaning.{componentScope, eventOf, blockPeriods}
+use Rattle.seconds.specs.Seconds.{among}
+use Rattle.nesting.specs.Files.{treeIn}
+use Rattle.calendar.specs.Meaning.{componentScope, eventOf, blockPeriods, removedFrom, componentsOf, fileLines}
+use Rattle.contents.specs.Removed.{goneAt, RemovedRows}
 use Rattle.calendar.proofs.Meaning.{eventOf-small}
-use Rattle.recurrence.specs.TimeRange.{instanceIn, blockIn}
+use Rattle.recurrence.specs.TimeRange.{endsAfter, instanceIn, blockIn}
 use Rattle.recurrence.specs.Candidates.{FirstCandidate, MoreCandidates}
-use Rattle.recurrence.specs.Instances.{instancesAtMost}
+use Rattle.recurrence.specs.Instances.{instancesAtMost, startOf}
+use Rattle.recurrence.proofs.Instances.{occurs-same}
 use Rattle.recurrence.proofs.Candidates.{search-finds, search-ends}
 use Rattle.recurrence.proofs.TimeRange.{decided-once}
 use Rattle.ascii.specs.Names.{sameName}
 use Rattle.query.specs.declared.ComponentRecord.{ComponentRecord}
 use Rattle.structure.proofs.RowsLaws.{inner-list}
 use Rattle.property_tests.specs.PropertyTests.{propertiesHold}
-use Rattle.filter.specs.Tests.{eventIn, blockRangeIn, componentIn, rangeHolds, someComponent, childrenHold}
+use Rattle.filter.specs.Tests.{Whole, wholeOf, eventIn, blockRangeIn, componentIn, rangeHolds, someComponent, childrenHold}
 use Rattle.filter.specs.Ranges.{Given, Here, RowSmall, EndsOutside, RowOutside, RuledOut}
-use Rattle.filter.specs.Trials.{trialHolds, trialPasses, Tried, MoreTrials, SmallTrial, TrialOf, isCalled, componentFits, Unfit, other-name, out-of-range, other-lines, Alone}
+use Rattle.filter.specs.Trials.{trialHolds, trialPasses, Tried, MoreTrials, SmallTrial, TrialOf, goneFrom, isCalled, componentFits, Unfit, other-name, out-of-range, other-lines, Alone}
 use Rattle.filter.specs.declared.trials.Trial.{Trial}
 use Rattle.filter.proofs.RangesLaws.{some-decides, none-from, by-kind, event-of, block-of, ruled-out-fails}
 use Rattle.filter.proofs.Tests.{someHere}
@@ -46,34 +50,37 @@ use Rattle.filter.proofs.Tests.{someHere}
 -- ---- what a trial decides
 
 -- it is done once, with this outcome
-pub once-of : {b t : Bool} → t ≡ b → TrialOf b (Trial.Once t)
+pub once-of : {b t : Bool} {gone : List ℕ} → t ≡ b → TrialOf b gone (Trial.Once t)
 unfolding trialHolds
 once-of e = record { small = tt; decides = e }
 
-pub trial-as : {a b : Bool} {t : Trial} → a ≡ b → TrialOf a t → TrialOf b t
+pub trial-as : {a b : Bool} {gone : List ℕ} {t : Trial} → a ≡ b → TrialOf a gone t → TrialOf b gone t
 trial-as e w = record { small = w .small; decides = w .decides ∙ e }
 
 -- the component of row k, by what its row says it is
 module _ {c : Context} {s index rows column : List ℕ} (g : Given c s index rows column) {k : ℕ} (h : Here s rows k) {n : ℕ} (z : n ≡ getD rows (4 * k + 3) 0) where
-  abbrev tested : ℕ → ℕ → Bool
-  tested a b = componentIn c (componentScope (componentBy s rows k)) (componentBy s rows k) a b
+  abbrev whole : Whole
+  whole = wholeOf c (treeIn s)
 
-  pub trial-event : {e : Event} (a b : ℕ) → n ≡ 1 → e ≡ eventAt column k → (a < b) × (b ≤ lastSecond) → TrialOf (tested a b) (Trial.Instances e a b)
-  unfolding trialHolds componentIn eventIn
+  abbrev tested : ℕ → ℕ → Bool
+  tested a b = componentIn whole (componentScope (componentBy s rows k)) (componentBy s rows k) a b
+
+  pub trial-event : {e : Event} (a b : ℕ) → n ≡ 1 → e ≡ eventAt column k → (a < b) × (b ≤ lastSecond) → TrialOf (tested a b) (goneFrom c s rows k) (Trial.Instances e a b)
+  unfolding trialHolds componentIn eventIn wholeOf goneFrom
   trial-event {e} a b o x w =
       let q : eventOf c (componentBy s rows k) ≡ EventRead.Of e = event-of g h (sym z ∙ o) ∙ ap EventRead.Of (sym x) in
       record {
         small = (eventOf-small c (componentBy s rows k) e q, w .0, w .1);
         decides =
             by-kind (h .row)
-            (λ u y. sym (ap (λ (v : Scope). componentIn c v (componentBy s rows k) a b) y ∙ ap (λ (v : EventRead). eventIn v a b) q))
+            (λ u y. sym (ap (λ (v : Scope). componentIn whole v (componentBy s rows k) a b) y ∙ ap (λ (v : EventRead). eventIn v (goneFrom c s rows k) a b) q))
             (λ u y. absurd (omega arith))
             (λ u y. absurd (omega arith));
       }
 
   pub trial-block : {x : Block} {t : Bool} (a b : ℕ) → n ≡ 2 → x ≡ blockAt column k
-      → t ≡ blockIn x (blockPeriods c (propertiesIn (componentBy s rows k .items))) a b → TrialOf (tested a b) (Trial.Once t)
-  unfolding componentIn blockRangeIn
+      → t ≡ blockIn x (blockPeriods c (propertiesIn (componentBy s rows k .items))) a b → TrialOf (tested a b) (goneFrom c s rows k) (Trial.Once t)
+  unfolding componentIn blockRangeIn wholeOf
   trial-block {x} a b o e q =
       once-of
       (by-kind (h .row)
@@ -81,17 +88,17 @@ module _ {c : Context} {s index rows column : List ℕ} (g : Given c s index row
       (λ u y.
       q
       ∙ ap (λ (v : Block). blockIn v (blockPeriods c (propertiesIn (componentBy s rows k .items))) a b) e
-      ∙ sym (ap (λ (v : Scope). componentIn c v (componentBy s rows k) a b) y ∙ ap (λ (v : BlockRead). blockRangeIn c (componentBy s rows k) v a b) (block-of g h u)))
+      ∙ sym (ap (λ (v : Scope). componentIn whole v (componentBy s rows k) a b) y ∙ ap (λ (v : BlockRead). blockRangeIn c (componentBy s rows k) v a b) (block-of g h u)))
       (λ u y. absurd (omega arith)))
 
-  pub trial-other : (a b : ℕ) → (n ≡ 1 → ⊥) → (n ≡ 2 → ⊥) → TrialOf (tested a b) (Trial.Once false)
+  pub trial-other : (a b : ℕ) → (n ≡ 1 → ⊥) → (n ≡ 2 → ⊥) → TrialOf (tested a b) (goneFrom c s rows k) (Trial.Once false)
   unfolding componentIn
   trial-other a b o e =
       once-of
       (by-kind (h .row)
       (λ u y. absurd (o (z ∙ u)))
       (λ u y. absurd (e (z ∙ u)))
-      (λ u y. sym (ap (λ (v : Scope). componentIn c v (componentBy s rows k) a b) y)))
+      (λ u y. sym (ap (λ (v : Scope). componentIn whole v (componentBy s rows k) a b) y)))
 
 -- what a good query says of a record's range
 module _ (p : List ℕ) (q : Sections) (r : ℕ) {a b : ℕ} (g : recordsGood p q ≡ true) (l : r ≤ q .ranges .count) (h : r ≡ 0 → ⊥)
@@ -103,14 +110,14 @@ module _ (p : List ℕ) (q : Sections) (r : ℕ) {a b : ℕ} (g : recordsGood p 
       (rw (x, y) (w .start-first), rw y (w .end-limit))
 
 -- against a record's range
-module _ (c : Context) (p : List ℕ) (q : Sections) (k : Component) where
-  pub range-none : (r : ℕ) → r ≡ 0 → TrialOf (rangeHolds c p q r k) (Trial.Once true)
+module _ (c : Whole) (p : List ℕ) (q : Sections) (k : Component) where
+  pub range-none : (r : ℕ) {gone : List ℕ} → r ≡ 0 → TrialOf (rangeHolds c p q r k) gone (Trial.Once true)
   unfolding rangeHolds
   range-none zero h = once-of refl
   range-none (suc r) h = absurd (omega arith)
 
-  pub range-some : (r : ℕ) {a b : ℕ} {t : Trial} → (r ≡ 0 → ⊥) → a ≡ rangeStart p q (r - 1) → b ≡ rangeEnd p q (r - 1)
-      → TrialOf (componentIn c (componentScope k) k a b) t → TrialOf (rangeHolds c p q r k) t
+  pub range-some : (r : ℕ) {a b : ℕ} {gone : List ℕ} {t : Trial} → (r ≡ 0 → ⊥) → a ≡ rangeStart p q (r - 1) → b ≡ rangeEnd p q (r - 1)
+      → TrialOf (componentIn c (componentScope k) k a b) gone t → TrialOf (rangeHolds c p q r k) gone t
   unfolding rangeHolds
   range-some zero h x y w = absurd (h refl)
   range-some (suc r) {a} {b} h x y w =
@@ -130,7 +137,7 @@ module _ {rows column : List ℕ} {k : ℕ} (m : RowSmall rows column k) {n : �
       → not r ≡ true → RowOutside rows column k a b
   looked-event {e} {a} {b} o x l f q y =
       record {
-        no-instance = λ u. ap (λ (w : Event). someBelow instancesAtMost (instanceIn w a b)) (sym x) ∙ none-from (looked-small o x) l f q y;
+        no-instance = λ u gone. ap (λ (w : Event). someBelow instancesAtMost (instanceIn w gone a b)) (sym x) ∙ none-from (looked-small o x) l f q y gone;
         no-block = λ u. absurd (omega arith);
       }
 
@@ -155,24 +162,24 @@ module _ {t : Trial} where
     pub instances-small : SmallTrial t → EventSmall e × (a < b) × (b ≤ lastSecond)
     instances-small h = subst (λ (x : Trial). SmallTrial x) q h
 
-    pub instances-tried : (k : ℕ) → FirstCandidate e a k → Tried t k
-    instances-tried k f =
-        subst (λ (x : Trial). Tried x k) (sym q) (record { none-before = unfold trialPasses in f .none-before b; few = omega (arith, f .few) })
+    pub instances-tried : (k : ℕ) → FirstCandidate e a k → (gone : List ℕ) → Tried gone t k
+    instances-tried k f gone =
+        subst (λ (x : Trial). Tried gone x k) (sym q) (record { none-before = unfold trialPasses in f .none-before gone b; few = omega (arith, f .few) })
 
     pub instances-on : {r : Bool} (k : ℕ) → MoreCandidates e b k r → MoreTrials t k r
     instances-on {r} k m =
-        subst (λ (x : Trial). MoreTrials x k r) (sym q) (record { none-from = unfold trialPasses in λ z j p. m .none-from z a j p; few = m .few })
+        subst (λ (x : Trial). MoreTrials x k r) (sym q) (record { none-from = unfold trialPasses in λ z gone j p. m .none-from z gone a j p; few = m .few })
 
-    pub instances-pass : {r : Bool} (k : ℕ) → r ≡ trialPasses (Trial.Instances e a b) k → r ≡ trialPasses t k
-    instances-pass k h = h ∙ ap (λ (x : Trial). trialPasses x k) (sym q)
+    pub instances-pass : {r : Bool} (gone : List ℕ) (k : ℕ) → r ≡ trialPasses gone (Trial.Instances e a b) k → r ≡ trialPasses gone t k
+    instances-pass gone k h = h ∙ ap (λ (x : Trial). trialPasses gone x k) (sym q)
 
   module _ (b : Bool) (q : t ≡ Trial.Once b) where
-    pub once-tried : Tried t 0
-    once-tried = record { none-before = λ j h. absurd (omega arith); few = omega arith }
+    pub once-tried : (gone : List ℕ) → Tried gone t 0
+    once-tried gone = record { none-before = λ j h. absurd (omega arith); few = omega arith }
 
-    none-later : (k : ℕ) → eqb k 0 ≡ false → (j : ℕ) → k ≤ j → trialPasses (Trial.Once b) j ≡ false
+    none-later : (k : ℕ) → eqb k 0 ≡ false → (gone : List ℕ) (j : ℕ) → k ≤ j → trialPasses gone (Trial.Once b) j ≡ false
     unfolding trialPasses
-    none-later k z j p =
+    none-later k z gone j p =
         let n = eqb-false k 0 z in
         ap (λ (x : Bool). b && x) (ne-eqb j 0 (λ y. n (omega arith))) ∙ and-false b
 
@@ -180,31 +187,66 @@ module _ {t : Trial} where
     once-on k =
         subst (λ (x : Trial). MoreTrials x k (eqb k 0)) (sym q) (record { none-from = none-later k; few = λ z. omega (arith, eqb-true k 0 z) })
 
-    pub once-passes : (k : ℕ) → (b && eqb k 0) ≡ trialPasses t k
+    pub once-passes : (gone : List ℕ) (k : ℕ) → (b && eqb k 0) ≡ trialPasses gone t k
     unfolding trialPasses
-    once-passes k = ap (λ (x : Trial). trialPasses x k) (sym q)
+    once-passes gone k = ap (λ (x : Trial). trialPasses gone x k) (sym q)
 
-found-holds : (t : Trial) (k : ℕ) → SmallTrial t → trialPasses t k ≡ true → trialHolds t ≡ true
-unfolding trialPasses trialHolds
-found-holds (Trial.Instances e a b) k h q = sym (decided-once true _ (search-finds k q) (some-decides a b (h .0) (h .2)))
-found-holds (Trial.Once t) k h q = and-left t (eqb k 0) q
+module _ (gone : List ℕ) where
+  found-holds : (t : Trial) (k : ℕ) → SmallTrial t → trialPasses gone t k ≡ true → trialHolds gone t ≡ true
+  unfolding trialPasses trialHolds
+  found-holds (Trial.Instances e a b) k h q = sym (decided-once true _ (search-finds k q) (some-decides gone a b (h .0) (h .2)))
+  found-holds (Trial.Once t) k h q = and-left t (eqb k 0) q
 
--- none before k passes and none from k on
-ended-fails : (t : Trial) (k : ℕ) → SmallTrial t → Tried t k → ((j : ℕ) → k ≤ j → trialPasses t j ≡ false) → trialHolds t ≡ false
-unfolding trialPasses trialHolds
-ended-fails (Trial.Instances e a b) k h w r = sym (decided-once false _ (search-ends k (w .none-before) r) (some-decides a b (h .0) (h .2)))
-ended-fails (Trial.Once t) zero h w r = sym (and-true t) ∙ r 0 (omega arith)
-ended-fails (Trial.Once t) (suc k) h w r = sym (and-true t) ∙ w .none-before 0 (omega arith)
+  -- none before k passes and none from k on
+  ended-fails : (t : Trial) (k : ℕ) → SmallTrial t → Tried gone t k → ((j : ℕ) → k ≤ j → trialPasses gone t j ≡ false) → trialHolds gone t ≡ false
+  unfolding trialPasses trialHolds
+  ended-fails (Trial.Instances e a b) k h w r = sym (decided-once false _ (search-ends k (w .none-before) r) (some-decides gone a b (h .0) (h .2)))
+  ended-fails (Trial.Once t) zero h w r = sym (and-true t) ∙ r 0 (omega arith)
+  ended-fails (Trial.Once t) (suc k) h w r = sym (and-true t) ∙ w .none-before 0 (omega arith)
 
-module _ (t : Trial) (k : ℕ) {r : Bool} where
-  pub tried-found : SmallTrial t → r ≡ trialPasses t k → r ≡ true → trialHolds t ≡ true
-  tried-found h e z = found-holds t k h (sym e ∙ z)
+  module _ (t : Trial) (k : ℕ) {r : Bool} where
+    pub tried-found : SmallTrial t → r ≡ trialPasses gone t k → r ≡ true → trialHolds gone t ≡ true
+    tried-found h e z = found-holds t k h (sym e ∙ z)
 
-  pub tried-more : k < instancesAtMost → Tried t k → r ≡ trialPasses t k → r ≡ false → Tried t (k + 1)
-  tried-more p w e z = record { none-before = below-more _ _ (w .none-before) (sym e ∙ z); few = omega arith }
+    pub tried-more : k < instancesAtMost → Tried gone t k → r ≡ trialPasses gone t k → r ≡ false → Tried gone t (k + 1)
+    tried-more p w e z = record { none-before = below-more _ _ (w .none-before) (sym e ∙ z); few = omega arith }
 
-  pub tried-end : SmallTrial t → Tried t k → MoreTrials t k r → r ≡ false → trialHolds t ≡ false
-  tried-end h w m z = ended-fails t k h w (m .none-from z)
+    pub tried-end : SmallTrial t → Tried gone t k → MoreTrials t k r → r ≡ false → trialHolds gone t ≡ false
+    tried-end h w m z = ended-fails t k h w (m .none-from z gone)
+
+-- ---- lists of the same seconds
+
+some-same : {f g : ℕ → Bool} → ((k : ℕ) → f k ≡ g k) → (n : ℕ) → someBelow n f ≡ someBelow n g
+unfolding someBelow
+some-same s zero = refl
+some-same {f} {g} s (suc n) = ap (λ (x : Bool). x || f n) (some-same s n) ∙ ap (λ (x : Bool). someBelow n g || x) (s n)
+
+instance-same : (e : Event) (g h : List ℕ) → ((x : ℕ) → among x g ≡ among x h) → (a b k : ℕ) → instanceIn e g a b k ≡ instanceIn e h a b k
+unfolding instanceIn
+instance-same e g h s a b k = ap (λ (x : Bool). x && endsAfter e a k && ltb (startOf e k) b) (occurs-same e g h s k)
+
+holds-same : (g h : List ℕ) → ((x : ℕ) → among x g ≡ among x h) → (t : Trial) → trialHolds g t ≡ trialHolds h t
+unfolding trialHolds
+holds-same g h s (Trial.Instances e a b) = some-same (λ k. instance-same e g h s a b k) instancesAtMost
+holds-same g h s (Trial.Once t) = refl
+
+components-whole : (c : Context) (s : List ℕ) → componentsOf s ≡ wholeOf c (treeIn s) .components
+unfolding componentsOf fileLines treeIn wholeOf
+components-whole c s = refl
+
+-- the part of a row takes the same starts away
+pub trial-by-part : {c : Context} {s rows places removed : List ℕ} {k m : ℕ} {b : Bool} {t : Trial} {gone : List ℕ} → RemovedRows c s rows places removed m → k < m
+    → gone ≡ goneAt places removed k → TrialOf b (goneFrom c s rows k) t → TrialOf b gone t
+unfolding goneFrom
+trial-by-part {c} {s} {rows} {places} {removed} {k} {t = t} z l q w =
+    record {
+      small = w .small;
+      decides =
+          ap (λ (g : List ℕ). trialHolds g t) q
+          ∙ holds-same (goneAt places removed k) (removedFrom c (wholeOf c (treeIn s) .components) (componentBy s rows k))
+          (λ x. z .same k l x ∙ ap (λ (ks : List Component). among x (removedFrom c ks (componentBy s rows k))) (components-whole c s)) t
+          ∙ w .decides;
+    }
 
 -- ---- one component: its name, what its row rules out, and its own lines
 
@@ -233,15 +275,21 @@ module _ (p : List ℕ) (q : Sections) (j : ℕ) (s rows column : List ℕ) (k :
 -- ---- then its inner components, and then its instances
 
 module _ {c : Context} (p : List ℕ) (q : Sections) (j : ℕ) {s index rows column : List ℕ} (g : Given c s index rows column) {k : ℕ} (h : Here s rows k) where
-  abbrev fits : Bool
-  fits = componentFits c p q j (componentBy s rows k)
+  abbrev file : Whole
+  file = wholeOf c (treeIn s)
 
-  inner-as : {b : Bool} → b ≡ childrenHold c p q (q .components .count - (j + 1)) j (componentsBy s rows (k + 1) (getD rows (4 * k + 2) 0))
-      → childrenHold c p q (q .components .count - suc j) j (componentsIn (componentBy s rows k .items)) ≡ b
+  abbrev gone : List ℕ
+  gone = goneFrom c s rows k
+
+  abbrev fits : Bool
+  fits = componentFits file p q j (componentBy s rows k)
+
+  inner-as : {b : Bool} → b ≡ childrenHold file p q (q .components .count - (j + 1)) j (componentsBy s rows (k + 1) (getD rows (4 * k + 2) 0))
+      → childrenHold file p q (q .components .count - suc j) j (componentsIn (componentBy s rows k .items)) ≡ b
   inner-as y =
       let n : q .components .count - (j + 1) ≡ q .components .count - suc j = omega arith in
-      ap (childrenHold c p q (q .components .count - suc j) j) (inner-list (h .row))
-      ∙ sym (y ∙ ap (λ (m : ℕ). childrenHold c p q m j (componentsBy s rows (k + 1) (getD rows (4 * k + 2) 0))) n)
+      ap (childrenHold file p q (q .components .count - suc j) j) (inner-list (h .row))
+      ∙ sym (y ∙ ap (λ (m : ℕ). childrenHold file p q m j (componentsBy s rows (k + 1) (getD rows (4 * k + 2) 0))) n)
 
   unfit-fails : Unfit p q j s rows column k → fits ≡ false
   unfolding componentFits
@@ -250,27 +298,27 @@ module _ {c : Context} (p : List ℕ) (q : Sections) (j : ℕ) {s index rows col
       let e = ruled-out-fails g h p q (componentAt p q j .range) o in
       rw (e, and-false (isCalled p q j (componentBy s rows k))) refl
   unfit-fails (other-lines e) =
-      rw (e, and-false (isCalled p q j (componentBy s rows k) && rangeHolds c p q (componentAt p q j .range) (componentBy s rows k))) refl
+      rw (e, and-false (isCalled p q j (componentBy s rows k) && rangeHolds file p q (componentAt p q j .range) (componentBy s rows k))) refl
 
   module _ {a : Bool} (x : Alone p q j s rows column k a) where
-    pub here-not : a ≡ false → TrialOf fits (Trial.Once false)
+    pub here-not : a ≡ false → TrialOf fits gone (Trial.Once false)
     here-not z = once-of (sym (unfit-fails (x .unfit z)))
 
-    module _ {b : Bool} (y : b ≡ childrenHold c p q (q .components .count - (j + 1)) j (componentsBy s rows (k + 1) (getD rows (4 * k + 2) 0))) where
-      pub here-childless : b ≡ false → TrialOf fits (Trial.Once false)
+    module _ {b : Bool} (y : b ≡ childrenHold file p q (q .components .count - (j + 1)) j (componentsBy s rows (k + 1) (getD rows (4 * k + 2) 0))) where
+      pub here-childless : b ≡ false → TrialOf fits gone (Trial.Once false)
       unfolding componentFits
       here-childless w =
           let component = componentBy s rows k in
-          let alone = isCalled p q j component && rangeHolds c p q (componentAt p q j .range) component && propertiesHold p q j (propertiesIn (component .items)) in
+          let alone = isCalled p q j component && rangeHolds file p q (componentAt p q j .range) component && propertiesHold p q j (propertiesIn (component .items)) in
           once-of (sym (ap (λ (t : Bool). alone && t) (inner-as y ∙ w) ∙ and-false alone))
 
       pub here-tried : {r : ComponentRecord} {t : Trial} → a ≡ true → b ≡ true → r ≡ componentAt p q j
-          → TrialOf (rangeHolds c p q (r .range) (componentBy s rows k)) t → TrialOf fits t
+          → TrialOf (rangeHolds file p q (r .range) (componentBy s rows k)) gone t → TrialOf fits gone t
       unfolding componentFits
       here-tried z w e d =
-          let u = rangeHolds c p q (componentAt p q j .range) (componentBy s rows k) in
+          let u = rangeHolds file p q (componentAt p q j .range) (componentBy s rows k) in
           trial-as
-          (ap (λ (v : ComponentRecord). rangeHolds c p q (v .range) (componentBy s rows k)) e
+          (ap (λ (v : ComponentRecord). rangeHolds file p q (v .range) (componentBy s rows k)) e
           ∙ sym (rw (x .called z, x .lines-hold z, inner-as y ∙ w) (all-true u)))
           d
         where
@@ -280,14 +328,14 @@ module _ {c : Context} (p : List ℕ) (q : Sections) (j : ℕ) {s index rows col
 
 -- ---- the components side by side: some one passes
 
-module _ (c : Context) (p : List ℕ) (q : Sections) (j : ℕ) where
-  module _ (k : Component) {t : Trial} (y : TrialOf (componentFits c p q j k) t) where
-    here-first : (ks : List Component) → someHere c p q j (k ∷ ks) ≡ (trialHolds t || someHere c p q j ks)
+module _ (c : Whole) (p : List ℕ) (q : Sections) (j : ℕ) where
+  module _ (k : Component) {gone : List ℕ} {t : Trial} (y : TrialOf (componentFits c p q j k) gone t) where
+    here-first : (ks : List Component) → someHere c p q j (k ∷ ks) ≡ (trialHolds gone t || someHere c p q j ks)
     unfolding someHere someComponent componentFits isCalled
     here-first ks = ap (λ (b : Bool). b || someHere c p q j ks) (sym (y .decides))
 
-    pub here-found : trialHolds t ≡ true → (ks : List Component) → someHere c p q j (k ∷ ks) ≡ true
+    pub here-found : trialHolds gone t ≡ true → (ks : List Component) → someHere c p q j (k ∷ ks) ≡ true
     here-found z ks = here-first ks ∙ ap (λ (b : Bool). b || someHere c p q j ks) z
 
-    pub here-passed : trialHolds t ≡ false → (ks : List Component) → someHere c p q j (k ∷ ks) ≡ someHere c p q j ks
+    pub here-passed : trialHolds gone t ≡ false → (ks : List Component) → someHere c p q j (k ∷ ks) ≡ someHere c p q j ks
     here-passed z ks = here-first ks ∙ ap (λ (b : Bool). b || someHere c p q j ks) z

@@ -20,7 +20,8 @@ use Rattle.events.specs.declared.EventRead.{EventRead}
 use Rattle.events.specs.declared.Bound.{Bound}
 use Rattle.events.specs.declared.Block.{Block}
 use Rattle.events.specs.declared.BlockRead.{BlockRead}
-use Rattle.calendar.specs.Meaning.{componentScope, eventOf, blockOf, blockPeriods}
+use Rattle.calendar.specs.Meaning.{componentScope, eventOf, blockOf, blockPeriods, removedFrom}
+use Rattle.filter.specs.Tests.{Whole, wholeOf}
 use Rattle.recurrence.specs.TimeRange.{InstanceIn, BetweenIn, Overlaps}
 
 -- ---- a value against a record's text, its collation and its flag
@@ -58,25 +59,26 @@ pub data PropertyPasses (p : List ℕ) (q : Sections) (i : ℕ) (r : PropertyRec
 
 -- ---- a component in a time range
 
-pub data ComponentIn (c : Context) (k : Component) (a b : ℕ) : Type 0 where
-  -- an event: some instance is in range
-  event-in : (e : Event) → componentScope k ≡ Scope.Event → eventOf c k ≡ EventRead.Of e → (n : ℕ) → InstanceIn e a b n → ComponentIn c k a b
+pub data ComponentIn (c : Whole) (k : Component) (a b : ℕ) : Type 0 where
+  -- an event: some instance that it supplies itself is in range
+  event-in : (e : Event) → componentScope k ≡ Scope.Event → eventOf (c .context) k ≡ EventRead.Of e → (n : ℕ)
+      → InstanceIn e (removedFrom (c .context) (c .components) k) a b n → ComponentIn c k a b
   -- a block with both ends: by them alone
-  block-between : (x : Block) (s t : ℕ) → componentScope k ≡ Scope.FreeBusy → blockOf c k ≡ BlockRead.Of x → x .start ≡ Bound.At s → x .end ≡ Bound.At t
+  block-between : (x : Block) (s t : ℕ) → componentScope k ≡ Scope.FreeBusy → blockOf (c .context) k ≡ BlockRead.Of x → x .start ≡ Bound.At s → x .end ≡ Bound.At t
       → BetweenIn a b s t → ComponentIn c k a b
   -- any other block: some period is in range
-  block-period : (x : Block) → componentScope k ≡ Scope.FreeBusy → blockOf c k ≡ BlockRead.Of x
-      → ((s t : ℕ) → x .start ≡ Bound.At s → x .end ≡ Bound.At t → ⊥) → (p : BusyPeriod) → List·Memᴰ p (blockPeriods c (propertiesIn (k .items)))
+  block-period : (x : Block) → componentScope k ≡ Scope.FreeBusy → blockOf (c .context) k ≡ BlockRead.Of x
+      → ((s t : ℕ) → x .start ≡ Bound.At s → x .end ≡ Bound.At t → ⊥) → (p : BusyPeriod) → List·Memᴰ p (blockPeriods (c .context) (propertiesIn (k .items)))
       → Overlaps a b (p .period .start) (p .period .end) → ComponentIn c k a b
 
 -- against a record's range, 0 for none
-pub data RangePasses (c : Context) (p : List ℕ) (q : Sections) (r : ℕ) (k : Component) : Type 0 where
+pub data RangePasses (c : Whole) (p : List ℕ) (q : Sections) (r : ℕ) (k : Component) : Type 0 where
   no-range : r ≡ 0 → RangePasses c p q r k
   in-range : (i : ℕ) → r ≡ suc i → ComponentIn c k (rangeStart p q i) (rangeEnd p q i) → RangePasses c p q r k
 
 -- ---- a component test, among the components of its scope
 
-pub data ComponentPasses (c : Context) (p : List ℕ) (q : Sections) : ℕ → List Component → Type 0 where
+pub data ComponentPasses (c : Whole) (p : List ℕ) (q : Sections) : ℕ → List Component → Type 0 where
   -- is-not-defined: no component directly there has the name
   not-defined : {j : ℕ} {ks : List Component} → componentAt p q j .flag ≡ 1
       → ((k : Component) → List·Memᴰ k ks → Spells (k .begin .line .value) (textOf p q (componentAt p q j .name)) → ⊥)
@@ -90,4 +92,4 @@ pub data ComponentPasses (c : Context) (p : List ℕ) (q : Sections) : ℕ → L
 
 -- component 0, in the whole file
 abbrev pub QueryPasses : Context → List ℕ → Sections → Items → Type 0
-QueryPasses c p q tree = ComponentPasses c p q 0 (componentsIn tree)
+QueryPasses c p q tree = ComponentPasses (wholeOf c tree) p q 0 (componentsIn tree)

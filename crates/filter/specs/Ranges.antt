@@ -62,9 +62,9 @@ linesIn c a b xs = periodsOverlap a b (periodsOf (blockPeriods c xs))
 pub record EndsOutside (x : Block) (a b : ℕ) : Type 0 where
   pub outside : (ps : List BusyPeriod) → blockIn x ps a b ≡ false
 
--- neither as an event nor as a block is row k in the range
+-- neither as an event, whatever starts are taken away from it, nor as a block is row k in the range
 pub record RowOutside (rows column : List ℕ) (k a b : ℕ) : Type 0 where
-  pub no-instance : getD rows (4 * k + 3) 0 ≡ 1 → someBelow instancesAtMost (instanceIn (eventAt column k) a b) ≡ false
+  pub no-instance : getD rows (4 * k + 3) 0 ≡ 1 → (gone : List ℕ) → someBelow instancesAtMost (instanceIn (eventAt column k) gone a b) ≡ false
   pub no-block : getD rows (4 * k + 3) 0 ≡ 2 → EndsOutside (blockAt column k) a b
 
 -- there is a range, and row k is not in it

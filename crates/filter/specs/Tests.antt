@@ -11,19 +11,27 @@ use Rattle.query.specs.declared.Sections.{Sections}
 use Rattle.query.specs.declared.ComponentRecord.{ComponentRecord}
 use Rattle.values.specs.declared.times.Context.{Context}
 use Rattle.property.specs.declared.Scope.{Scope}
-use Rattle.nesting.specs.Components.{Items, Component, componentsIn, propertiesIn}
+use Rattle.nesting.specs.Components.{Items, Component, itemsBelow, componentsIn, propertiesIn}
 use Rattle.property_tests.specs.PropertyTests.{propertiesHold}
 use Rattle.events.specs.declared.Event.{Event}
 use Rattle.events.specs.declared.EventRead.{EventRead}
 use Rattle.events.specs.declared.BlockRead.{BlockRead}
-use Rattle.calendar.specs.Meaning.{componentScope, eventOf, blockOf, blockPeriods}
+use Rattle.calendar.specs.Meaning.{componentScope, eventOf, blockOf, blockPeriods, removedFrom}
 use Rattle.recurrence.specs.TimeRange.{instanceIn, blockIn}
 use Rattle.recurrence.specs.Instances.{instancesAtMost}
 
--- some instance of the event is in the range
-unfoldable pub eventIn : EventRead → ℕ → ℕ → Bool
-eventIn (EventRead.Of e) a b = someBelow instancesAtMost (instanceIn e a b)
-eventIn EventRead.Broken a b = false
+-- the calendar that a component is tested in: the context of its values, and all the components right below VCALENDAR
+pub record Whole : Type 0 where
+  pub context : Context
+  pub components : List Component
+
+unfoldable pub wholeOf : Context → Items → Whole
+wholeOf c tree = record { context = c; components = componentsIn (itemsBelow tree) }
+
+-- some instance of the event is in the range, where these starts are taken away
+unfoldable pub eventIn : EventRead → List ℕ → ℕ → ℕ → Bool
+eventIn (EventRead.Of e) gone a b = someBelow instancesAtMost (instanceIn e gone a b)
+eventIn EventRead.Broken gone a b = false
 
 -- the block is, by its ends or by its periods
 unfoldable pub blockRangeIn : Context → Component → BlockRead → ℕ → ℕ → Bool
@@ -31,13 +39,13 @@ blockRangeIn c k (BlockRead.Of b) from to = blockIn b (blockPeriods c (propertie
 blockRangeIn c k BlockRead.Broken from to = false
 
 -- is a component in a time range?
-unfoldable pub componentIn : Context → Scope → Component → ℕ → ℕ → Bool
-componentIn c Scope.Event k a b = eventIn (eventOf c k) a b
-componentIn c Scope.FreeBusy k a b = blockRangeIn c k (blockOf c k) a b
+unfoldable pub componentIn : Whole → Scope → Component → ℕ → ℕ → Bool
+componentIn c Scope.Event k a b = eventIn (eventOf (c .context) k) (removedFrom (c .context) (c .components) k) a b
+componentIn c Scope.FreeBusy k a b = blockRangeIn (c .context) k (blockOf (c .context) k) a b
 componentIn c Scope.Other k a b = false
 
 -- the record's range, 0 for none
-unfoldable pub rangeHolds : Context → List ℕ → Sections → ℕ → Component → Bool
+unfoldable pub rangeHolds : Whole → List ℕ → Sections → ℕ → Component → Bool
 rangeHolds c s q zero k = true
 rangeHolds c s q (suc r) k = componentIn c (componentScope k) k (rangeStart s q r) (rangeEnd s q r)
 
@@ -47,7 +55,7 @@ someComponentNamed n [] = false
 someComponentNamed n (k ∷ ks) = sameName (k .begin .line .value) n || someComponentNamed n ks
 
 -- some component has the name, is in the range, and passes every property test and every child test of the record
-unfoldable pub someComponent : Context → List ℕ → Sections → ℕ → ComponentRecord → (List Component → Bool) → List Component → Bool
+unfoldable pub someComponent : Whole → List ℕ → Sections → ℕ → ComponentRecord → (List Component → Bool) → List Component → Bool
 someComponent c s q j r children [] = false
 someComponent c s q j r children (k ∷ ks) =
     sameName (k .begin .line .value) (textOf s q (r .name)) && rangeHolds c s q (r .range) k && propertiesHold s q j (propertiesIn (k .items))
@@ -55,12 +63,12 @@ someComponent c s q j r children (k ∷ ks) =
     || someComponent c s q j r children ks
 
 -- component record j among these components; flag 1 asks that none has the name
-unfoldable pub componentHolds : Context → List ℕ → Sections → ℕ → ComponentRecord → (List Component → Bool) → List Component → Bool
+unfoldable pub componentHolds : Whole → List ℕ → Sections → ℕ → ComponentRecord → (List Component → Bool) → List Component → Bool
 componentHolds c s q j r children ks =
     cond (eqb (r .flag) 1) (not (someComponentNamed (textOf s q (r .name)) ks)) (someComponent c s q j r children ks)
 
 -- of the last n component records, all those whose parent is p hold among these components
-unfoldable pub childrenHold : Context → List ℕ → Sections → ℕ → ℕ → List Component → Bool
+unfoldable pub childrenHold : Whole → List ℕ → Sections → ℕ → ℕ → List Component → Bool
 childrenHold c s q zero p ks = true
 childrenHold c s q (suc n) p ks =
     implies (eqb (componentAt s q (q .components .count - suc n) .parent) p)
@@ -70,10 +78,10 @@ childrenHold c s q (suc n) p ks =
     && childrenHold c s q n p ks
 
 -- component record j among these components; its children are tests of records of higher numbers
-unfoldable pub componentTest : Context → List ℕ → Sections → ℕ → List Component → Bool
+unfoldable pub componentTest : Whole → List ℕ → Sections → ℕ → List Component → Bool
 componentTest c s q j ks =
     componentHolds c s q j (componentAt s q j) (λ inner. childrenHold c s q (q .components .count - suc j) j inner) ks
 
 -- the query on a file: component record 0 among what stands outside every component
 unfoldable pub queryHolds : Context → List ℕ → Sections → Items → Bool
-queryHolds c s q tree = componentTest c s q 0 (componentsIn tree)
+queryHolds c s q tree = componentTest (wholeOf c tree) s q 0 (componentsIn tree)

@@ -2,6 +2,7 @@
 // The search is left at the first component and instance that pass; a record's children have higher numbers.
 use crate::trials;
 use crate::trials::Trial;
+use contents::instances;
 use line::read;
 use query::Sections;
 use query::fields;
@@ -20,9 +21,10 @@ ghost use Rattle.query.specs.Fits.{Fits};
 ghost use Rattle.query.specs.Records.{textOf, componentAt};
 ghost use Rattle.query_check.specs.WellFormed.{recordsGood};
 ghost use Rattle.contents.specs.EntryRows.{EntryRows};
-ghost use Rattle.filter.specs.Tests.{someComponentNamed, childrenHold, componentTest, queryHolds};
+ghost use Rattle.contents.specs.Removed.{RemovedRows};
+ghost use Rattle.filter.specs.Tests.{wholeOf, someComponentNamed, childrenHold, componentTest, queryHolds};
 ghost use Rattle.filter.specs.Ranges.{Given, Here, Among, RowSmall};
-ghost use Rattle.filter.specs.Trials.{componentFits, TrialOf, Alone};
+ghost use Rattle.filter.specs.Trials.{componentFits, TrialOf, goneFrom, Alone};
 
 // Has the component of row k the name? It stands on the BEGIN line.
 fn is_called(name: &[u8], s: &[u8], index: &[u32], rows: &[u32], k: usize) -> bool
@@ -66,6 +68,8 @@ fn component_holds(
     index: &[u32],
     rows: &[u32],
     column: &[u64],
+    places: &[u32],
+    removed: &[u32],
     first: usize,
     end: usize,
     c: Context,
@@ -75,8 +79,9 @@ fn component_holds(
     requires { ⌜ j < q .components .count ⌝ }
     requires { ⌜ ContextGood c ⌝ }
     requires { ⌜ Given c (now s) (now index) (now rows) (now column) ⌝ }
+    requires { ⌜ RemovedRows c (now s) (now rows) (now places) (now removed) (getD (now rows) 2 0) ⌝ }
     requires { ⌜ Among (now s) (now rows) first end ⌝ }
-    ensures { λ t. ⌜ t ≡ componentTest c (now (query .entry)) q j (componentsBy (now (s .entry)) (now (rows .entry)) first end) ⌝ }
+    ensures { λ t. ⌜ t ≡ componentTest (wholeOf c (treeIn (now (s .entry)))) (now (query .entry)) q j (componentsBy (now (s .entry)) (now (rows .entry)) first end) ⌝ }
 {
     let r = fields::component_at(query, q, j);
     let name = fields::text_of(query, q, r.name);
@@ -88,10 +93,24 @@ fn component_holds(
         if end <= row {
             return false;
         }
-        let t = trial_here(query, q, j, name, s, index, rows, column, row, c);
+        let t = trial_here(
+            query,
+            q,
+            j,
+            name,
+            s,
+            index,
+            rows,
+            column,
+            places,
+            removed,
+            row,
+            c,
+        );
+        let gone = instances::gone_at(places, removed, row);
         let mut k = trials::first_tried(t);
         while trials::goes_on(t, k) {
-            if trials::passes(t, k) {
+            if trials::passes(t, gone, k) {
                 break 'search;
             }
             k += 1;
@@ -111,6 +130,8 @@ fn trial_here(
     index: &[u32],
     rows: &[u32],
     column: &[u64],
+    places: &[u32],
+    removed: &[u32],
     k: usize,
     c: Context,
 ) -> Trial
@@ -120,11 +141,25 @@ fn trial_here(
     requires { ⌜ now name ≡ textOf (now query) q (componentAt (now query) q j .name) ⌝ }
     requires { ⌜ ContextGood c ⌝ }
     requires { ⌜ Given c (now s) (now index) (now rows) (now column) ⌝ }
+    requires { ⌜ RemovedRows c (now s) (now rows) (now places) (now removed) (getD (now rows) 2 0) ⌝ }
     requires { ⌜ Here (now s) (now rows) k ⌝ }
-    ensures { λ t. ⌜ TrialOf (componentFits c (now (query .entry)) q j (componentBy (now (s .entry)) (now (rows .entry)) k)) t ⌝ }
+    ensures { λ t. ⌜ TrialOf (componentFits (wholeOf c (treeIn (now (s .entry)))) (now (query .entry)) q j (componentBy (now (s .entry)) (now (rows .entry)) k)) (goneFrom c (now (s .entry)) (now (rows .entry)) k) t ⌝ }
 {
     if alone_holds(query, q, j, name, s, index, rows, column, k) {
-        if children_hold(query, q, j + 1, j, s, index, rows, column, k, c) {
+        if children_hold(
+            query,
+            q,
+            j + 1,
+            j,
+            s,
+            index,
+            rows,
+            column,
+            places,
+            removed,
+            k,
+            c,
+        ) {
             let r = fields::component_at(query, q, j);
             return trials::trial_of(query, q, r.range, s, index, rows, column, k, c);
         }
@@ -142,6 +177,8 @@ fn children_hold(
     index: &[u32],
     rows: &[u32],
     column: &[u64],
+    places: &[u32],
+    removed: &[u32],
     k: usize,
     c: Context,
 ) -> bool
@@ -150,8 +187,9 @@ fn children_hold(
     requires { ⌜ from ≤ q .components .count ⌝ }
     requires { ⌜ ContextGood c ⌝ }
     requires { ⌜ Given c (now s) (now index) (now rows) (now column) ⌝ }
+    requires { ⌜ RemovedRows c (now s) (now rows) (now places) (now removed) (getD (now rows) 2 0) ⌝ }
     requires { ⌜ Here (now s) (now rows) k ⌝ }
-    ensures { λ t. ⌜ t ≡ childrenHold c (now (query .entry)) q (q .components .count - from) parent (componentsBy (now (s .entry)) (now (rows .entry)) (k + 1) (getD (now (rows .entry)) (4 * k + 2) 0)) ⌝ }
+    ensures { λ t. ⌜ t ≡ childrenHold (wholeOf c (treeIn (now (s .entry)))) (now (query .entry)) q (q .components .count - from) parent (componentsBy (now (s .entry)) (now (rows .entry)) (k + 1) (getD (now (rows .entry)) (4 * k + 2) 0)) ⌝ }
 {
     let components = q.components;
     let n = components.count;
@@ -162,7 +200,20 @@ fn children_hold(
         let next = i + 1;
         let r = fields::component_at(query, q, i);
         if r.parent == parent {
-            if !component_holds(query, q, i, s, index, rows, column, inside, end, c) {
+            if !component_holds(
+                query,
+                q,
+                i,
+                s,
+                index,
+                rows,
+                column,
+                places,
+                removed,
+                inside,
+                end,
+                c,
+            ) {
                 return false;
             }
         }
@@ -210,6 +261,8 @@ pub fn query_holds(
     index: &[u32],
     rows: &[u32],
     column: &[u64],
+    places: &[u32],
+    removed: &[u32],
     c: Context,
 ) -> bool
     requires { ⌜ Fits (now query) q ⌝ }
@@ -217,8 +270,22 @@ pub fn query_holds(
     requires { ⌜ ContextGood c ⌝ }
     requires { ⌜ FileRows (now s) (now index) (now rows) ⌝ }
     requires { ⌜ EntryRows c (now s) (now rows) (now column) (getD (now rows) 2 0) ⌝ }
+    requires { ⌜ RemovedRows c (now s) (now rows) (now places) (now removed) (getD (now rows) 2 0) ⌝ }
     ensures { λ t. ⌜ t ≡ queryHolds c (now (query .entry)) q (treeIn (now (s .entry))) ⌝ }
 {
     let end = rows::next_row(rows, 0);
-    component_holds(query, q, 0, s, index, rows, column, 0, end, c)
+    component_holds(
+        query,
+        q,
+        0,
+        s,
+        index,
+        rows,
+        column,
+        places,
+        removed,
+        0,
+        end,
+        c,
+    )
 }

@@ -9,16 +9,19 @@ use structure::rows;
 use values::times::Context;
 ghost use mathlib.Core.Path.{_≡_};
 ghost use mathlib.Core.Bool.{true};
-ghost use Prim.Native.Nat.{_≤_, _<_};
+ghost use mathlib.Core.List.{List};
+ghost use Prim.Native.Nat.{ℕ, _≤_, _<_};
 ghost use Rattle.time.specs.Limits.{lastSecond};
 ghost use Rattle.values.specs.Times.{ContextGood};
 ghost use Rattle.structure.specs.Rows.{componentBy};
 ghost use Rattle.query.specs.Fits.{Fits};
 ghost use Rattle.query_check.specs.WellFormed.{recordsGood};
 ghost use Rattle.calendar.specs.Meaning.{componentScope};
-ghost use Rattle.filter.specs.Tests.{componentIn, rangeHolds};
+ghost use Rattle.seconds.specs.Seconds.{Ordered};
+ghost use Rattle.nesting.specs.Files.{treeIn};
+ghost use Rattle.filter.specs.Tests.{wholeOf, componentIn, rangeHolds};
 ghost use Rattle.filter.specs.Ranges.{Given, Here, RowSmall, RowOutside, RuledOut};
-ghost use Rattle.filter.specs.Trials.{trialPasses, Tried, MoreTrials, SmallTrial, TrialOf};
+ghost use Rattle.filter.specs.Trials.{trialPasses, Tried, MoreTrials, SmallTrial, TrialOf, goneFrom};
 
 // The trial of one component.
 pub enum Trial {
@@ -84,7 +87,7 @@ fn trial_in(
     requires { ⌜ Given c (now s) (now index) (now rows) (now column) ⌝ }
     requires { ⌜ Here (now s) (now rows) k ⌝ }
     requires { ⌜ (a < b) × (b ≤ lastSecond) ⌝ }
-    ensures { λ t. ⌜ TrialOf (componentIn c (componentScope (componentBy (now (s .entry)) (now (rows .entry)) k)) (componentBy (now (s .entry)) (now (rows .entry)) k) a b) t ⌝ }
+    ensures { λ t. ⌜ TrialOf (componentIn (wholeOf c (treeIn (now (s .entry)))) (componentScope (componentBy (now (s .entry)) (now (rows .entry)) k)) (componentBy (now (s .entry)) (now (rows .entry)) k) a b) (goneFrom c (now (s .entry)) (now (rows .entry)) k) t ⌝ }
 {
     let kind = rows::kind_at(rows, k);
     if kind == 1 {
@@ -115,7 +118,7 @@ pub fn trial_of(
     requires { ⌜ ContextGood c ⌝ }
     requires { ⌜ Given c (now s) (now index) (now rows) (now column) ⌝ }
     requires { ⌜ Here (now s) (now rows) k ⌝ }
-    ensures { λ t. ⌜ TrialOf (rangeHolds c (now (query .entry)) q r (componentBy (now (s .entry)) (now (rows .entry)) k)) t ⌝ }
+    ensures { λ t. ⌜ TrialOf (rangeHolds (wholeOf c (treeIn (now (s .entry)))) (now (query .entry)) q r (componentBy (now (s .entry)) (now (rows .entry)) k)) (goneFrom c (now (s .entry)) (now (rows .entry)) k) t ⌝ }
 {
     if r == 0 {
         return Trial::Once(true);
@@ -129,7 +132,7 @@ pub fn trial_of(
 // The first instance to try: none before it passes.
 pub fn first_tried(t: Trial) -> u64
     requires { ⌜ SmallTrial t ⌝ }
-    ensures { λ k. ⌜ Tried t k ⌝ }
+    ensures { λ k. ⌜ ((gone : List ℕ) → Tried gone t k) ⌝ }
 {
     match t {
         Trial::Instances(e, a, _) => time_range::first_candidate(e, a),
@@ -149,14 +152,15 @@ pub fn goes_on(t: Trial, k: u64) -> bool
     }
 }
 
-// Does instance k pass? What is tried once has number 0.
-pub fn passes(t: Trial, k: u64) -> bool
+// Does instance k pass, where these starts are taken away? What is tried once has number 0.
+pub fn passes(t: Trial, gone: &[u32], k: u64) -> bool
     requires { ⌜ SmallTrial t ⌝ }
+    requires { ⌜ Ordered (now gone) ⌝ }
     requires { ⌜ k ≤ 100000 ⌝ }
-    ensures { λ r. ⌜ r ≡ trialPasses t k ⌝ }
+    ensures { λ r. ⌜ r ≡ trialPasses (now (gone .entry)) t k ⌝ }
 {
     match t {
-        Trial::Instances(e, a, b) => time_range::instance_in(e, a, b, k),
+        Trial::Instances(e, a, b) => time_range::instance_in(e, gone, a, b, k),
         Trial::Once(good) => good & (k == 0),
     }
 }

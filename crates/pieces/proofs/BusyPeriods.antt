@@ -1,9 +1,9 @@
 -- The periods of an instance, of an event and of a calendar: which stand in the lists.
 use Prim.Native.Nat.{ℕ, zero, suc, _≤_, _<_}
-use mathlib.Core.Path.{_≡_, refl, sym, subst}
+use mathlib.Core.Path.{_≡_, refl, sym, ap, _∙_, subst}
 use mathlib.Core.Bool.{Bool, true, false}
 use mathlib.Core.Logic.{_⊎_, inl, inr}
-use mathlib.Core.List.{List, [], _∷_, _++_, List·Memᴰ, List·Memᴰ·head, List·Memᴰ·tail, List·Memᴰ·eq-of-singleton, List·Memᴰ·not-nil, List·Memᴰ·cases-cons, Memᴰ·append-left, Memᴰ·append-right, List·Memᴰ·append-cases}
+use mathlib.Core.List.{List, [], _∷_, _++_, append-assoc, List·Memᴰ, List·Memᴰ·head, List·Memᴰ·tail, List·Memᴰ·eq-of-singleton, List·Memᴰ·not-nil, List·Memᴰ·cases-cons, Memᴰ·append-left, Memᴰ·append-right, List·Memᴰ·append-cases}
 use native.Mathlib.Omega.{arith}
 use lib.Dec.{ltb}
 use borrow.Author.Tests.{ltb-true, ltb-false}
@@ -13,10 +13,11 @@ use Rattle.periods.specs.BusyTypes.{BusyPeriod}
 use Rattle.events.specs.Events.{Entry, event, block}
 use Rattle.events.specs.declared.Event.{Event}
 use Rattle.events.specs.declared.Block.{Block}
-use Rattle.events.specs.Sizes.{EventSmall}
+use Rattle.seconds.specs.Seconds.{among}
+use Rattle.events.specs.Sizes.{EventsSmall}
 use Rattle.recurrence.specs.Instances.{startOf, endOf, occurs, instancesAtMost}
-use Rattle.recurrence.proofs.Instances.{starts-few, takes-place-iff}
-use Rattle.pieces.specs.BusyPeriods.{busyPeriod, listBelow, instancePeriod, eventPeriods, entryPeriods, busyPeriods, IsBusyPeriod, of-instance, of-block}
+use Rattle.recurrence.proofs.Instances.{starts-few, occurs-same, takes-place-iff}
+use Rattle.pieces.specs.BusyPeriods.{busyPeriod, listBelow, instancePeriod, eventPeriods, statedPeriods, instancePeriods, gathered, busyPeriods, IsBusyPeriod, of-instance, of-block}
 
 -- ---- an instance
 
@@ -29,13 +30,13 @@ pub left-out : (t : Bool) (c : BusyPeriod) → t ≡ false → _≡_ {A = List B
 left-out true c h = clash refl h
 left-out false c h = refl
 
-pub occurs-period : (e : Event) (k : ℕ) → occurs e k ≡ true → instancePeriod e k ≡ busyPeriod (e .busy) (startOf e k) (endOf e k) ∷ []
+pub occurs-period : (e : Event) (gone : List ℕ) (k : ℕ) → occurs e gone k ≡ true → instancePeriod e gone k ≡ busyPeriod (e .busy) (startOf e k) (endOf e k) ∷ []
 unfolding instancePeriod
-occurs-period e k h = chosen (occurs e k) (busyPeriod (e .busy) (startOf e k) (endOf e k)) h
+occurs-period e gone k h = chosen (occurs e gone k) (busyPeriod (e .busy) (startOf e k) (endOf e k)) h
 
-pub fails-period : (e : Event) (k : ℕ) → occurs e k ≡ false → instancePeriod e k ≡ []
+pub fails-period : (e : Event) (gone : List ℕ) (k : ℕ) → occurs e gone k ≡ false → instancePeriod e gone k ≡ []
 unfolding instancePeriod
-fails-period e k h = left-out (occurs e k) (busyPeriod (e .busy) (startOf e k) (endOf e k)) h
+fails-period e gone k h = left-out (occurs e gone k) (busyPeriod (e .busy) (startOf e k) (endOf e k)) h
 
 -- ---- the lists below a number
 
@@ -62,64 +63,103 @@ listed-below {p} f (suc n) m = go (List·Memᴰ·append-cases (listBelow n f) m)
     go (inl d) r = r d
     go (inr d) r = record { number = n; there = d }
 
--- ---- an entry
+-- lists that are the same number by number
+below-same : {f g : ℕ → List BusyPeriod} → ((k : ℕ) → f k ≡ g k) → (n : ℕ) → listBelow n f ≡ listBelow n g
+unfolding listBelow
+below-same s zero = refl
+below-same {f} {g} s (suc n) = ap (λ (l : List BusyPeriod). l ++ f n) (below-same s n) ∙ ap (λ (l : List BusyPeriod). listBelow n g ++ l) (s n)
 
--- what an entry gives the calendar has
-pub entry-listed : {p : BusyPeriod} (y : Entry) (es : List Entry) → List·Memᴰ y es → List·Memᴰ p (entryPeriods y) → List·Memᴰ p (busyPeriods es)
-unfolding busyPeriods
-entry-listed y [] d m = absurd (List·Memᴰ·not-nil d)
-entry-listed {p} y (z ∷ es) d m = go (List·Memᴰ·cases-cons d) (λ i. entry-listed y es i m)
+-- lists of the same seconds leave the same periods
+pub event-same : (e : Event) (g h : List ℕ) → ((x : ℕ) → among x g ≡ among x h) → eventPeriods e g ≡ eventPeriods e h
+unfolding eventPeriods instancePeriod
+event-same e g h s =
+    below-same
+    (λ k.
+    ap (λ (t : Bool). elim t [ true ↦ busyPeriod (e .busy) (startOf e k) (endOf e k) ∷ [] | false ↦ [] ]) (occurs-same e g h s k))
+    instancesAtMost
+
+-- ---- entries
+
+pub gathered-append : (f : Entry → List BusyPeriod) (xs ys : List Entry) → gathered f (xs ++ ys) ≡ gathered f xs ++ gathered f ys
+unfolding gathered
+gathered-append f [] ys = refl
+gathered-append f (x ∷ xs) ys =
+    ap (λ (l : List BusyPeriod). f x ++ l) (gathered-append f xs ys) ∙ sym (append-assoc (f x) (gathered f xs) (gathered f ys))
+
+-- what an entry has is among what all have
+gathered-listed : {p : BusyPeriod} (f : Entry → List BusyPeriod) (y : Entry) (es : List Entry) → List·Memᴰ y es → List·Memᴰ p (f y) → List·Memᴰ p (gathered f es)
+unfolding gathered
+gathered-listed f y [] d m = absurd (List·Memᴰ·not-nil d)
+gathered-listed {p} f y (z ∷ es) d m = go (List·Memᴰ·cases-cons d) (λ i. gathered-listed f y es i m)
   where
-    go : (y ≡ z) ⊎ List·Memᴰ y es → (List·Memᴰ y es → List·Memᴰ p (busyPeriods es)) → List·Memᴰ p (entryPeriods z ++ busyPeriods es)
-    go (inl i) r = Memᴰ·append-left (busyPeriods es) (subst (λ (w : Entry). List·Memᴰ p (entryPeriods w)) i m)
-    go (inr i) r = Memᴰ·append-right (entryPeriods z) (r i)
+    go : (y ≡ z) ⊎ List·Memᴰ y es → (List·Memᴰ y es → List·Memᴰ p (gathered f es)) → List·Memᴰ p (f z ++ gathered f es)
+    go (inl i) r = Memᴰ·append-left (gathered f es) (subst (λ (w : Entry). List·Memᴰ p (f w)) i m)
+    go (inr i) r = Memᴰ·append-right (f z) (r i)
 
-pub instance-listed : (e : Event) (k : ℕ) → k < instancesAtMost → occurs e k ≡ true
-    → List·Memᴰ (busyPeriod (e .busy) (startOf e k) (endOf e k)) (entryPeriods (event e))
-unfolding entryPeriods eventPeriods
-instance-listed e k l h =
-    below-listed (instancePeriod e) instancesAtMost k l
-    (subst (λ (w : List BusyPeriod). List·Memᴰ (busyPeriod (e .busy) (startOf e k) (endOf e k)) w) (sym (occurs-period e k h)) (List·Memᴰ·head refl))
+-- and what all have, some entry has
+record EntryWith (p : BusyPeriod) (f : Entry → List BusyPeriod) (es : List Entry) : Type 0 where
+  pub entry : Entry
+  pub listed : List·Memᴰ entry es
+  pub there : List·Memᴰ p (f entry)
 
-pub block-listed : (k : Block) (ps : List BusyPeriod) {p : BusyPeriod} → List·Memᴰ p ps → List·Memᴰ p (entryPeriods (block k ps))
-unfolding entryPeriods
+listed-gathered : {p : BusyPeriod} (f : Entry → List BusyPeriod) (es : List Entry) → List·Memᴰ p (gathered f es) → EntryWith p f es
+unfolding gathered
+listed-gathered f [] m = absurd (List·Memᴰ·not-nil m)
+listed-gathered {p} f (y ∷ es) m = go (List·Memᴰ·append-cases (f y) m) (listed-gathered f es)
+  where
+    go : List·Memᴰ p (f y) ⊎ List·Memᴰ p (gathered f es) → (List·Memᴰ p (gathered f es) → EntryWith p f es) → EntryWith p f (y ∷ es)
+    go (inl d) r = record { entry = y; listed = List·Memᴰ·head refl; there = d }
+    go (inr d) r = let i = r d in record { entry = i .entry; listed = List·Memᴰ·tail (i .listed); there = i .there }
+
+instance-listed : (e : Event) (gone : List ℕ) (k : ℕ) → k < instancesAtMost → occurs e gone k ≡ true
+    → List·Memᴰ (busyPeriod (e .busy) (startOf e k) (endOf e k)) (instancePeriods (event e gone))
+unfolding instancePeriods eventPeriods
+instance-listed e gone k l h =
+    below-listed (instancePeriod e gone) instancesAtMost k l
+    (subst (λ (w : List BusyPeriod). List·Memᴰ (busyPeriod (e .busy) (startOf e k) (endOf e k)) w) (sym (occurs-period e gone k h)) (List·Memᴰ·head refl))
+
+block-listed : (k : Block) (ps : List BusyPeriod) {p : BusyPeriod} → List·Memᴰ p ps → List·Memᴰ p (statedPeriods (block k ps))
+unfolding statedPeriods
 block-listed k ps m = m
 
 -- ---- for the reader: what stands in the list of all
 
--- of an entry more
-period-more : {p : BusyPeriod} (y : Entry) (es : List Entry) → IsBusyPeriod es p → IsBusyPeriod (y ∷ es) p
-period-more y es (of-instance e d k s q) = of-instance e (List·Memᴰ·tail d) k s q
-period-more y es (of-block k ps d m) = of-block k ps (List·Memᴰ·tail d) m
-
-instance-is : (e : Event) (k : ℕ) {p : BusyPeriod} → List·Memᴰ p (instancePeriod e k) → (es : List Entry) → List·Memᴰ (event e) es → IsBusyPeriod es p
-instance-is e k {p} m es d = go (occurs e k) refl
+instance-is : (e : Event) (gone : List ℕ) (k : ℕ) {p : BusyPeriod} → List·Memᴰ p (instancePeriod e gone k) → (es : List Entry) → List·Memᴰ (event e gone) es
+    → IsBusyPeriod es p
+instance-is e gone k {p} m es d = go (occurs e gone k) refl
   where
-    go : (y : Bool) → occurs e k ≡ y → IsBusyPeriod es p
+    go : (y : Bool) → occurs e gone k ≡ y → IsBusyPeriod es p
     go true q =
-        of-instance e d k (takes-place-iff e k .0 q)
-        (List·Memᴰ·eq-of-singleton (subst (λ (l : List BusyPeriod). List·Memᴰ p l) (occurs-period e k q) m))
-    go false q = absurd (List·Memᴰ·not-nil (subst (λ (l : List BusyPeriod). List·Memᴰ p l) (fails-period e k q) m))
+        of-instance e gone d k (takes-place-iff e gone k .0 q)
+        (List·Memᴰ·eq-of-singleton (subst (λ (l : List BusyPeriod). List·Memᴰ p l) (occurs-period e gone k q) m))
+    go false q = absurd (List·Memᴰ·not-nil (subst (λ (l : List BusyPeriod). List·Memᴰ p l) (fails-period e gone k q) m))
 
-entry-is : (y : Entry) {p : BusyPeriod} → List·Memᴰ p (entryPeriods y) → (es : List Entry) → List·Memᴰ y es → IsBusyPeriod es p
-unfolding entryPeriods eventPeriods
-entry-is (event e) m es d = let i = listed-below (instancePeriod e) instancesAtMost m in instance-is e (i .number) (i .there) es d
-entry-is (block k ps) m es d = of-block k ps d m
+stated-is : (y : Entry) {p : BusyPeriod} → List·Memᴰ p (statedPeriods y) → (es : List Entry) → List·Memᴰ y es → IsBusyPeriod es p
+unfolding statedPeriods
+stated-is (event e gone) m es d = absurd (List·Memᴰ·not-nil m)
+stated-is (block k ps) m es d = of-block k ps d m
+
+instances-are : (y : Entry) {p : BusyPeriod} → List·Memᴰ p (instancePeriods y) → (es : List Entry) → List·Memᴰ y es → IsBusyPeriod es p
+unfolding instancePeriods eventPeriods
+instances-are (event e gone) m es d = let i = listed-below (instancePeriod e gone) instancesAtMost m in instance-is e gone (i .number) (i .there) es d
+instances-are (block k ps) m es d = absurd (List·Memᴰ·not-nil m)
 
 pub listed-is : (es : List Entry) {p : BusyPeriod} → List·Memᴰ p (busyPeriods es) → IsBusyPeriod es p
 unfolding busyPeriods
-listed-is [] m = absurd (List·Memᴰ·not-nil m)
-listed-is (y ∷ es) {p} m = go (List·Memᴰ·append-cases (entryPeriods y) m) (listed-is es)
+listed-is es {p} m = go (List·Memᴰ·append-cases (gathered statedPeriods es) m)
   where
-    go : List·Memᴰ p (entryPeriods y) ⊎ List·Memᴰ p (busyPeriods es) → (List·Memᴰ p (busyPeriods es) → IsBusyPeriod es p) → IsBusyPeriod (y ∷ es) p
-    go (inl d) r = entry-is y d (y ∷ es) (List·Memᴰ·head refl)
-    go (inr d) r = period-more y es (r d)
+    go : List·Memᴰ p (gathered statedPeriods es) ⊎ List·Memᴰ p (gathered instancePeriods es) → IsBusyPeriod es p
+    go (inl d) = let i = listed-gathered statedPeriods es d in stated-is (i .entry) (i .there) es (i .listed)
+    go (inr d) = let i = listed-gathered instancePeriods es d in instances-are (i .entry) (i .there) es (i .listed)
 
 -- none that starts within the limits is left out of the list
-pub is-listed : (es : List Entry) {p : BusyPeriod} → ((e : Event) → List·Memᴰ (event e) es → EventSmall e) → p .period .start ≤ lastSecond
-    → IsBusyPeriod es p → List·Memᴰ p (busyPeriods es)
-is-listed es {p} small l (of-instance e d k s q) =
+pub is-listed : (es : List Entry) {p : BusyPeriod} → EventsSmall es → p .period .start ≤ lastSecond → IsBusyPeriod es p → List·Memᴰ p (busyPeriods es)
+unfolding busyPeriods
+is-listed es {p} small l (of-instance e gone d k s q) =
     let early : startOf e k ≤ lastSecond = subst (λ (w : BusyPeriod). w .period .start ≤ lastSecond) q l in
-    subst (λ (w : BusyPeriod). List·Memᴰ w (busyPeriods es)) (sym q)
-    (entry-listed (event e) es d (instance-listed e k (starts-few k (small e d) early) (takes-place-iff e k .1 s)))
-is-listed es small l (of-block k ps d m) = entry-listed (block k ps) es d (block-listed k ps m)
+    subst (λ (w : BusyPeriod). List·Memᴰ w (gathered statedPeriods es ++ gathered instancePeriods es)) (sym q)
+    (Memᴰ·append-right (gathered statedPeriods es)
+    (gathered-listed instancePeriods (event e gone) es d
+    (instance-listed e gone k (starts-few k (small e gone d) early) (takes-place-iff e gone k .1 s))))
+is-listed es small l (of-block k ps d m) =
+    Memᴰ·append-left (gathered instancePeriods es) (gathered-listed statedPeriods (block k ps) es d (block-listed k ps m))

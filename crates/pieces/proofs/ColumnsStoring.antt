@@ -72,22 +72,22 @@ piece-small {to} place from n b end t l h =
 
 -- ---- one instance
 
-module _ (e : Event) (k a b : ℕ) {o : List ℕ} {n : ℕ} {t : Bool} (h : t ≡ occurs e k) where
+module _ (e : Event) (gone : List ℕ) (k a b : ℕ) {o : List ℕ} {n : ℕ} {t : Bool} (h : t ≡ occurs e gone k) where
   pub instance-stored : {o′ : List ℕ} {r s f : ℕ} → t ≡ true → s ≡ startOf e k → f ≡ endOf e k
-      → Stored o n (pieceOf a b (busyPeriod (e .busy) s f)) o′ r → Stored o n (piecesOf a b (instancePeriod e k)) o′ r
+      → Stored o n (pieceOf a b (busyPeriod (e .busy) s f)) o′ r → Stored o n (piecesOf a b (instancePeriod e gone k)) o′ r
   instance-stored {s = s} {f = f} q x y m =
       stored-as m
       (ap (λ (i : ℕ). pieceOf a b (busyPeriod (e .busy) i f)) x
       ∙ ap (λ (i : ℕ). pieceOf a b (busyPeriod (e .busy) (startOf e k) i)) y
-      ∙ sym (ap (piecesOf a b) (occurs-period e k (sym h ∙ q)) ∙ one-piece a b _))
+      ∙ sym (ap (piecesOf a b) (occurs-period e gone k (sym h ∙ q)) ∙ one-piece a b _))
 
-  pub instance-left : t ≡ false → Stored o n (piecesOf a b (instancePeriod e k)) o n
-  instance-left q = stored-as (stored-none o n) (sym (ap (piecesOf a b) (fails-period e k (sym h ∙ q)) ∙ piecesOf-none a b))
+  pub instance-left : t ≡ false → Stored o n (piecesOf a b (instancePeriod e gone k)) o n
+  instance-left q = stored-as (stored-none o n) (sym (ap (piecesOf a b) (fails-period e gone k (sym h ∙ q)) ∙ piecesOf-none a b))
 
 -- ---- an event
 
-silent : (e : Event) (a b k : ℕ) (o : List ℕ) (n : ℕ) → instanceIn e a b k ≡ false → Stored o n (piecesOf a b (instancePeriod e k)) o n
-silent e a b k o n h = stored-as (stored-none o n) (sym (out-of-range e a b k h))
+silent : (e : Event) (gone : List ℕ) (a b k : ℕ) (o : List ℕ) (n : ℕ) → instanceIn e gone a b k ≡ false → Stored o n (piecesOf a b (instancePeriod e gone k)) o n
+silent e gone a b k o n h = stored-as (stored-none o n) (sym (out-of-range e gone a b k h))
 
 module _ (a b : ℕ) (f : ℕ → List BusyPeriod) {o₀ : List ℕ} {first : ℕ} where
   -- the pieces of one number more
@@ -109,43 +109,43 @@ unfolding listBelow
 below-none a b f o n = stored-as (stored-none o n) (sym (piecesOf-none a b))
 
 -- the pieces of the instances below k are stored
-pub record Walked (e : Event) (a b : ℕ) (o₀ : List ℕ) (first : ℕ) (o : List ℕ) (n k : ℕ) : Type 0 where
+pub record Walked (e : Event) (gone : List ℕ) (a b : ℕ) (o₀ : List ℕ) (first : ℕ) (o : List ℕ) (n k : ℕ) : Type 0 where
   pub few : k ≤ instancesAtMost
-  pub so-far : Stored o₀ first (piecesOf a b (listBelow k (instancePeriod e))) o n
+  pub so-far : Stored o₀ first (piecesOf a b (listBelow k (instancePeriod e gone))) o n
 
-pub walked-start : (e : Event) (a b : ℕ) (o : List ℕ) (first k : ℕ) → FirstCandidate e a k → Walked e a b o first o first k
-walked-start e a b o first k h =
+pub walked-start : (e : Event) (gone : List ℕ) (a b : ℕ) (o : List ℕ) (first k : ℕ) → FirstCandidate e a k → Walked e gone a b o first o first k
+walked-start e gone a b o first k h =
     record {
       few = omega (arith, h .few);
       so-far =
-          subst (λ (i : ℕ). Stored o first (piecesOf a b (listBelow i (instancePeriod e))) o first) (let z : 0 + k ≡ k = omega arith in z)
-          (below-over a b (instancePeriod e) 0 k (below-none a b (instancePeriod e) o first)
-          (λ i p q. silent e a b i o first (h .none-before b i (omega arith))));
+          subst (λ (i : ℕ). Stored o first (piecesOf a b (listBelow i (instancePeriod e gone))) o first) (let z : 0 + k ≡ k = omega arith in z)
+          (below-over a b (instancePeriod e gone) 0 k (below-none a b (instancePeriod e gone) o first)
+          (λ i p q. silent e gone a b i o first (h .none-before gone b i (omega arith))));
     }
 
-module _ {e : Event} {a b : ℕ} {o₀ : List ℕ} {first : ℕ} {o : List ℕ} {n k : ℕ} (w : Walked e a b o₀ first o n k) where
-  pub walked-more : {o′ : List ℕ} {r : ℕ} → k < instancesAtMost → Stored o n (piecesOf a b (instancePeriod e k)) o′ r → Walked e a b o₀ first o′ r (k + 1)
+module _ {e : Event} {gone : List ℕ} {a b : ℕ} {o₀ : List ℕ} {first : ℕ} {o : List ℕ} {n k : ℕ} (w : Walked e gone a b o₀ first o n k) where
+  pub walked-more : {o′ : List ℕ} {r : ℕ} → k < instancesAtMost → Stored o n (piecesOf a b (instancePeriod e gone k)) o′ r → Walked e gone a b o₀ first o′ r (k + 1)
   walked-more {o′} {r} h m =
       record {
         few = omega arith;
         so-far =
-            subst (λ (i : ℕ). Stored o₀ first (piecesOf a b (listBelow i (instancePeriod e))) o′ r) (let z : suc k ≡ k + 1 = omega arith in z)
-            (below-then a b (instancePeriod e) k (w .so-far) m);
+            subst (λ (i : ℕ). Stored o₀ first (piecesOf a b (listBelow i (instancePeriod e gone))) o′ r) (let z : suc k ≡ k + 1 = omega arith in z)
+            (below-then a b (instancePeriod e gone) k (w .so-far) m);
       }
 
-  to-the-end : ((i : ℕ) → k ≤ i → Stored o n (piecesOf a b (instancePeriod e i)) o n) → Stored o₀ first (piecesOf a b (eventPeriods e)) o n
+  to-the-end : ((i : ℕ) → k ≤ i → Stored o n (piecesOf a b (instancePeriod e gone i)) o n) → Stored o₀ first (piecesOf a b (eventPeriods e gone)) o n
   unfolding eventPeriods
   to-the-end s =
-      subst (λ (i : ℕ). Stored o₀ first (piecesOf a b (listBelow i (instancePeriod e))) o n)
+      subst (λ (i : ℕ). Stored o₀ first (piecesOf a b (listBelow i (instancePeriod e gone))) o n)
       (let z : k + (instancesAtMost - k) ≡ instancesAtMost = omega (arith, w .few) in z)
-      (below-over a b (instancePeriod e) k (instancesAtMost - k) (w .so-far) (λ i p q. s i p))
+      (below-over a b (instancePeriod e gone) k (instancesAtMost - k) (w .so-far) (λ i p q. s i p))
 
   -- no room is left, or no later instance is in range
-  pub walked-end : {t : Bool} → MoreCandidates e b k t → (ltb n 513 && t) ≡ false → Stored o₀ first (piecesOf a b (eventPeriods e)) o n
+  pub walked-end : {t : Bool} → MoreCandidates e b k t → (ltb n 513 && t) ≡ false → Stored o₀ first (piecesOf a b (eventPeriods e gone)) o n
   walked-end {t} x h = go (ltb n 513) refl h
     where
-      go : (y : Bool) → ltb n 513 ≡ y → (y && t) ≡ false → Stored o₀ first (piecesOf a b (eventPeriods e)) o n
-      go true z m = to-the-end (λ i p. silent e a b i o n (x .none-from m a i p))
+      go : (y : Bool) → ltb n 513 ≡ y → (y && t) ≡ false → Stored o₀ first (piecesOf a b (eventPeriods e gone)) o n
+      go true z m = to-the-end (λ i p. silent e gone a b i o n (x .none-from m gone a i p))
       go false z m = to-the-end (λ i p. stored-full o n _ (ltb-false n 513 z))
 
   pub walked-few : first ≤ 513 → n ≤ 513

@@ -15,9 +15,8 @@ use Rattle.periods.specs.Periods.{secondIn, covers}
 use Rattle.periods.proofs.Periods.{secondIn-ends, secondIn-true}
 use Rattle.periods.specs.BusyTypes.{reportPlace, isBusy, sameBusy, BusyPeriod}
 use Rattle.periods.proofs.BusyTypes.{sameBusy-iff}
-use Rattle.events.specs.Events.{Entry, event}
-use Rattle.events.specs.Sizes.{EventSmall}
-use Rattle.events.specs.declared.Event.{Event}
+use Rattle.events.specs.Events.{Entry}
+use Rattle.events.specs.Sizes.{EventsSmall}
 use Rattle.pieces.specs.BusyPeriods.{busyPeriods}
 use Rattle.pieces.specs.Covered.{ofType, coveredBy, covered, Covers}
 use Rattle.pieces.proofs.BusyPeriods.{listed-is, is-listed}
@@ -114,7 +113,7 @@ module _ (b : BusyType) (x : ℕ) where
 -- ---- for the reader
 
 module _ (b : BusyType) (es : List Entry) (x : ℕ) where
-  pub covered-iff : x ≤ lastSecond → ((e : Event) → List·Memᴰ (event e) es → EventSmall e) → (covered b es x ≡ true) ↔ Covers es b x
+  pub covered-iff : x ≤ lastSecond → EventsSmall es → (covered b es x ≡ true) ↔ Covers es b x
   unfolding covered
   covered-iff l small = (
     λ h.

@@ -17,13 +17,13 @@ use Rattle.periods.proofs.Periods.{secondIn-ends, secondIn-true}
 use Rattle.periods.specs.BusyTypes.{reportPlace, isBusy, sameBusy, BusyPeriod}
 use Rattle.periods.proofs.BusyTypes.{sameBusy-iff, busy-place}
 use Rattle.events.specs.Events.{Entry, event}
-use Rattle.events.specs.Sizes.{EventSmall}
+use Rattle.events.specs.Sizes.{EventsSmall}
 use Rattle.events.specs.declared.Event.{Event}
 use Rattle.recurrence.specs.Instances.{startOf, endOf, occurs, isZeroLength, instancesAtMost}
 use Rattle.recurrence.specs.TimeRange.{instanceIn}
 use Rattle.recurrence.proofs.Instances.{zero-length-end}
 use Rattle.recurrence.proofs.TimeRange.{covering-in}
-use Rattle.pieces.specs.BusyPeriods.{busyPeriod, listBelow, instancePeriod, eventPeriods, entryPeriods, busyPeriods}
+use Rattle.pieces.specs.BusyPeriods.{busyPeriod, listBelow, instancePeriod, eventPeriods, statedPeriods, instancePeriods, gathered, busyPeriods}
 use Rattle.pieces.specs.Covered.{ofType, coveredBy, covered}
 use Rattle.pieces.specs.Pieces.{clipped, isPiece, pieceOf, piecesOf, busyPieces, PieceIs}
 use Rattle.pieces.proofs.BusyPeriods.{chosen, left-out, occurs-period, fails-period, listed-is, is-listed}
@@ -208,27 +208,27 @@ pieces-count a e ps = types-count (piecesOf a e ps) (λ p m. pieces-inside a e p
 -- ---- instances and events without a piece
 
 -- an instance whose period is no piece
-instance-none : (e : Event) (a b k : ℕ) → (occurs e k ≡ true → isPiece a b (busyPeriod (e .busy) (startOf e k) (endOf e k)) ≡ false)
-    → piecesOf a b (instancePeriod e k) ≡ []
-instance-none e a b k h = go (occurs e k) refl
+instance-none : (e : Event) (gone : List ℕ) (a b k : ℕ) → (occurs e gone k ≡ true → isPiece a b (busyPeriod (e .busy) (startOf e k) (endOf e k)) ≡ false)
+    → piecesOf a b (instancePeriod e gone k) ≡ []
+instance-none e gone a b k h = go (occurs e gone k) refl
   where
-    go : (t : Bool) → occurs e k ≡ t → piecesOf a b (instancePeriod e k) ≡ []
-    go true q = ap (piecesOf a b) (occurs-period e k q) ∙ one-piece a b _ ∙ is-none a b _ (h q)
-    go false q = ap (piecesOf a b) (fails-period e k q) ∙ piecesOf-none a b
+    go : (t : Bool) → occurs e gone k ≡ t → piecesOf a b (instancePeriod e gone k) ≡ []
+    go true q = ap (piecesOf a b) (occurs-period e gone k q) ∙ one-piece a b _ ∙ is-none a b _ (h q)
+    go false q = ap (piecesOf a b) (fails-period e gone k q) ∙ piecesOf-none a b
 
-out-of-range-piece : (e : Event) (a b k : ℕ) → instanceIn e a b k ≡ false → occurs e k ≡ true → isPiece a b (busyPeriod (e .busy) (startOf e k) (endOf e k)) ≡ false
+out-of-range-piece : (e : Event) (gone : List ℕ) (a b k : ℕ) → instanceIn e gone a b k ≡ false → occurs e gone k ≡ true → isPiece a b (busyPeriod (e .busy) (startOf e k) (endOf e k)) ≡ false
 unfolding isPiece clipped
-out-of-range-piece e a b k h o =
+out-of-range-piece e gone a b k h o =
     let s = startOf e k in
     let t = endOf e k in
     not-so _
     (λ q.
     let m = ltb-true (max a s) (min b t) (and-right (isBusy (e .busy)) _ q) in
-    clash (covering-in e a b k (max a s) o (omega arith) (omega arith) (omega arith) (omega arith)) h)
+    clash (covering-in e gone a b k (max a s) o (omega arith) (omega arith) (omega arith) (omega arith)) h)
 
 -- an instance that is not in range
-pub out-of-range : (e : Event) (a b k : ℕ) → instanceIn e a b k ≡ false → piecesOf a b (instancePeriod e k) ≡ []
-out-of-range e a b k h = instance-none e a b k (out-of-range-piece e a b k h)
+pub out-of-range : (e : Event) (gone : List ℕ) (a b k : ℕ) → instanceIn e gone a b k ≡ false → piecesOf a b (instancePeriod e gone k) ≡ []
+out-of-range e gone a b k h = instance-none e gone a b k (out-of-range-piece e gone a b k h)
 
 -- free time is no piece
 free-none : (a b s t : ℕ) (y : BusyType) → isBusy y ≡ false → isPiece a b (busyPeriod y s t) ≡ false
@@ -240,38 +240,38 @@ empty-none : (a b s t : ℕ) (y : BusyType) → t ≡ s → isPiece a b (busyPer
 unfolding isPiece clipped
 empty-none a b s t y q = not-so _ (λ h. omega (arith, ltb-true (max a s) (min b t) (and-right (isBusy y) _ h)))
 
-module _ (e : Event) (a b : ℕ) (h : (k : ℕ) → isPiece a b (busyPeriod (e .busy) (startOf e k) (endOf e k)) ≡ false) where
-  instances-none : (n : ℕ) → piecesOf a b (listBelow n (instancePeriod e)) ≡ []
+module _ (e : Event) (gone : List ℕ) (a b : ℕ) (h : (k : ℕ) → isPiece a b (busyPeriod (e .busy) (startOf e k) (endOf e k)) ≡ false) where
+  instances-none : (n : ℕ) → piecesOf a b (listBelow n (instancePeriod e gone)) ≡ []
   unfolding listBelow
   instances-none zero = piecesOf-none a b
   instances-none (suc n) =
-      piecesOf-append a b (listBelow n (instancePeriod e)) (instancePeriod e n)
-      ∙ ap (λ (l : List BusyPeriod). l ++ piecesOf a b (instancePeriod e n)) (instances-none n)
-      ∙ instance-none e a b n (λ o. h n)
+      piecesOf-append a b (listBelow n (instancePeriod e gone)) (instancePeriod e gone n)
+      ∙ ap (λ (l : List BusyPeriod). l ++ piecesOf a b (instancePeriod e gone n)) (instances-none n)
+      ∙ instance-none e gone a b n (λ o. h n)
 
-  event-none : piecesOf a b (eventPeriods e) ≡ []
+  event-none : piecesOf a b (eventPeriods e gone) ≡ []
   unfolding eventPeriods
   event-none = instances-none instancesAtMost
 
-pub free-event : (e : Event) → isBusy (e .busy) ≡ false → (a b : ℕ) → piecesOf a b (eventPeriods e) ≡ []
-free-event e h a b = event-none e a b (λ k. free-none a b (startOf e k) (endOf e k) (e .busy) h)
+pub free-event : (e : Event) (gone : List ℕ) → isBusy (e .busy) ≡ false → (a b : ℕ) → piecesOf a b (eventPeriods e gone) ≡ []
+free-event e gone h a b = event-none e gone a b (λ k. free-none a b (startOf e k) (endOf e k) (e .busy) h)
 
-pub empty-event : (e : Event) → isZeroLength e ≡ true → (a b : ℕ) → piecesOf a b (eventPeriods e) ≡ []
-empty-event e h a b = event-none e a b (λ k. empty-none a b (startOf e k) (endOf e k) (e .busy) (zero-length-end e k h))
+pub empty-event : (e : Event) (gone : List ℕ) → isZeroLength e ≡ true → (a b : ℕ) → piecesOf a b (eventPeriods e gone) ≡ []
+empty-event e gone h a b = event-none e gone a b (λ k. empty-none a b (startOf e k) (endOf e k) (e .busy) (zero-length-end e k h))
 
 -- such an event by itself, in any range
-pub no-pieces : (a b : ℕ) (e : Event) → isZeroLength e ≡ true → busyPieces a b (event e ∷ []) ≡ []
-unfolding busyPieces busyPeriods entryPeriods
-no-pieces a b e h = ap (piecesOf a b) (append-nil (eventPeriods e)) ∙ empty-event e h a b
+pub no-pieces : (a b : ℕ) (e : Event) (gone : List ℕ) → isZeroLength e ≡ true → busyPieces a b (event e gone ∷ []) ≡ []
+unfolding busyPieces busyPeriods gathered statedPeriods instancePeriods
+no-pieces a b e gone h = ap (piecesOf a b) (append-nil (eventPeriods e gone)) ∙ empty-event e gone h a b
 
 -- by the test that the code makes of its place in a report and of its length
 pub no-event-pieces : (e : Event) {p : ℕ} {z : Bool} → p ≡ reportPlace (e .busy) → z ≡ isZeroLength e → (ltb p 3 && not z) ≡ false
-    → (a b : ℕ) → piecesOf a b (eventPeriods e) ≡ []
+    → (gone : List ℕ) (a b : ℕ) → piecesOf a b (eventPeriods e gone) ≡ []
 no-event-pieces e {p} {z} q l h = go (ltb p 3) refl h
   where
-    go : (t : Bool) → ltb p 3 ≡ t → (t && not z) ≡ false → (a b : ℕ) → piecesOf a b (eventPeriods e) ≡ []
-    go true u v = empty-event e (sym l ∙ not-false z v)
-    go false u v = free-event e (sym (busy-place (e .busy)) ∙ ap (λ (i : ℕ). ltb i 3) (sym q) ∙ u)
+    go : (t : Bool) → ltb p 3 ≡ t → (t && not z) ≡ false → (gone : List ℕ) (a b : ℕ) → piecesOf a b (eventPeriods e gone) ≡ []
+    go true u v gone = empty-event e gone (sym l ∙ not-false z v)
+    go false u v gone = free-event e gone (sym (busy-place (e .busy)) ∙ ap (λ (i : ℕ). ltb i 3) (sym q) ∙ u)
 
 -- ---- for the reader: which pieces there are
 
@@ -314,7 +314,7 @@ module _ (a e : ℕ) where
       go (inr d) below = Memᴰ·append-right (pieceOf a e r) (below d)
 
   -- p is one of the pieces exactly when it is what lies in the range of an instance or a period
-  pub piece-iff : (es : List Entry) → e ≤ lastSecond → ((y : Event) → List·Memᴰ (event y) es → EventSmall y) → (p : BusyPeriod)
+  pub piece-iff : (es : List Entry) → e ≤ lastSecond → EventsSmall es → (p : BusyPeriod)
       → List·Memᴰ p (busyPieces a e es) ↔ PieceIs es a e p
   unfolding busyPieces
   piece-iff es l small p = (

@@ -1,4 +1,4 @@
--- The busy periods of a calendar (document 01, Busy type): every instance that stands of each event, and every FREEBUSY period, each with its type, in file order.
+-- The busy periods of a calendar (document 01, Busy type): every FREEBUSY period, and every instance that stands of each event, each with its type.
 use Prim.Native.Nat.{ℕ, zero, suc}
 use mathlib.Core.Path.{_≡_}
 use mathlib.Core.Bool.{true, false}
@@ -20,22 +20,33 @@ listBelow zero f = []
 listBelow (suc n) f = listBelow n f ++ f n
 
 -- instance k, where it stands
-unfoldable pub instancePeriod : Event → ℕ → List BusyPeriod
-instancePeriod e k = elim (occurs e k) [ true ↦ busyPeriod (e .busy) (startOf e k) (endOf e k) ∷ [] | false ↦ [] ]
+unfoldable pub instancePeriod : Event → List ℕ → ℕ → List BusyPeriod
+instancePeriod e gone k = elim (occurs e gone k) [ true ↦ busyPeriod (e .busy) (startOf e k) (endOf e k) ∷ [] | false ↦ [] ]
 
-unfoldable pub eventPeriods : Event → List BusyPeriod
-eventPeriods e = listBelow instancesAtMost (instancePeriod e)
+unfoldable pub eventPeriods : Event → List ℕ → List BusyPeriod
+eventPeriods e gone = listBelow instancesAtMost (instancePeriod e gone)
 
--- a block's own ends are no busy time and do not clip its periods
-unfoldable pub entryPeriods : Entry → List BusyPeriod
-entryPeriods (event e) = eventPeriods e
-entryPeriods (block k ps) = ps
+-- the periods that an entry states; a block's own ends are no busy time and do not clip them
+unfoldable pub statedPeriods : Entry → List BusyPeriod
+statedPeriods (event e gone) = []
+statedPeriods (block k ps) = ps
 
+-- those of its instances
+unfoldable pub instancePeriods : Entry → List BusyPeriod
+instancePeriods (event e gone) = eventPeriods e gone
+instancePeriods (block k ps) = []
+
+-- what each entry has, in file order
+unfoldable pub gathered : (Entry → List BusyPeriod) → List Entry → List BusyPeriod
+gathered f [] = []
+gathered f (x ∷ xs) = f x ++ gathered f xs
+
+-- the stated ones, then those of instances: which instances stand is known once the whole calendar is read
 unfoldable pub busyPeriods : List Entry → List BusyPeriod
-busyPeriods [] = []
-busyPeriods (x ∷ xs) = entryPeriods x ++ busyPeriods xs
+busyPeriods es = gathered statedPeriods es ++ gathered instancePeriods es
 
 -- the same for the reader: p is an instance that takes place, or a FREEBUSY period
 pub data IsBusyPeriod (es : List Entry) (p : BusyPeriod) : Type 0 where
-  of-instance : (e : Event) → List·Memᴰ (event e) es → (k : ℕ) → TakesPlace e k → p ≡ busyPeriod (e .busy) (startOf e k) (endOf e k) → IsBusyPeriod es p
+  of-instance : (e : Event) (gone : List ℕ) → List·Memᴰ (event e gone) es → (k : ℕ) → TakesPlace e gone k → p ≡ busyPeriod (e .busy) (startOf e k) (endOf e k)
+      → IsBusyPeriod es p
   of-block : (k : Block) (ps : List BusyPeriod) → List·Memᴰ (block k ps) es → List·Memᴰ p ps → IsBusyPeriod es p

@@ -7,11 +7,12 @@ use recurrence::instance;
 use recurrence::time_range;
 ghost use mathlib.Core.Path.{_≡_};
 ghost use mathlib.Core.Bool.{false};
-ghost use mathlib.Core.List.{[], _∷_};
+ghost use mathlib.Core.List.{List, [], _∷_};
 ghost use Prim.Native.Nat.{ℕ, _*_, _≤_, _<_, min, max};
 ghost use lib.ListN.{length};
 ghost use lib.Seq.{sets};
 ghost use Rattle.time.specs.Limits.{lastSecond};
+ghost use Rattle.seconds.specs.Seconds.{Ordered};
 ghost use Rattle.events.specs.Sizes.{EventSmall};
 ghost use Rattle.pieces.specs.BusyPeriods.{instancePeriod, eventPeriods, busyPeriod};
 ghost use Rattle.pieces.specs.Pieces.{pieceOf, piecesOf};
@@ -71,15 +72,24 @@ pub fn store_period(
 }
 
 // The piece of instance k, where it stands.
-fn store_instance(column: &mut [u32], n: usize, e: Event, k: u64, a: u64, b: u64) -> usize
+fn store_instance(
+    column: &mut [u32],
+    n: usize,
+    e: Event,
+    gone: &[u32],
+    k: u64,
+    a: u64,
+    b: u64,
+) -> usize
     requires { ⌜ Room (now column) ⌝ }
     requires { ⌜ n ≤ 513 ⌝ }
     requires { ⌜ EventSmall e ⌝ }
+    requires { ⌜ Ordered (now gone) ⌝ }
     requires { ⌜ k ≤ 100000 ⌝ }
     requires { ⌜ b ≤ lastSecond ⌝ }
-    ensures { λ r. ⌜ Stored (now (column .entry)) n (piecesOf a b (instancePeriod e k)) (now (column .exit)) r ⌝ }
+    ensures { λ r. ⌜ Stored (now (column .entry)) n (piecesOf a b (instancePeriod e (now (gone .entry)) k)) (now (column .exit)) r ⌝ }
 {
-    if instance::occurs(e, k) {
+    if instance::occurs(e, gone, k) {
         let busy = e.busy;
         store_period(
             column,
@@ -96,18 +106,26 @@ fn store_instance(column: &mut [u32], n: usize, e: Event, k: u64, a: u64, b: u64
 }
 
 // The pieces of an event, one instance after the other: those before the first candidate, and those after the last start, have none.
-fn store_instances(column: &mut [u32], first: usize, e: Event, a: u64, b: u64) -> usize
+fn store_instances(
+    column: &mut [u32],
+    first: usize,
+    e: Event,
+    gone: &[u32],
+    a: u64,
+    b: u64,
+) -> usize
     requires { ⌜ Room (now column) ⌝ }
     requires { ⌜ first ≤ 513 ⌝ }
     requires { ⌜ EventSmall e ⌝ }
+    requires { ⌜ Ordered (now gone) ⌝ }
     requires { ⌜ a < b ⌝ }
     requires { ⌜ b ≤ lastSecond ⌝ }
-    ensures { λ r. ⌜ Stored (now (column .entry)) first (piecesOf a b (eventPeriods e)) (now (column .exit)) r ⌝ }
+    ensures { λ r. ⌜ Stored (now (column .entry)) first (piecesOf a b (eventPeriods e (now (gone .entry)))) (now (column .exit)) r ⌝ }
 {
     let mut n = first;
     let mut k = time_range::first_candidate(e, a);
     while (n < 513) & time_range::starts_before(e, b, k) {
-        n = store_instance(column, n, e, k, a, b);
+        n = store_instance(column, n, e, gone, k, a, b);
         k += 1;
     }
     n
@@ -116,23 +134,31 @@ fn store_instances(column: &mut [u32], first: usize, e: Event, a: u64, b: u64) -
 // Can the event have a piece in any range? Not where it is free, and not where it is of zero length.
 fn may_have_pieces(e: Event) -> bool
     requires { ⌜ EventSmall e ⌝ }
-    ensures { λ r. ⌜ (r ≡ false → (a b : ℕ) → piecesOf a b (eventPeriods e) ≡ []) ⌝ }
+    ensures { λ r. ⌜ (r ≡ false → (gone : List ℕ) (a b : ℕ) → piecesOf a b (eventPeriods e gone) ≡ []) ⌝ }
 {
     let busy = e.busy;
     (periods::report_place(busy) < 3) & !instance::is_zero_length(e)
 }
 
-// The pieces of an event. Where it can have none, none of its instances is looked at.
-pub fn store_event(column: &mut [u32], first: usize, e: Event, a: u64, b: u64) -> usize
+// The pieces of an event, where these starts are taken away. Where it can have none, none of its instances is looked at.
+pub fn store_event(
+    column: &mut [u32],
+    first: usize,
+    e: Event,
+    gone: &[u32],
+    a: u64,
+    b: u64,
+) -> usize
     requires { ⌜ Room (now column) ⌝ }
     requires { ⌜ first ≤ 513 ⌝ }
     requires { ⌜ EventSmall e ⌝ }
+    requires { ⌜ Ordered (now gone) ⌝ }
     requires { ⌜ a < b ⌝ }
     requires { ⌜ b ≤ lastSecond ⌝ }
-    ensures { λ r. ⌜ Stored (now (column .entry)) first (piecesOf a b (eventPeriods e)) (now (column .exit)) r ⌝ }
+    ensures { λ r. ⌜ Stored (now (column .entry)) first (piecesOf a b (eventPeriods e (now (gone .entry)))) (now (column .exit)) r ⌝ }
 {
     if may_have_pieces(e) {
-        return store_instances(column, first, e, a, b);
+        return store_instances(column, first, e, gone, a, b);
     }
     first
 }

@@ -40,7 +40,7 @@ use Rattle.events.specs.declared.Bound.{Bound}
 use Rattle.events.specs.declared.Block.{Block}
 use Rattle.events.specs.declared.BlockRead.{BlockRead}
 use Rattle.events.proofs.ComponentRules.{later-between}
-use Rattle.calendar.specs.Meaning.{propertyValuesIn, faultOr, faultIn, periodsBy, blockPeriods, scopeOf, componentScope, valueFault, blockOf, isBroken, brokenOr, ruleFault, entryOf, entriesOf, componentsOf, calendar, meaningOf}
+use Rattle.calendar.specs.Meaning.{propertyValuesIn, faultOr, faultIn, periodsBy, blockPeriods, scopeOf, componentScope, valueFault, blockOf, isBroken, brokenOr, ruleFault, entryOf, entriesAmong, entriesOf, componentsOf, calendar, meaningOf}
 use Rattle.calendar.specs.declared.ValueCheck.{ValueCheck}
 use Rattle.calendar.specs.declared.RuleCheck.{RuleCheck}
 use Rattle.calendar.proofs.Meaning.{not-refused}
@@ -239,7 +239,7 @@ module _ (c : Context) {r : Report} (w : Writable r) where
   block-unbroken = rw (block-scope r, block-read)
 
   block-entries : entriesOf c (blockComponent r ∷ []) ≡ block (reportBlock r) (reportPeriods r) ∷ []
-  unfolding entriesOf entryOf
+  unfolding entriesOf entriesAmong entryOf
   block-entries = rw (block-scope r, block-read, block-properties r, lines-periods)
 
   -- ---- the bytes

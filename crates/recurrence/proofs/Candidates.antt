@@ -3,6 +3,7 @@
 use Prim.Native.Nat.{ℕ, _+_, _-_, _*_, _/_, _≤_, _<_}
 use mathlib.Core.Path.{_≡_, refl, sym, ap, _∙_}
 use mathlib.Core.Bool.{Bool, true, false, cond, _&&_}
+use mathlib.Core.List.{List}
 use native.Mathlib.Omega.{arith}
 use native.Mathlib.Nat.{mul-le-mul-right, mul-le-mul-left, div-mul-le-self, lt-div-mul-add, add-mul}
 use lib.Dec.{eqb, ltb}
@@ -75,14 +76,14 @@ first-few s d span a g h = few-by s d span a (ltb a (s + span)) g h
 
 -- ---- what the search promises
 
-in-range-ends : (e : Event) (a b k : ℕ) → instanceIn e a b k ≡ true → a < startOf e k + spanOf e
-in-range-ends e a b k h = ends-late e a b k _ h (omega (arith, span-some e)) (end-by-span e k)
+in-range-ends : (e : Event) (gone : List ℕ) (a b k : ℕ) → instanceIn e gone a b k ≡ true → a < startOf e k + spanOf e
+in-range-ends e gone a b k h = ends-late e gone a b k _ h (omega (arith, span-some e)) (end-by-span e k)
 
 -- none before what the division finds is in range
 pub before-candidate : (e : Event) (a : ℕ) → 0 < stepOf e → NoneBefore e a (candidateOf e a)
 unfolding startOf
-before-candidate e a g b j p =
-    not-so _ (λ q. omega (arith, in-range-ends e a b j q, before-first j (e .start) (stepOf e) (spanOf e) a g p))
+before-candidate e a g gone b j p =
+    not-so _ (λ q. omega (arith, in-range-ends e gone a b j q, before-first j (e .start) (stepOf e) (spanOf e) a g p))
 
 -- the division finds where the search starts
 pub first-is-candidate : {e : Event} {a : ℕ} → EventSmall e → a ≤ lastSecond → FirstCandidate e a (candidateOf e a)
@@ -93,9 +94,9 @@ first-is-candidate {e} {a} h p =
       few = omega (arith, first-few (e .start) (stepOf e) (spanOf e) a (step-long h) p);
     }
 
-in-range-starts : (e : Event) (a b k : ℕ) → instanceIn e a b k ≡ true → startsBefore e b k ≡ true
+in-range-starts : (e : Event) (gone : List ℕ) (a b k : ℕ) → instanceIn e gone a b k ≡ true → startsBefore e b k ≡ true
 unfolding startsBefore
-in-range-starts e a b k h = and-both (occurs-instance e k (in-range-occurs e a b k h)) (lt-ltb _ b (starts-early e a b k h))
+in-range-starts e gone a b k h = and-both (occurs-instance e gone k (in-range-occurs e gone a b k h)) (lt-ltb _ b (starts-early e gone a b k h))
 
 starts-before-too : (e : Event) (b j k : ℕ) → j ≤ k → startsBefore e b k ≡ true → startsBefore e b j ≡ true
 unfolding startsBefore
@@ -105,7 +106,7 @@ starts-before-too e b j k p h =
 
 -- from the first that is not the rule's, or starts at b or later, none is in range
 pub none-after : (e : Event) (b k : ℕ) → startsBefore e b k ≡ false → NoneFrom e b k
-none-after e b k h a j p = not-so _ (λ q. clash (starts-before-too e b k j p (in-range-starts e a b j q)) h)
+none-after e b k h gone a j p = not-so _ (λ q. clash (starts-before-too e b k j p (in-range-starts e gone a b j q)) h)
 
 -- the code's test tells whether the search goes on
 pub more-by : {e : Event} {b k s : ℕ} {t : Bool} → EventSmall e → b ≤ lastSecond → t ≡ isInstance e k → s ≡ startOf e k → MoreCandidates e b k (t && ltb s b)
@@ -119,20 +120,20 @@ more-by {e} {b} {k} {s} {t} h p q r =
     told = ap (λ (x : Bool). x && ltb s b) q ∙ ap (λ (n : ℕ). isInstance e k && ltb n b) r
 
 -- an instance in a range up to 2099 is one of so many
-pub in-range-few : {e : Event} (a b k : ℕ) → EventSmall e → b ≤ lastSecond → instanceIn e a b k ≡ true → k < instancesAtMost
-in-range-few {e} a b k h p q = starts-few k h (omega (arith, starts-early e a b k q))
+pub in-range-few : {e : Event} (gone : List ℕ) (a b k : ℕ) → EventSmall e → b ≤ lastSecond → instanceIn e gone a b k ≡ true → k < instancesAtMost
+in-range-few {e} gone a b k h p q = starts-few k h (omega (arith, starts-early e gone a b k q))
 
 -- ---- what it decides
 
-pub search-finds : {e : Event} {a b : ℕ} (k : ℕ) → instanceIn e a b k ≡ true → Decides true (EventIn e a b)
+pub search-finds : {e : Event} {gone : List ℕ} {a b : ℕ} (k : ℕ) → instanceIn e gone a b k ≡ true → Decides true (EventIn e gone a b)
 search-finds k q = record { holds = λ _. record { number = k; passes = q }; fails = λ z _. clash refl z }
 
 -- none before k and none from k on
-pub search-ends : {e : Event} {a b : ℕ} (k : ℕ)
-    → ((j : ℕ) → j < k → instanceIn e a b j ≡ false) → ((j : ℕ) → k ≤ j → instanceIn e a b j ≡ false) → Decides false (EventIn e a b)
-search-ends {e} {a} {b} k s r =
+pub search-ends : {e : Event} {gone : List ℕ} {a b : ℕ} (k : ℕ)
+    → ((j : ℕ) → j < k → instanceIn e gone a b j ≡ false) → ((j : ℕ) → k ≤ j → instanceIn e gone a b j ≡ false) → Decides false (EventIn e gone a b)
+search-ends {e} {gone} {a} {b} k s r =
     record { holds = λ z. clash z refl; fails = λ _ i. clash (i .passes) (none-at (i .number) (ltb (i .number) k) refl) }
   where
-    none-at : (j : ℕ) (t : Bool) → ltb j k ≡ t → instanceIn e a b j ≡ false
+    none-at : (j : ℕ) (t : Bool) → ltb j k ≡ t → instanceIn e gone a b j ≡ false
     none-at j true q = s j (ltb-true j k q)
     none-at j false q = r j (ltb-false j k q)

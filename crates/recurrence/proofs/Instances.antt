@@ -1,13 +1,16 @@
 -- Instances start one after the other, and the rule has all before one that it has;
 -- how large the numbers of an event are.
 use Prim.Native.Nat.{ℕ, _*_, _≤_, _<_}
-use mathlib.Core.Path.{_≡_, refl, subst}
-use mathlib.Core.Bool.{true, false}
+use mathlib.Core.Path.{_≡_, refl, sym, ap, _∙_, subst}
+use mathlib.Core.Bool.{Bool, true, false, not, _&&_}
+use mathlib.Core.List.{List, List·Memᴰ}
 use mathlib.Core.Logic.{_↔_}
 use native.Mathlib.Omega.{arith}
 use native.Mathlib.Nat.{mul-le-mul-right, mul-le-mul, mul-le-mul-left}
 use borrow.Author.Tests.{ltb-true, leb-true, eqb-true, lt-ltb, le-leb, eq-eqb}
-use Rattle.ascii.proofs.Bools.{clash, not-so}
+use Rattle.ascii.proofs.Bools.{clash, not-so, and-left, and-right, and-both}
+use Rattle.seconds.specs.Seconds.{among}
+use Rattle.seconds.proofs.Seconds.{among-iff}
 use Rattle.time.specs.Limits.{lastSecond}
 use Rattle.time.specs.declared.duration.Duration.{Duration}
 use Rattle.time.specs.declared.date_time.Kind.{Kind}
@@ -35,13 +38,18 @@ unfolding isInstance
 instance-before e j k p h = repeats-before (e .repeat) (startOf e j) (startOf e k) j k (starts-rise e p) p h
 
 -- only the rule's instances stand
-pub occurs-instance : (e : Event) (k : ℕ) → occurs e k ≡ true → isInstance e k ≡ true
+pub occurs-instance : (e : Event) (gone : List ℕ) (k : ℕ) → occurs e gone k ≡ true → isInstance e k ≡ true
 unfolding occurs
-occurs-instance e k h = h
+occurs-instance e gone k h = and-left (isInstance e k) (not (among (startOf e k) gone)) h
+
+-- lists of the same seconds take the same instances away
+pub occurs-same : (e : Event) (g h : List ℕ) → ((x : ℕ) → among x g ≡ among x h) → (k : ℕ) → occurs e g k ≡ occurs e h k
+unfolding occurs
+occurs-same e g h s k = ap (λ (t : Bool). isInstance e k && not t) (s (startOf e k))
 
 -- where the rule has no instance k, none from k on stands
-pub none-stands : (e : Event) (k : ℕ) → isInstance e k ≡ false → (j : ℕ) → k ≤ j → occurs e j ≡ false
-none-stands e k h j p = not-so _ (λ q. clash (instance-before e k j p (occurs-instance e j q)) h)
+pub none-stands : (e : Event) (gone : List ℕ) (k : ℕ) → isInstance e k ≡ false → (j : ℕ) → k ≤ j → occurs e gone j ≡ false
+none-stands e gone k h j p = not-so _ (λ q. clash (instance-before e k j p (occurs-instance e gone j q)) h)
 
 -- ---- how large the numbers of an event are
 
@@ -114,6 +122,16 @@ has-iff Repeat.Forever s k = (λ e. tt, λ h. refl)
 has-iff (Repeat.Count n) s k = (λ e. ltb-true k n e, λ h. lt-ltb k n h)
 has-iff (Repeat.Until t) s k = (λ e. leb-true s t e, λ h. le-leb s t h)
 
-pub takes-place-iff : (e : Event) (k : ℕ) → (occurs e k ≡ true) ↔ TakesPlace e k
-unfolding occurs isInstance TakesPlace
-takes-place-iff e k = has-iff (e .repeat) (startOf e k) k
+not-among : (x : ℕ) (gone : List ℕ) → (not (among x gone) ≡ true) ↔ (List·Memᴰ x gone → ⊥)
+not-among x gone = (λ h m. clash h (ap not (among-iff x gone .1 m)), λ n. ap not (not-so (among x gone) (λ q. n (among-iff x gone .0 q))))
+
+pub takes-place-iff : (e : Event) (gone : List ℕ) (k : ℕ) → (occurs e gone k ≡ true) ↔ TakesPlace e gone k
+unfolding occurs isInstance
+takes-place-iff e gone k = (
+  λ h.
+      record {
+        by-rule = has-iff (e .repeat) (startOf e k) k .0 (and-left (repeats (e .repeat) (startOf e k) k) _ h);
+        not-gone = not-among (startOf e k) gone .0 (and-right (repeats (e .repeat) (startOf e k) k) _ h);
+      },
+  λ i. and-both (has-iff (e .repeat) (startOf e k) k .1 (i .by-rule)) (not-among (startOf e k) gone .1 (i .not-gone)),
+)

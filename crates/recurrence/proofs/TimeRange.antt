@@ -16,24 +16,24 @@ use Rattle.recurrence.specs.TimeRange.{overlaps, endsAfter, instanceIn, 
 use Rattle.recurrence.proofs.Instances.{zero-length-end, takes-place-iff}
 
 -- it stands
-pub in-range-occurs : (e : Event) (a b k : ℕ) → instanceIn e a b k ≡ true → occurs e k ≡ true
+pub in-range-occurs : (e : Event) (gone : List ℕ) (a b k : ℕ) → instanceIn e gone a b k ≡ true → occurs e gone k ≡ true
 unfolding instanceIn
-in-range-occurs e a b k h = and-left (occurs e k) _ (and-left (occurs e k && endsAfter e a k) _ h)
+in-range-occurs e gone a b k h = and-left (occurs e gone k) _ (and-left (occurs e gone k && endsAfter e a k) _ h)
 
 -- it starts before the range's end
-pub starts-early : (e : Event) (a b k : ℕ) → instanceIn e a b k ≡ true → startOf e k < b
+pub starts-early : (e : Event) (gone : List ℕ) (a b k : ℕ) → instanceIn e gone a b k ≡ true → startOf e k < b
 unfolding instanceIn
-starts-early e a b k h = ltb-true (startOf e k) b (and-right (occurs e k && endsAfter e a k) _ h)
+starts-early e gone a b k h = ltb-true (startOf e k) b (and-right (occurs e gone k && endsAfter e a k) _ h)
 
 ends-by : (a s t n : ℕ) (z : Bool) → cond z (leb a s) (ltb a t) ≡ true → s < n → t ≤ n → a < n
 ends-by a s t n true h p q = omega (arith, leb-true a s h)
 ends-by a s t n false h p q = omega (arith, ltb-true a t h)
 
 -- and what is past its start and not before its end is past the range's start
-pub ends-late : (e : Event) (a b k n : ℕ) → instanceIn e a b k ≡ true → startOf e k < n → endOf e k ≤ n → a < n
+pub ends-late : (e : Event) (gone : List ℕ) (a b k n : ℕ) → instanceIn e gone a b k ≡ true → startOf e k < n → endOf e k ≤ n → a < n
 unfolding instanceIn endsAfter
-ends-late e a b k n h p q =
-    ends-by a (startOf e k) (endOf e k) n (isZeroLength e) (and-right (occurs e k) _ (and-left (occurs e k && endsAfter e a k) _ h)) p q
+ends-late e gone a b k n h p q =
+    ends-by a (startOf e k) (endOf e k) n (isZeroLength e) (and-right (occurs e gone k) _ (and-left (occurs e gone k && endsAfter e a k) _ h)) p q
 
 covering-ends : (e : Event) (a k : ℕ) → a < endOf e k → startOf e k < endOf e k → endsAfter e a k ≡ true
 unfolding endsAfter
@@ -44,9 +44,9 @@ covering-ends e a k p q = go (isZeroLength e) refl
     go false h = lt-ltb a (endOf e k) p
 
 -- an instance that covers a second of the range is in range
-pub covering-in : (e : Event) (a b k x : ℕ) → occurs e k ≡ true → startOf e k ≤ x → x < endOf e k → a ≤ x → x < b → instanceIn e a b k ≡ true
+pub covering-in : (e : Event) (gone : List ℕ) (a b k x : ℕ) → occurs e gone k ≡ true → startOf e k ≤ x → x < endOf e k → a ≤ x → x < b → instanceIn e gone a b k ≡ true
 unfolding instanceIn
-covering-in e a b k x o f t p q = and-both (and-both o (covering-ends e a k (omega arith) (omega arith))) (lt-ltb (startOf e k) b (omega arith))
+covering-in e gone a b k x o f t p q = and-both (and-both o (covering-ends e a k (omega arith) (omega arith))) (lt-ltb (startOf e k) b (omega arith))
 
 -- two lists after each other: one or the other
 pub periods-append : (a b : ℕ) (ps qs : List Period) → periodsOverlap a b (ps ++ qs) ≡ (periodsOverlap a b ps || periodsOverlap a b qs)
@@ -110,17 +110,17 @@ module _ (e : Event) (a k : ℕ) where
       go true q = le-leb a (startOf e k) (g (eqb-true _ 0 q))
       go false q = lt-ltb a (endOf e k) (f (eqb-false _ 0 q))
 
-pub instance-in-iff : (e : Event) (a b k : ℕ) → (instanceIn e a b k ≡ true) ↔ InstanceIn e a b k
+pub instance-in-iff : (e : Event) (gone : List ℕ) (a b k : ℕ) → (instanceIn e gone a b k ≡ true) ↔ InstanceIn e gone a b k
 unfolding instanceIn
-instance-in-iff e a b k = (
+instance-in-iff e gone a b k = (
   λ h.
-      let ends = ends-says e a k (and-right (occurs e k) (endsAfter e a k) (and-left (occurs e k && endsAfter e a k) (ltb (startOf e k) b) h)) in
+      let ends = ends-says e a k (and-right (occurs e gone k) (endsAfter e a k) (and-left (occurs e gone k && endsAfter e a k) (ltb (startOf e k) b) h)) in
       record {
-        takes-place = takes-place-iff e k .0 (in-range-occurs e a b k h);
-        starts-before = starts-early e a b k h;
+        takes-place = takes-place-iff e gone k .0 (in-range-occurs e gone a b k h);
+        starts-before = starts-early e gone a b k h;
         ends-after = ends .0;
         starts-within = ends .1;
       },
   λ i.
-      and-both (and-both (takes-place-iff e k .1 (i .takes-place)) (ends-tests e a k (i .ends-after) (i .starts-within))) (lt-ltb (startOf e k) b (i .starts-before)),
+      and-both (and-both (takes-place-iff e gone k .1 (i .takes-place)) (ends-tests e a k (i .ends-after) (i .starts-within))) (lt-ltb (startOf e k) b (i .starts-before)),
 )

@@ -2,6 +2,7 @@
 use Prim.Native.Nat.{ℕ, _+_, _-_, _/_, _≤_, _<_}
 use mathlib.Core.Path.{_≡_}
 use mathlib.Core.Bool.{Bool, true, false, cond, _&&_}
+use mathlib.Core.List.{List}
 use lib.Dec.{ltb}
 use Rattle.events.specs.declared.Event.{Event}
 use Rattle.recurrence.specs.Instances.{stepOf, startOf, isInstance, instancesAtMost, lengthBy, isZeroLength}
@@ -23,15 +24,15 @@ candidateOf e a = firstAt (e .start) (stepOf e) (spanOf e) a
 unfoldable pub startsBefore : Event → ℕ → ℕ → Bool
 startsBefore e b k = isInstance e k && ltb (startOf e k) b
 
--- ---- what the search promises
+-- ---- what the search promises, whatever seconds are taken away
 
 -- none before k is in a range from a
 abbrev pub NoneBefore : Event → ℕ → ℕ → Type 0
-NoneBefore e a k = (b j : ℕ) → j < k → instanceIn e a b j ≡ false
+NoneBefore e a k = (gone : List ℕ) (b j : ℕ) → j < k → instanceIn e gone a b j ≡ false
 
 -- none from k on is in a range up to b
 abbrev pub NoneFrom : Event → ℕ → ℕ → Type 0
-NoneFrom e b k = (a j : ℕ) → k ≤ j → instanceIn e a b j ≡ false
+NoneFrom e b k = (gone : List ℕ) (a j : ℕ) → k ≤ j → instanceIn e gone a b j ≡ false
 
 -- where it starts: at the number that the division finds
 pub record FirstCandidate (e : Event) (a k : ℕ) : Type 0 where

@@ -1,8 +1,10 @@
 -- Recurrence instances of an event (document 01, Events and blocks): when each starts and ends, and which there are.
 use Prim.Native.Nat.{ℕ, _+_, _-_, _*_, _≤_, _<_}
 use mathlib.Core.Path.{_≡_}
-use mathlib.Core.Bool.{Bool, true}
+use mathlib.Core.Bool.{Bool, true, not, _&&_}
+use mathlib.Core.List.{List, List·Memᴰ}
 use lib.Dec.{eqb, ltb, leb}
+use Rattle.seconds.specs.Seconds.{among}
 use Rattle.time.specs.Duration.{durationSeconds}
 use Rattle.time.specs.declared.date_time.Kind.{Kind}
 use Rattle.events.specs.declared.Ending.{Ending}
@@ -28,9 +30,9 @@ repeats (Repeat.Until t) s k = leb s t
 unfoldable pub isInstance : Event → ℕ → Bool
 isInstance e k = repeats (e .repeat) (startOf e k) k
 
--- an instance that stands; today each of the rule's does
-unfoldable pub occurs : Event → ℕ → Bool
-occurs e k = isInstance e k
+-- instance k stands: the rule has it, and its start is none of the seconds that are taken away
+unfoldable pub occurs : Event → List ℕ → ℕ → Bool
+occurs e gone k = isInstance e k && not (among (startOf e k) gone)
 
 -- the same for the reader
 abbrev pub HasInstance : Repeat → ℕ → ℕ → Type 0
@@ -39,9 +41,10 @@ HasInstance Repeat.Forever s k = Unit {0}
 HasInstance (Repeat.Count n) s k = k < n
 HasInstance (Repeat.Until t) s k = s ≤ t
 
--- instance k takes place
-unfoldable pub TakesPlace : Event → ℕ → Type 0
-TakesPlace e k = HasInstance (e .repeat) (startOf e k) k
+-- instance k takes place, where these seconds are taken away
+pub record TakesPlace (e : Event) (gone : List ℕ) (k : ℕ) : Type 0 where
+  pub by-rule : HasInstance (e .repeat) (startOf e k) k
+  pub not-gone : List·Memᴰ (startOf e k) gone → ⊥
 
 -- starts are a day or more apart, so no instance from this number on starts by 2099
 abbrev pub instancesAtMost : ℕ

@@ -20,13 +20,13 @@ unfoldable pub endsAfter : Event → ℕ → ℕ → Bool
 endsAfter e a k = cond (isZeroLength e) (leb a (startOf e k)) (ltb a (endOf e k))
 
 -- instance k of an event is in range: it stands, ends after the range's start, and starts before its end
-unfoldable pub instanceIn : Event → ℕ → ℕ → ℕ → Bool
-instanceIn e a b k = occurs e k && endsAfter e a k && ltb (startOf e k) b
+unfoldable pub instanceIn : Event → List ℕ → ℕ → ℕ → ℕ → Bool
+instanceIn e gone a b k = occurs e gone k && endsAfter e a k && ltb (startOf e k) b
 
 -- an event is in range where some instance is
-pub record EventIn (e : Event) (a b : ℕ) : Type 0 where
+pub record EventIn (e : Event) (gone : List ℕ) (a b : ℕ) : Type 0 where
   pub number : ℕ
-  pub passes : instanceIn e a b number ≡ true
+  pub passes : instanceIn e gone a b number ≡ true
 
 -- a block with both ends goes by them alone: one that ends where the range starts is in it, one that starts where the range ends is not
 unfoldable pub betweenIn : ℕ → ℕ → ℕ → ℕ → Bool
@@ -59,8 +59,8 @@ pub record BetweenIn (a b s t : ℕ) : Type 0 where
   pub starts-before : s < b
 
 -- instance k of an event is in range
-pub record InstanceIn (e : Event) (a b k : ℕ) : Type 0 where
-  pub takes-place : TakesPlace e k
+pub record InstanceIn (e : Event) (gone : List ℕ) (a b k : ℕ) : Type 0 where
+  pub takes-place : TakesPlace e gone k
   pub starts-before : startOf e k < b
   pub ends-after : (lengthBy e (e .ending) ≡ 0 → ⊥) → a < endOf e k
   pub starts-within : lengthBy e (e .ending) ≡ 0 → a ≤ startOf e k

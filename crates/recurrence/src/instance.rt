@@ -9,6 +9,7 @@ ghost use mathlib.Core.Path.{_≡_};
 ghost use Prim.Native.Nat.{_≤_};
 ghost use Rattle.recurrence.specs.Instances.{stepOf, startOf, repeats, isInstance, occurs, defaultLength, lengthBy, isZeroLength, endOf};
 ghost use Rattle.events.specs.Sizes.{EventSmall};
+ghost use Rattle.seconds.specs.Seconds.{Ordered};
 
 // The seconds from one start to the next.
 pub fn step_of(e: Event) -> u64
@@ -93,11 +94,12 @@ pub fn is_instance(e: Event, k: u64) -> bool
     repeats(rule, start_of(e, k), k)
 }
 
-// Does instance k stand? Each of the rule's does.
-pub fn occurs(e: Event, k: u64) -> bool
+// Does instance k stand, where these starts are taken away?
+pub fn occurs(e: Event, gone: &[u32], k: u64) -> bool
     requires { ⌜ EventSmall e ⌝ }
+    requires { ⌜ Ordered (now gone) ⌝ }
     requires { ⌜ k ≤ 100000 ⌝ }
-    ensures { λ r. ⌜ r ≡ occurs e k ⌝ }
+    ensures { λ r. ⌜ r ≡ occurs e (now (gone .entry)) k ⌝ }
 {
-    is_instance(e, k)
+    is_instance(e, k) & !seconds::has(gone, start_of(e, k))
 }

@@ -5,6 +5,7 @@ use events::Event;
 ghost use mathlib.Core.Path.{_≡_};
 ghost use Prim.Native.Nat.{_≤_};
 ghost use Rattle.time.specs.Limits.{lastSecond};
+ghost use Rattle.seconds.specs.Seconds.{Ordered};
 ghost use Rattle.events.specs.Sizes.{EventSmall};
 ghost use Rattle.recurrence.specs.TimeRange.{overlaps, endsAfter, instanceIn, betweenIn};
 ghost use Rattle.recurrence.specs.Candidates.{firstAt, spanOf, FirstCandidate, MoreCandidates};
@@ -40,13 +41,14 @@ fn ends_after(e: Event, a: u64, k: u64) -> bool
     }
 }
 
-// Is instance k in range?
-pub fn instance_in(e: Event, a: u64, b: u64, k: u64) -> bool
+// Is instance k in range, where these starts are taken away?
+pub fn instance_in(e: Event, gone: &[u32], a: u64, b: u64, k: u64) -> bool
     requires { ⌜ EventSmall e ⌝ }
+    requires { ⌜ Ordered (now gone) ⌝ }
     requires { ⌜ k ≤ 100000 ⌝ }
-    ensures { λ r. ⌜ r ≡ instanceIn e a b k ⌝ }
+    ensures { λ r. ⌜ r ≡ instanceIn e (now (gone .entry)) a b k ⌝ }
 {
-    instance::occurs(e, k) & ends_after(e, a, k) & (instance::start_of(e, k) < b)
+    instance::occurs(e, gone, k) & ends_after(e, a, k) & (instance::start_of(e, k) < b)
 }
 
 // The least k with a < s + span + k * d.

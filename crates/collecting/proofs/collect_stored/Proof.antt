@@ -1,11 +1,14 @@
 -- `collecting::collect_stored` meets its contract, for at most 513 pieces are stored: with 513 there are more than 512, with fewer they are all.
-use Rattle.collecting.proofs.CollectStages.{contents-refuse, contents-many, contents-few}
+use Rattle.collecting.proofs.CollectStages.{contents-refuse, stated-room, contents-many, contents-few}
+use native.Mathlib.Omega.{arith}
 use borrow.Author.Needs.{needs}
 use Rattle.collecting.proofs.collect_stored.Statement.{statement}
 use Rattle.collecting.proofs.collect_stored.Tie as tie
 
 read-contents-requires : tie.Need-read-contents-requires
-read-contents-requires c κs = search needs
+read-contents-requires c κs =
+    let pre = c .before .before .before .before .before .before .before .before .before .before .before .pre in
+    (pre .1 .0, (pre .1 .1 .0, (pre .1 .1 .1 .1 .0, (pre .1 .1 .1 .1 .1 .0, pre .1 .1 .1 .1 .1 .1))))
 
 enum-known-f : tie.Need-enum-known-f
 enum-known-f c = search needs
@@ -15,6 +18,12 @@ refused-requires c κs = search needs
 
 enum-told : tie.Need-enum-told
 enum-told c = search needs
+
+store-events-requires : tie.Need-store-events-requires
+store-events-requires c κs =
+    let pre = c .before .before .before .before .before .before .before .before .before .before .before .before .before .before .before .before .before .before .before .before .pre in
+    let room = stated-room (c .before .before .before .before .before .before .before .before .read-contents .ensures) (c .before .before .enum-told .given .1) (pre .1 .0) in
+    (room .0, (room .1, (pre .1 .1 .1 .1 .1 .0, (c .before .before .before .before .before .before .before .before .read-contents .ensures .entries (c .before .before .enum-told .given .1), (pre .1 .1 .1 .0, pre .1 .1 .1 .1 .1 .1)))))
 
 refused-requires-2 : tie.Need-refused-requires-2
 refused-requires-2 c κs = search needs
@@ -26,13 +35,13 @@ same-length-2 : tie.Need-same-length-2
 same-length-2 c = search needs
 
 returns : tie.Need-returns
-returns c =
-    let read-contents = c .before .before .before .before .before .before .before .before .read-contents .ensures in
-    let enum-told-told = c .before .before .enum-told .given .1 in
-    contents-many read-contents enum-told-told (c .before .if1 .taken) (c .refused2 .ensures)
+returns c = contents-many (c .before .before .before .before .before .before .before .before .before .before .before .before .before .read-contents .ensures) (c .before .before .before .before .before .before .before .enum-told .given .1) (c .before .before .before .before .store-events .ensures) (c .before .if1 .taken) (c .refused2 .ensures)
 
 tables-of-requires : tie.Need-tables-of-requires
-tables-of-requires c κs = search needs
+tables-of-requires c κs =
+    let pre = c .before .before .before .before .before .before .before .before .before .before .before .before .before .before .before .before .before .before .before .before .before .before .before .before .before .before .before .pre in
+    let room = stated-room (c .before .before .before .before .before .before .before .before .before .before .before .before .before .before .before .read-contents .ensures) (c .before .before .before .before .before .before .before .before .before .enum-told .given .1) (pre .1 .0) in
+    (pre .0, (c .before .before .before .if1 .left, omega (arith, room .0, c .before .before .before .if1 .left)))
 
 same-length-3 : tie.Need-same-length-3
 same-length-3 c = search needs
@@ -57,14 +66,8 @@ same-length-8 c = search needs
 
 returns-3 : tie.Need-returns-3
 returns-3 c =
-    let late = c .before .before .before .before .before .before .before .before .before .before .before .before in
-    let called = late .before .before .before .before .before .before .before .before .before .before .before .before .before in
-    let required = called .pre in
-    let read-contents = c .before .before .before .before .before .before .before .before .before .before .before .before .before .before .before .read-contents .ensures in
-    let enum-told-told = c .before .before .before .before .before .before .before .before .before .enum-told .given .1 in
-    let if1-left = c .before .before .before .before .before .before .before .before .if1 .left in
-    let tables-of = c .before .before .before .before .tables-of .ensures in
-    contents-few read-contents enum-told-told if1-left (required .1 .0) (required .1 .1 .1 .1 .1 .0) tables-of
+    let pre = c .before .before .before .before .before .before .before .before .before .before .before .before .before .before .before .before .before .before .before .before .before .before .before .before .before .before .before .before .before .before .before .before .pre in
+    contents-few (c .before .before .before .before .before .before .before .before .before .before .before .before .before .before .before .before .before .before .before .before .read-contents .ensures) (c .before .before .before .before .before .before .before .before .before .before .before .before .before .before .enum-told .given .1) (c .before .before .before .before .before .before .before .before .before .before .before .store-events .ensures) (c .before .before .before .before .before .before .before .before .if1 .left) (pre .1 .0) (pre .1 .1 .1 .1 .1 .1 .0) (c .before .before .before .before .tables-of .ensures)
 
 pub collect-stored-spec : {M : Type 1} → statement M
 collect-stored-spec =
@@ -74,6 +77,7 @@ collect-stored-spec =
     enum-known-f
     refused-requires
     enum-told
+    store-events-requires
     refused-requires-2
     same-length
     same-length-2

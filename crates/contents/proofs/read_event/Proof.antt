@@ -1,9 +1,7 @@
 -- `contents::read_event` meets its contract: what the lines say together is the event of the component, or breaks a rule.
-use mathlib.Core.Path.{_∙_}
-use Rattle.pieces.proofs.Columns.{stored-few, stored-long}
 use Rattle.contents.specs.Contents.{entry-unsupported, entry-bad}
 use Rattle.contents.proofs.LinesLaws.{lines-of, lines-unsupported, lines-bad}
-use Rattle.contents.proofs.Contents.{event-fault, event-small, event-good, event-broken}
+use Rattle.contents.proofs.Contents.{event-fault, event-good, event-broken}
 use native.Mathlib.Omega.{arith}
 use borrow.Author.Needs.{needs}
 use Rattle.contents.proofs.read_event.Statement.{statement}
@@ -28,18 +26,6 @@ put-event-requires c κs =
     let pre = c .before .before .before .before .before .before .before .before .before .before .before .before .before .before .before .before .before .pre in
     omega (arith, pre .1 .1 .1 .1 .1 .0 .few, pre .1 .1 .0)
 
-store-event-requires : tie.Need-store-event-requires
-store-event-requires c κs =
-    let read-lines = c .before .before .before .before .before .before .before .before .before .before .before .before .before .before .read-lines in
-    let g = c .before .before .before .before .before .before .before .before .before .before .g in
-    let pre = c .before .before .before .before .before .before .before .before .before .before .before .before .before .before .before .before .before .before .before .before .before .pre in
-    let event-by = c .before .before .before .before .before .before .before .before .event-by in
-    let e = c .before .before .before .before .before .before .e in
-    let lines = lines-of (read-lines .ensures) _ _ (g .given .1) in
-    let small = event-small _ _ (pre .1 .1 .1 .1 .1 .1 .0) lines (event-by .ensures) _ (e .given .1) in
-    let range = pre .1 .1 .1 .1 .1 .1 .1 in
-    (stored-long (lines .stored) ∙ pre .0, (stored-few (lines .stored) (pre .1 .0), (small, (range .0, range .1))))
-
 enum-told : tie.Need-enum-told
 enum-told c = search needs
 
@@ -57,15 +43,8 @@ same-length-2 c = search needs
 
 returns : tie.Need-returns
 returns c =
-    let began = c .before .before .before .before .before .before .before .before .before .before .before .before .before .before .before .before .before in
-    let pre = began .before .before .before .before .before .before .before .pre in
-    let read-lines = began .read-lines in
-    let g = c .before .before .before .before .before .before .before .before .before .before .before .before .before .g in
-    let event-by = c .before .before .before .before .before .before .before .before .before .before .before .event-by in
-    let e = c .before .before .before .before .before .before .before .before .before .e in
-    let put-event = c .before .before .before .before .before .before .put-event in
-    event-good _ _ (pre .1 .1 .1 .1 .1 .1 .0) (lines-of (read-lines .ensures) _ _ (g .given .1)) (event-by .ensures) _ (e .given .1) (put-event .ensures)
-    (c .before .before .store-event .ensures)
+    let lines = lines-of (c .before .before .before .before .before .before .before .before .before .before .before .before .before .read-lines .ensures) _ _ (c .before .before .before .before .before .before .before .before .before .g .given .1) in
+    event-good _ _ (c .before .before .before .before .before .before .before .before .before .before .before .before .before .before .before .before .before .before .before .before .pre .1 .1 .1 .1 .1 .1 .0) lines (c .before .before .before .before .before .before .before .event-by .ensures) _ (c .before .before .before .before .before .e .given .1) (c .before .before .put-event .ensures)
 
 same-length-3 : tie.Need-same-length-3
 same-length-3 c = search needs
@@ -104,7 +83,6 @@ read-event-spec =
     event-by-requires
     enum-known-e
     put-event-requires
-    store-event-requires
     enum-told
     enum-known-i
     enum-known-i-2

@@ -9,17 +9,17 @@ enum-known-t : tie.Need-enum-known-t
 enum-known-t c = search needs
 
 instance-in-requires : tie.Need-instance-in-requires
-instance-in-requires c κs = (instances-small _ _ _ (c .before .t .given .1) (c .before .before .before .pre .0) .0, c .before .before .before .pre .1)
+instance-in-requires c κs = (instances-small _ _ _ (c .before .t .given .1) (c .before .before .before .before .pre .0) .0, (c .before .before .before .before .pre .1 .0, c .before .before .before .before .pre .1 .1))
 
 enum-known-t-2 : tie.Need-enum-known-t-2
 enum-known-t-2 c = search needs
 
 returns : tie.Need-returns
 unfolding trialPasses
-returns c = instances-pass _ _ _ (c .before .before .t .given .1) _ (c .instance-in .ensures)
+returns c = instances-pass _ _ _ (c .before .before .t .given .1) _ _ (c .instance-in .ensures)
 
 returns-2 : tie.Need-returns-2
-returns-2 c = once-passes _ (c .before .t2 .given .1) _
+returns-2 c = once-passes _ (c .before .t2 .given .1) _ _
 
 pub passes-spec : {M : Type 1} → statement M
 passes-spec =

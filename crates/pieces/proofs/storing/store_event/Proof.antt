@@ -17,7 +17,7 @@ returns : tie.Need-returns
 returns c = search needs
 
 returns-2 : tie.Need-returns-2
-returns-2 c = unstored (c .before .may-have-pieces .ensures (c .if1 .left) _ _)
+returns-2 c = unstored (c .before .may-have-pieces .ensures (c .if1 .left) _ _ _)
 
 pub store-event-spec : {M : Type 1} → statement M
 store-event-spec =

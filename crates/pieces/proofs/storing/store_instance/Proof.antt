@@ -23,11 +23,11 @@ returns : tie.Need-returns
 returns c =
     let ended = c .before .before .before in
     let tested = ended .before .before .before in
-    instance-stored _ _ _ _ (tested .before .occurs .ensures) (tested .if1 .taken) (ended .before .start-of .ensures) (ended .end-of .ensures)
+    instance-stored _ _ _ _ _ (tested .before .occurs .ensures) (tested .if1 .taken) (ended .before .start-of .ensures) (ended .end-of .ensures)
     (c .before .before .store-period .ensures)
 
 returns-2 : tie.Need-returns-2
-returns-2 c = instance-left _ _ _ _ (c .before .occurs .ensures) (c .if1 .left)
+returns-2 c = instance-left _ _ _ _ _ (c .before .occurs .ensures) (c .if1 .left)
 
 pub store-instance-spec : {M : Type 1} → statement M
 store-instance-spec =

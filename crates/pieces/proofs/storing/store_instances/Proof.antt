@@ -9,27 +9,27 @@ use Rattle.pieces.proofs.storing.store_instances.Statement.{statement}
 use Rattle.pieces.proofs.storing.store_instances.Tie as tie
 
 abbrev Inv-loop : tie.InvT-loop
-Inv-loop column₀ first e a b n₀ k₀ column n k = Walked e a b column₀ first column n k
+Inv-loop column₀ first e gone a b n₀ k₀ column n k = Walked e gone a b column₀ first column n k
 
 abbrev μ-loop : tie.MeasureT-loop
-μ-loop column₀ first e a b n₀ k₀ column n k = instancesAtMost - k
+μ-loop column₀ first e gone a b n₀ k₀ column n k = instancesAtMost - k
 
 first-candidate-requires : tie.Need-first-candidate-requires Inv-loop μ-loop
-first-candidate-requires c κs = (c .before .pre .1 .1 .0, omega arith)
+first-candidate-requires c κs = (c .before .before .pre .1 .1 .0, omega arith)
 
 loop-holds : tie.Need-loop-holds Inv-loop μ-loop
-loop-holds c = walked-start _ _ _ _ _ _ (c .first-candidate .ensures)
+loop-holds c = walked-start _ _ _ _ _ _ _ (c .first-candidate .ensures)
 
 starts-before-requires : tie.Need-starts-before-requires Inv-loop μ-loop
 starts-before-requires c κs =
-    let h = c .before .before .before .pre .1 .1 in
-    (h .0, (h .1 .1, omega (arith, c .loop .inv .few)))
+    let h = c .before .before .before .before .pre .1 .1 in
+    (h .0, (h .1 .1 .1, omega (arith, c .loop .inv .few)))
 
 store-instance-requires : tie.Need-store-instance-requires Inv-loop μ-loop
 store-instance-requires c κs =
     let w = c .before .before .before .loop .inv in
-    let h = c .before .before .before .before .before .before .pre in
-    (walked-long w ∙ h .0, (walked-few w (h .1 .0), (h .1 .1 .0, (omega (arith, w .few), h .1 .1 .1 .1))))
+    let h = c .before .before .before .before .before .before .before .pre in
+    (walked-long w ∙ h .0, (walked-few w (h .1 .0), (h .1 .1 .0, (h .1 .1 .1 .0, (omega (arith, w .few), h .1 .1 .1 .1 .1)))))
 
 add-k : tie.Need-add-k Inv-loop μ-loop
 add-k c = omega (arith, c .before .before .before .before .before .before .loop .inv .few)

@@ -1,0 +1,3 @@
+pub mod Seconds
+pub mod Parts
+pub mod Merges
