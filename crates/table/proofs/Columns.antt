@@ -10,14 +10,13 @@ use native.Mathlib.Numerals.{add-one}
 use lib.Dec.{ltb}
 use lib.ListN.{length, take, drop, getD, length-take, set, length-drop, length-set}
 use lib.Seq.{take-take, length-take-le, drop-cons, take-suc, take-suc-set, take-set-le, drop-set-lt, drop-set-add, getD-set-same, getD-drop, getD-take, set-split, take-add, take-append-add, drop-drop, drop-at}
-use borrow.Author.Tests.{lt-ltb, le-ltb, le-leb, lt-leb}
+use borrow.Author.Tests.{ltb-true, lt-ltb, le-ltb, le-leb, lt-leb}
 use Rattle.periods.specs.declared.Period.{Period}
 use Rattle.periods.specs.Periods.{period}
 use Rattle.table.specs.declared.Widened.{Widened}
 use Rattle.table.specs.Inserting.{absorbed, inserted}
-use Rattle.table.specs.declared.Table.{Table}
-use Rattle.table.specs.Tables.{rows, tableOf, listed, Added}
-use Rattle.table.specs.Columns.{endsBefore, TookIn, Spliced, Moved}
+use Rattle.table.specs.Tables.{rows, listed, Added}
+use Rattle.table.specs.Columns.{endsBefore, Passed, TookIn, Spliced, Moved}
 use Rattle.table.proofs.Tables.{take-next, take-end, rows-take, rows-drop, rows-append, rows-next}
 
 -- the ends that lie before a second
@@ -46,8 +45,38 @@ pub record Passing (es : List ℕ) (n a i : ℕ) : Type 0 where
   pub upto : i ≤ n
   pub count : i + endsBefore a (drop i (take n es)) ≡ endsBefore a (take n es)
 
+-- where the first k end before, they and those counted from there on are all
+ends-left : (a k : ℕ) (es : List ℕ) → k ≤ endsBefore a es → k + endsBefore a (drop k es) ≡ endsBefore a es
+unfolding endsBefore
+ends-left a zero es h = omega arith
+ends-left a (suc k) [] h = absurd (omega arith)
+ends-left a (suc k) (e ∷ es) h = go (ltb e a) h (ends-left a k es)
+  where
+    go : (t : Bool) → suc k ≤ elim t [ true ↦ suc (endsBefore a es) | false ↦ zero ]
+        → (k ≤ endsBefore a es → k + endsBefore a (drop k es) ≡ endsBefore a es)
+        → suc k + endsBefore a (drop k es) ≡ elim t [ true ↦ suc (endsBefore a es) | false ↦ zero ]
+    go true i rest = let r = rest (omega arith) in omega arith
+    go false i rest = absurd (omega arith)
+
+-- no fewer end before a later second
+ends-later : (a b : ℕ) (es : List ℕ) → a ≤ b → endsBefore a es ≤ endsBefore b es
+unfolding endsBefore
+ends-later a b [] h = omega arith
+ends-later a b (e ∷ es) h = go (ltb e a) refl (ends-later a b es h)
+  where
+    go : (t : Bool) → ltb e a ≡ t → endsBefore a es ≤ endsBefore b es
+        → elim t [ true ↦ suc (endsBefore a es) | false ↦ zero ] ≤ elim (ltb e b) [ true ↦ suc (endsBefore b es) | false ↦ zero ]
+    go true q rest = rw (lt-ltb e b (omega (arith, ltb-true e a q))) (omega arith)
+    go false q rest = omega arith
+
 pub passing-start : (es : List ℕ) (n a : ℕ) → Passing es n a 0
 passing-start es n a = record { upto = omega arith; count = omega arith }
+
+-- the walk may begin behind rows that end before second b, where b is no later
+pub passing-known : (es : List ℕ) (n a : ℕ) {k b : ℕ} → k ≤ endsBefore b (take n es) → b ≤ a → Passing es n a k
+passing-known es n a {k} {b} h l =
+    let few : k ≤ endsBefore a (take n es) = omega (arith, ends-later b a (take n es) l) in
+    record { upto = omega (arith, ends-secondIn a n es); count = ends-left a k (take n es) few }
 
 module _ {es : List ℕ} {n a i : ℕ} (p : Passing es n a i) where
   pub passing-more : i < n → n ≤ length es → getD es i 0 < a → Passing es n a (i + 1)
@@ -262,13 +291,35 @@ spliced {c} {d} {i} {j} {n} v m h k l =
         ∙ ap (λ (x : List ℕ). take i x) (m .before)
         ∙ take-take i (i + 1) c (omega arith)
 
+-- rows that end before still do where others follow them
+ends-kept : (a : ℕ) (es rest : List ℕ) → endsBefore a es ≤ endsBefore a (take (endsBefore a es) es ++ rest)
+unfolding endsBefore
+ends-kept a [] rest = omega arith
+ends-kept a (e ∷ es) rest = go (ltb e a) refl (ends-kept a es rest)
+  where
+    go : (t : Bool) → ltb e a ≡ t → endsBefore a es ≤ endsBefore a (take (endsBefore a es) es ++ rest)
+        → elim t [ true ↦ suc (endsBefore a es) | false ↦ zero ]
+        ≤ endsBefore a (take (elim t [ true ↦ suc (endsBefore a es) | false ↦ zero ]) (e ∷ es) ++ rest)
+    go true q more = rw (endsBefore, q) (omega arith)
+    go false q more = omega arith
+
+-- the rows before the widened span were passed
+pub passed : (a : ℕ) {es vs : List ℕ} {i j n v : ℕ} → i ≡ endsBefore a (take n es) → Spliced es vs i j n v
+    → Passed (record { count = i + 1 + (n - j); passed = i; start = a }) vs
+unfolding Passed
+passed a {es} {vs} {i} {j} {n} {v} e p =
+    rw (p .list, ← take-take i n es few, e) (ends-kept a (take n es) (v ∷ drop j (take n es)))
+  where
+    few : i ≤ n
+    few = rw e (ends-secondIn a n es)
+
 -- the rows that end before, the widened span, and the rows behind it are the list with the span added
-pub added : (t : Table) {ss es : List ℕ} → t .count < length ss → length es ≡ length ss → {a b i : ℕ} {w : Widened} {us vs : List ℕ}
-    → i ≡ endsBefore a (take (t .count) es) → TookIn ss es (t .count) i a b w
-    → Spliced ss us i (w .next) (t .count) (w .start) → Spliced es vs i (w .next) (t .count) (w .end)
-    → Added (tableOf t ss es) a b (tableOf (record { count = i + 1 + (t .count - w .next) }) us vs)
+pub added : (n : ℕ) {ss es : List ℕ} → n < length ss → length es ≡ length ss → {a b i : ℕ} {w : Widened} {us vs : List ℕ}
+    → i ≡ endsBefore a (take n es) → TookIn ss es n i a b w
+    → Spliced ss us i (w .next) n (w .start) → Spliced es vs i (w .next) n (w .end)
+    → Added (record { count = n; starts = ss; ends = es }) a b (record { count = i + 1 + (n - w .next); starts = us; ends = vs })
 unfolding listed
-added t room even e took p q =
+added n room even e took p q =
     record {
       list = added-rows (omega arith) (omega arith) e took p q;
       count = omega (arith, took .from, took .upto);

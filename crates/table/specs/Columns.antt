@@ -8,12 +8,17 @@ use lib.ListN.{length, take, drop}
 use Rattle.periods.specs.Periods.{period}
 use Rattle.table.specs.Inserting.{absorbed}
 use Rattle.table.specs.Tables.{rows}
+use Rattle.table.specs.declared.Table.{Table}
 use Rattle.table.specs.declared.Widened.{Widened}
 
 -- how many of the first ends lie before second a
 unfoldable pub endsBefore : ℕ → List ℕ → ℕ
 endsBefore a [] = zero
 endsBefore a (e ∷ es) = elim (ltb e a) [ true ↦ suc (endsBefore a es) | false ↦ zero ]
+
+-- the periods that a table passed when a span was added last end before its start
+unfoldable pub Passed : Table → List ℕ → Type 0
+Passed t es = t .passed ≤ endsBefore (t .start) (take (t .count) es)
 
 -- the span from a to b took in the rows from i on, of the first n: those before the next, and none after it
 pub record TookIn (ss es : List ℕ) (n i a b : ℕ) (w : Widened) : Type 0 where

@@ -6,12 +6,16 @@ ghost use mathlib.Core.Path.{_≡_};
 ghost use Prim.Native.Nat.{_+_, _-_, _≤_, _<_, min, max};
 ghost use lib.ListN.{length, take};
 ghost use Rattle.table.specs.Tables.{tableOf, Added};
-ghost use Rattle.table.specs.Columns.{endsBefore, TookIn, Moved, Spliced};
+ghost use Rattle.table.specs.Columns.{endsBefore, Passed, TookIn, Moved, Spliced};
 
 // So many periods, which stand first in two columns: of starts and of ends. The columns are lent beside the table,
 // since a table that held them would be copied whole each time it is handed over.
+// The span added last went behind the first `passed` periods, which end before its start: one that starts no sooner
+// is looked for from there on.
 pub struct Table {
     pub count: usize,
+    pub passed: usize,
+    pub start: u32,
 }
 
 // A span with what it took in, and the first row behind it.
@@ -33,12 +37,16 @@ fn greater_of(a: u32, b: u32) -> u32
     if a < b { b } else { a }
 }
 
-// How many of the first n rows end before a second.
-fn skip(ends: &[u32], n: usize, from: u32) -> usize
+// How many of the first n rows end before a second, where `passed` are known to end before `start`.
+fn skip(ends: &[u32], n: usize, passed: usize, start: u32, from: u32) -> usize
     requires { ⌜ n ≤ length (now ends) ⌝ }
+    requires { ⌜ passed ≤ endsBefore start (take n (now ends)) ⌝ }
     ensures { λ r. ⌜ r ≡ endsBefore from (take n (now (ends .entry))) ⌝ }
 {
     let mut i = 0;
+    if start <= from {
+        i = passed;
+    }
     while i < n {
         if from <= ends[i] {
             return i;
@@ -116,15 +124,19 @@ impl Table {
     // A span of seconds put in: rows that it overlaps or touches become one with it.
     pub fn add(mut self, starts: &mut [u32], ends: &mut [u32], from: u32, to: u32) -> Table
         requires { ⌜ (self .count < length (now starts)) × (length (now ends) ≡ length (now starts)) ⌝ }
+        requires { ⌜ Passed self (now ends) ⌝ }
         ensures { λ r. ⌜ Added (tableOf self (now (starts .entry)) (now (ends .entry))) from to (tableOf r (now (starts .exit)) (now (ends .exit))) ⌝ }
+        ensures { λ r. ⌜ Passed r (now (ends .exit)) ⌝ }
     {
         let n = self.count;
-        let i = skip(ends, n, from);
+        let i = skip(ends, n, self.passed, self.start, from);
         let w = take_in(starts, ends, n, i, from, to);
         let j = w.next;
         splice(starts, i, j, n, w.start);
         splice(ends, i, j, n, w.end);
         self.count = i + 1 + (n - j);
+        self.passed = i;
+        self.start = from;
         self
     }
 }

@@ -10,7 +10,7 @@ use Rattle.ascii.proofs.Lists.{drop-next}
 use Rattle.periods.specs.declared.Period.{Period}
 use Rattle.periods.specs.Periods.{period}
 use Rattle.table.specs.Inserting.{insertedAll}
-use Rattle.table.specs.Tables.{PeriodTable, tableOf, tableAt, listed, Sound, Added}
+use Rattle.table.specs.Tables.{PeriodTable, tableAt, listed, Sound, Added}
 use Rattle.tables.specs.Building.{periodsAt, Built, BuiltAt}
 use mathlib.Core.Bool.{Bool, true, false}
 use lib.Dec.{eqb}
@@ -56,7 +56,7 @@ pub record Building (c : List ℕ) (n k m : ℕ) (t : PeriodTable) (i at : ℕ) 
   pub sound : Sound t
   pub long : length (t .starts) ≡ m
 
-pub building-start : {c : List ℕ} {n k : ℕ} (ss es : List ℕ) → length es ≡ length ss → Building c n k (length ss) (tableOf (record { count = 0 }) ss es) 0 0
+pub building-start : {c : List ℕ} {n k : ℕ} (ss es : List ℕ) → length es ≡ length ss → Building c n k (length ss) (record { count = 0; starts = ss; ends = es }) 0 0
 unfolding listed
 building-start {c} {n} {k} ss es e =
     record {

@@ -14,7 +14,11 @@ fn table_of(starts: &mut [u32], ends: &mut [u32], column: &[u32], n: usize, plac
     requires { ⌜ 3 * n ≤ length (now column) ⌝ }
     ensures { λ r. ⌜ Built (now (column .entry)) n place (tableOf r (now (starts .exit)) (now (ends .exit))) ⌝ }
 {
-    let mut t = Table { count: 0 };
+    let mut t = Table {
+        count: 0,
+        passed: 0,
+        start: 0,
+    };
     let mut i: usize = 0;
     let mut at: usize = 0;
     while i < n {

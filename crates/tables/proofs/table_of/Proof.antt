@@ -3,6 +3,7 @@ use mathlib.Core.Path.{_≡_}
 use Prim.Native.Nat.{_-_}
 use lib.ListN.{length}
 use Rattle.table.specs.Tables.{tableOf}
+use Rattle.table.specs.Columns.{Passed}
 use Rattle.tables.proofs.Building.{Building, building-start, building-asks, building-added, building-passed, building-end}
 use native.Mathlib.Omega.{arith}
 use borrow.Author.Needs.{needs}
@@ -10,13 +11,14 @@ use Rattle.tables.proofs.table_of.Statement.{statement}
 use Rattle.tables.proofs.table_of.Tie as tie
 
 abbrev Inv-loop : tie.InvT-loop
-Inv-loop starts₀ ends₀ column n place t₀ i₀ at₀ starts ends t i at = Building column n place (length starts₀) (tableOf t starts ends) i at × (length ends ≡ length ends₀)
+Inv-loop starts₀ ends₀ column n place t₀ i₀ at₀ starts ends t i at = Building column n place (length starts₀) (tableOf t starts ends) i at × (length ends ≡ length ends₀) × Passed t ends
 
 abbrev μ-loop : tie.MeasureT-loop
 μ-loop starts₀ ends₀ column n place t₀ i₀ at₀ starts ends t i at = n - i
 
 loop-holds : tie.Need-loop-holds Inv-loop μ-loop
-loop-holds c = (building-start _ _ (omega arith), search needs)
+unfolding Passed
+loop-holds c = (building-start _ _ (omega arith), search needs, omega arith)
 
 add-at : tie.Need-add-at Inv-loop μ-loop
 add-at c = omega arith
@@ -53,7 +55,7 @@ add-requires c κs =
     let so-far = c .before .before .before .before .before .before .before .loop .inv in
     let loop-test-taken = c .before .before .before .before .before .before .loop-test .taken in
     let if1-taken = c .before .before .before .before .if1 .taken in
-    building-asks (so-far .0) loop-test-taken (omega arith) (omega (arith, if1-taken)) (omega arith)
+    (building-asks (so-far .0) loop-test-taken (omega arith) (omega (arith, if1-taken)) (omega arith), so-far .2)
 
 loop-less : tie.Need-loop-less Inv-loop μ-loop
 loop-less c = omega arith
@@ -64,14 +66,14 @@ loop-again c =
     let loop-test-taken = c .before .before .before .before .before .before .before .before .before .before .before .loop-test .taken in
     let if1-taken = c .before .before .before .before .before .before .before .before .before .if1 .taken in
     let add = c .before .before .before .before .add .ensures in
-    let added = building-added (so-far .0) loop-test-taken (omega arith) (omega (arith, if1-taken)) add in
-    (added (omega arith), omega arith)
+    let added = building-added (so-far .0) loop-test-taken (omega arith) (omega (arith, if1-taken)) (add .0) in
+    (added (omega arith), omega arith, add .1)
 
 loop-less-2 : tie.Need-loop-less-2 Inv-loop μ-loop
 loop-less-2 c = omega arith
 
 loop-again-2 : tie.Need-loop-again-2 Inv-loop μ-loop
-loop-again-2 c = (building-passed (c .before .before .before .loop .inv .0) (c .before .before .loop-test .taken) (omega arith) (omega (arith, c .if1 .left)), c .before .before .before .loop .inv .1)
+loop-again-2 c = (building-passed (c .before .before .before .loop .inv .0) (c .before .before .loop-test .taken) (omega arith) (omega (arith, c .if1 .left)), c .before .before .before .loop .inv .1, c .before .before .before .loop .inv .2)
 
 same-length : tie.Need-same-length Inv-loop μ-loop
 same-length c = c .before .loop .inv .0 .long

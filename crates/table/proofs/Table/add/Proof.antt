@@ -1,10 +1,12 @@
--- `table::Table::add` meets its contract. The three steps make the definition: rows that end before, the widened span, the rows behind it.
-use Rattle.table.proofs.Columns.{ends-secondIn, added}
+-- `table::Table::add` meets its contract. The three steps make the definition: rows that end before, the widened span, the rows behind it. The first of these are what the next span may begin behind.
+use Rattle.table.proofs.Columns.{ends-secondIn, passed, added}
+use Rattle.table.specs.Columns.{Passed}
 use borrow.Author.Needs.{needs}
 use Rattle.table.proofs.Table.add.Statement.{statement}
 use Rattle.table.proofs.Table.add.Tie as tie
 
 skip-requires : tie.Need-skip-requires
+unfolding Passed
 skip-requires c κs = search needs
 
 take-in-requires : tie.Need-take-in-requires
@@ -37,7 +39,7 @@ returns c =
     let widened = c .before .before .before .before .before .before .before .before .take-in .ensures in
     let starts = c .before .before .before .before .before .before .splice .ensures in
     let ends = c .before .before .splice2 .ensures in
-    added _ (search needs) (search needs) skipped widened starts ends
+    (added _ (search needs) (search needs) skipped widened starts ends, passed _ skipped ends)
 
 pub add-spec : {M : Type 1} → statement M
 add-spec =
