@@ -2,3 +2,4 @@ pub mod Times
 pub mod Rule
 pub mod RuleGrammar
 pub mod Period
+pub mod TimeLists
