@@ -1,4 +1,4 @@
--- Lists of times: how long an item is, how late a second can be, which kinds two lists have together,
+-- Lists of times: how long an item is, how late a second can be, what the kinds of a list say of its times,
 -- and the loop that stores a value's times: what is left to store makes the whole.
 use Prim.Native.Nat.{ℕ, suc, _+_, _*_, _≤_, _<_}
 use mathlib.Core.Path.{_≡_, refl, sym, ap, subst, _∙_}

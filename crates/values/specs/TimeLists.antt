@@ -17,10 +17,11 @@ use Rattle.values.specs.declared.times.Form.{Form}
 use Rattle.values.specs.declared.time_lists.Kinds.{Kinds}
 use Rattle.values.specs.declared.time_lists.TimesStored.{TimesStored}
 
--- the times stand between commas, and each is read as DTSTART's value is; an empty item is bad, since no time is
+-- the times stand between commas, and each is read as DTSTART's value is; an empty item is bad, as no time has no bytes
 unfoldable pub timeItems : Context → Form → List ℕ → List TimeRead
 timeItems c f v = map (readTime c f) (plainSplit 44 v)
 
+-- is an item a time?
 abbrev pub isTime : TimeRead → Bool
 isTime (TimeRead.Of t) = true
 isTime TimeRead.Bad = false
@@ -47,6 +48,7 @@ kindNumber Kind.Utc = 0
 kindNumber Kind.Floating = 1
 kindNumber Kind.Date = 2
 
+-- are two kinds the same?
 unfoldable pub sameKind : Kind → Kind → Bool
 sameKind a b = eqb (kindNumber a) (kindNumber b)
 
