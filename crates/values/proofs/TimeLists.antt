@@ -11,7 +11,7 @@ use lib.ListN.{length, drop, set, length-take, length-set}
 use lib.Seq.{sets, length-sets}
 use borrow.Author.Tests.{ltb-true, ltb-false, eq-eqb, eqb-true}
 use Rattle.line.specs.Splitting.{nextPlace, splitAfter, plainSplit}
-use Rattle.line.proofs.Splitting.{itemAt, item-inside, item-first, item-more, item-last}
+use Rattle.line.proofs.Splitting.{parts-end, itemAt, item-inside, item-first, item-more, item-last}
 use Rattle.time.specs.Limits.{lastSecond}
 use Rattle.time.specs.DateTime.{readDateTime, readDate}
 use Rattle.time.specs.declared.date_time.Kind.{Kind}
@@ -45,6 +45,15 @@ readTime-long c f l t e = go (ltb (length l) 8) refl
         let z : _≡_ {A = ℕ} 0 1 = cc in
         absurd (omega arith)
     go false k = ltb-false _ _ k
+
+-- a list that begins with an empty item is bad, and so is an empty value
+empty-item : (c : Context) (f : Form) (rs : List TimeRead) → allTimes (readTime c f [] ∷ rs) ≡ false
+unfolding allTimes
+empty-item c f rs = sym (ap (λ (r : TimeRead). allTimes (r ∷ rs)) (few-bad c f [] (omega arith)))
+
+pub empty-value : (c : Context) (f : Form) → allTimes (timeItems c f []) ≡ false
+unfolding timeItems plainSplit
+empty-value c f = ap (λ (l : List (List ℕ)). allTimes (map (readTime c f) l)) (parts-end false 44 false) ∙ empty-item c f []
 
 -- ---- how late a second can be
 

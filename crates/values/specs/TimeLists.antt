@@ -17,7 +17,7 @@ use Rattle.values.specs.declared.times.Form.{Form}
 use Rattle.values.specs.declared.time_lists.Kinds.{Kinds}
 use Rattle.values.specs.declared.time_lists.TimesStored.{TimesStored}
 
--- the times stand between commas, and each is read as DTSTART's value is; an empty item is bad, as no time has no bytes
+-- the times stand between commas, and each is read as DTSTART's value is; an empty item is bad
 unfoldable pub timeItems : Context → Form → List ℕ → List TimeRead
 timeItems c f v = map (readTime c f) (plainSplit 44 v)
 
