@@ -106,10 +106,10 @@ fn read_block(
     ensures { λ r. ⌜ EntryIs c (componentBy (now (s .entry)) (now (rows .entry)) k) k a b (now (column .entry)) n (now (column .exit)) (now (entries .entry)) (now (entries .exit)) r ⌝ }
 {
     match lines::read_lines(column, n, s, index, rows, k, Scope::FreeBusy, c, a, b) {
-        LinesRead::Of(g, m) => match rules::block_by(g) {
+        LinesRead::Of(g, stated) => match rules::block_by(g) {
             BlockRead::Of(x) => {
                 events::rows::put_block(entries, k, x);
-                EntryRead::Of(m)
+                EntryRead::Of(stated)
             }
             BlockRead::Broken => EntryRead::Broken,
         },
