@@ -1,0 +1,5 @@
+pub mod Lists
+pub mod VEvents
+pub mod Instances
+pub mod Keeping
+pub mod Rules

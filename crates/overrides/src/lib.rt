@@ -1,0 +1,2 @@
+// Masters, overrides and exceptions.
+// Definitions and laws.
