@@ -3,3 +3,4 @@ pub mod VEvents
 pub mod Instances
 pub mod Keeping
 pub mod Rules
+pub mod Examples

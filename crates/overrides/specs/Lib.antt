@@ -3,3 +3,4 @@ pub mod VEvents
 pub mod Instances
 pub mod Rules
 pub mod Keeping
+pub mod Examples
