@@ -5,17 +5,19 @@ use mathlib.Core.Bool.{Bool, true, false, cond, not, _&&_}
 use mathlib.Core.List.{List, [], _∷_, _++_, List·Memᴰ, List·Memᴰ·head, List·Memᴰ·tail, List·Memᴰ·not-nil, List·Memᴰ·append-cases, Memᴰ·append-left, Memᴰ·append-right, append-nil}
 use mathlib.Core.Logic.{_↔_, ⊎-elim}
 use native.Mathlib.Omega.{arith}
-use native.Mathlib.Nat.{mul-div-cancel, div-zero, mul-zero}
+use native.Mathlib.Nat.{mul-div-cancel, div-zero, mul-zero, mul-le-mul-left, div-mul-le-self}
 use lib.Dec.{eqb}
 use borrow.Author.Tests.{eqb-true, eqb-false, eq-eqb}
 use Rattle.ascii.proofs.Bools.{clash, not-so, and-left, and-right, and-both}
+use Rattle.time.specs.Limits.{lastSecond}
 use Rattle.seconds.specs.Seconds.{among}
 use Rattle.seconds.proofs.Seconds.{among-iff}
 use Rattle.values.specs.TimeLists.{secondsOf}
 use Rattle.values.specs.declared.times.Time.{Time}
 use Rattle.events.specs.declared.Event.{Event}
+use Rattle.events.specs.Sizes.{EventSmall}
 use Rattle.recurrence.specs.Instances.{stepOf, startOf, isInstance, occurs}
-use Rattle.recurrence.proofs.Instances.{instance-before}
+use Rattle.recurrence.proofs.Instances.{instance-before, step-long}
 use Rattle.overrides.specs.VEvents.{VEvent, isMaster, isOverride, sharesUid, Master, Override, SharesUid}
 use Rattle.overrides.specs.Instances.{numberAt, namesInstance, movedFrom, removedFrom, NamesInstance, Removed, excluded, moved}
 use Rattle.overrides.proofs.VEvents.{master-iff, override-iff, shares-iff}
@@ -60,6 +62,18 @@ names-iff e s = (
       let p = number-at e (n .number) s (n .starts) in
       and-both (instance-before e (numberAt e s) (n .number) (p .0) (n .there)) (eq-eqb _ s (p .1)),
 )
+
+-- a second before DTSTART names none
+pub before-start : (e : Event) (s : ℕ) → s < e .start → false ≡ namesInstance e s
+unfolding namesInstance startOf
+before-start e s h = sym (not-so _ (λ q. omega (arith, eqb-true _ s (and-right (isInstance e (numberAt e s)) _ q))))
+
+-- from 1970 to 2099 a number is small
+pub number-few : {e : Event} {s d : ℕ} → EventSmall e → s ≤ lastSecond → d ≡ stepOf e → (s - e .start) / d ≤ 100000
+number-few {e} {s} {d} h p q =
+    let long : 86400 ≤ d = omega (arith, step-long h) in
+    let m : (s - e .start) / d * 86400 ≤ (s - e .start) / d * d = mul-le-mul-left _ long in
+    omega (arith, div-mul-le-self (s - e .start) d)
 
 -- ---- what is taken away
 

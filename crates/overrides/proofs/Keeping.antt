@@ -13,6 +13,7 @@ use Rattle.seconds.proofs.Seconds.{among-iff}
 use Rattle.time.specs.declared.date_time.Kind.{Kind}
 use Rattle.values.specs.declared.times.Time.{Time}
 use Rattle.values.specs.TimeLists.{secondsOf, kindNumber, sameKind}
+use Rattle.events.specs.Events.{kindNumber as eventKindNumber}
 use Rattle.events.specs.declared.Event.{Event}
 use Rattle.events.specs.declared.Repeat.{Repeat}
 use Rattle.events.specs.declared.EventRead.{EventRead}
@@ -42,6 +43,13 @@ kind-is Kind.Date Kind.Date h = refl
 pub same-kind-iff : (a b : Kind) → (sameKind a b ≡ true) ↔ (a ≡ b)
 unfolding sameKind
 same-kind-iff a b = (λ h. kind-is a b (eqb-true _ _ h), λ e. eq-eqb _ _ (ap kindNumber e))
+
+-- the number of a kind here and in the events is one
+pub kind-number : (k : Kind) → eventKindNumber k ≡ kindNumber k
+unfolding eventKindNumber kindNumber
+kind-number Kind.Utc = refl
+kind-number Kind.Floating = refl
+kind-number Kind.Date = refl
 
 other-kind-iff : (e : Event) (t : Time) → (otherKind e t ≡ false) ↔ (t .kind ≡ e .kind)
 unfolding otherKind
