@@ -1,4 +1,5 @@
--- The table of examples holds: a test for each claim, what it says where it passes, and all of them computed.
+-- The table of examples holds: a test for each claim, and what is so where it passes.
+-- All tests are computed at once.
 use Prim.Native.Nat.{ℕ, zero, suc, _<_}
 use mathlib.Core.Path.{_≡_, refl, sym, ap, subst, _∙_}
 use mathlib.Core.Bool.{Bool, true, false, not, _&&_}

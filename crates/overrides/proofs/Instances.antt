@@ -1,4 +1,5 @@
--- Which instance a second names, and which starts are taken away from a VEVENT.
+-- The division finds the instance that a second names, if there is one.
+-- Which starts are taken away from a VEVENT, and what that does to its instances.
 use Prim.Native.Nat.{ℕ, _+_, _-_, _*_, _/_, _≤_, _<_}
 use mathlib.Core.Path.{_≡_, refl, sym, ap, subst, _∙_}
 use mathlib.Core.Bool.{Bool, true, false, cond, not, _&&_}

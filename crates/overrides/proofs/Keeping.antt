@@ -1,4 +1,5 @@
--- The tests of refusal 10 say what the rules for the reader say.
+-- The tests of refusal 10 say what the rules for the reader say: `alone-iff`, `beside-iff` and `keeps-iff`.
+-- What an override that keeps them does to its master.
 use Prim.Native.Nat.{ℕ, _≤_}
 use mathlib.Core.Path.{_≡_, refl, sym, ap, _∙_}
 use mathlib.Core.Bool.{Bool, true, false, not, _&&_, _||_}
@@ -44,7 +45,7 @@ pub same-kind-iff : (a b : Kind) → (sameKind a b ≡ true) ↔ (a ≡ b)
 unfolding sameKind
 same-kind-iff a b = (λ h. kind-is a b (eqb-true _ _ h), λ e. eq-eqb _ _ (ap kindNumber e))
 
--- the number of a kind here and in the events is one
+-- kinds have the same numbers in values and in events
 pub kind-number : (k : Kind) → eventKindNumber k ≡ kindNumber k
 unfolding eventKindNumber kindNumber
 kind-number Kind.Utc = refl
@@ -95,7 +96,7 @@ event-keeps v (EventRead.Of e) q u h =
     record {
       its-event = e;
       is-event = q;
-      one-uid = one-iff (v .uids) .0 u;
+      few-uids = one-iff (v .uids) .0 u;
       exceptions-kind = λ t m. other-kind-iff e t .0 (none-iff (otherKind e) (v .exceptions) .0 (or-left _ (isOverride v && overrideBreaks v e) h) t m);
       as-override = λ o. override-alone-iff v e o .0 (when-override v _ (or-right (some (otherKind e) (v .exceptions)) _ h) o);
     }
@@ -113,7 +114,7 @@ unfolding breaksAlone
 alone-iff v = (
   λ h. event-keeps v (v .event) refl (or-left _ (eventBreaks v (v .event)) h) (or-right (twoOrMore (v .uids)) _ h),
   λ k.
-      or-neither (one-iff (v .uids) .1 (k .one-uid))
+      or-neither (one-iff (v .uids) .1 (k .few-uids))
       (ap (eventBreaks v) (k .is-event) ∙ keeps-event v k),
 )
 

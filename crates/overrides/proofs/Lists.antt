@@ -1,4 +1,5 @@
--- What the tests of lists say: of an element that passes, of a list without elements, of one with at most one.
+-- What the tests of lists say: an element that passes, no element,
+-- at most one element.
 use Prim.Native.Nat.{_≤_}
 use mathlib.Core.Path.{_≡_, refl, sym, ap, _∙_}
 use mathlib.Core.Bool.{Bool, true, false, _||_}

@@ -1,4 +1,5 @@
--- Masters and overrides as the reader has them: what their tests say, and which master a UID has.
+-- What the tests of masters, overrides and UIDs say,
+-- and which master a UID has.
 use Prim.Native.Nat.{ℕ}
 use mathlib.Core.Path.{_≡_, refl, sym, ap, subst, _∙_}
 use mathlib.Core.Bool.{Bool, true, false, cond, not, _&&_}

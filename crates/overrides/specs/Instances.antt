@@ -10,7 +10,7 @@ use Rattle.events.specs.declared.Event.{Event}
 use Rattle.recurrence.specs.Instances.{stepOf, startOf, isInstance, occurs}
 use Rattle.overrides.specs.VEvents.{VEvent, isMaster, isOverride, sharesUid, Master, SharesUid}
 
--- no other instance can start at s than the one of this number
+-- the only number that an instance at s can have, by one division
 unfoldable pub numberAt : Event → ℕ → ℕ
 numberAt e s = (s - e .start) / stepOf e
 
@@ -39,7 +39,7 @@ pub data Removed (all : List VEvent) (v : VEvent) (s : ℕ) : Type 0 where
   excluded : Master v → List·Memᴰ s (secondsOf (v .exceptions)) → Removed all v s
   moved : Master v → (w : VEvent) → List·Memᴰ w all → SharesUid v w → List·Memᴰ s (secondsOf (w .recurrenceIds)) → Removed all v s
 
--- what is left of the master m, whose event is e, where an override names s: the rule has an instance there, and it is not left
+-- an override names s: the event e of its master m has an instance there, and it is taken away
 pub record Replaces (all : List VEvent) (m : VEvent) (e : Event) (s : ℕ) : Type 0 where
   pub names : NamesInstance e s
   pub gone : (k : ℕ) → startOf e k ≡ s → occurs e (removedFrom all m) k ≡ false

@@ -21,11 +21,12 @@ pub record OverrideAlone (v : VEvent) (e : Event) : Type 0 where
   pub no-rule : e .repeat ≡ Repeat.Once
   pub no-exception : v .exceptions ≡ []
 
+-- any VEVENT
 pub record KeepsAlone (v : VEvent) : Type 0 where
   -- it keeps the rules of document 01, and so is an event
   pub its-event : Event
   pub is-event : v .event ≡ EventRead.Of its-event
-  pub one-uid : length (v .uids) ≤ 1
+  pub few-uids : length (v .uids) ≤ 1
   pub exceptions-kind : (t : Time) → List·Memᴰ t (v .exceptions) → t .kind ≡ its-event .kind
   pub as-override : Override v → OverrideAlone v its-event
 
@@ -50,13 +51,14 @@ pub record KeepsBeside (before all : List VEvent) (v : VEvent) : Type 0 where
       → List·Memᴰ s (v .recurrenceIds) → List·Memᴰ t (w .recurrenceIds) → s .second ≡ t .second → ⊥
   pub has-master : (t : Time) (u : List ℕ) → List·Memᴰ t (v .recurrenceIds) → List·Memᴰ u (v .uids) → HasMaster all u t
 
+-- all rules
 pub record Keeps (before all : List VEvent) (v : VEvent) : Type 0 where
   pub alone : KeepsAlone v
   pub beside : KeepsBeside before all v
 
 -- ---- the line
 
--- which begins at line n, and is the first that does not keep a rule
+-- the first VEVENT that does not keep a rule begins at line n
 pub record FirstBroken (all : List VEvent) (n : ℕ) : Type 0 where
   pub before : List VEvent
   pub which : VEvent

@@ -1,5 +1,5 @@
 -- Refusal 10 of VEVENTs (requests R-1 and R-3): which rules one breaks by itself, and which beside the others of its file.
--- Whom a clash is charged to, and what is left out against a broken master, is said here; Keeping has the rules for the reader.
+-- Of two that clash the later breaks the rule, and of an override and its master the override. Keeping has the rules for the reader.
 use Prim.Native.Nat.{ℕ}
 use mathlib.Core.Bool.{Bool, true, false, cond, not, _&&_, _||_}
 use mathlib.Core.List.{List, [], _∷_, _++_}
@@ -60,6 +60,7 @@ unfoldable pub misplaced : Time → MasterFound → Bool
 misplaced t nowhere = true
 misplaced t (found m) = not (breaksAlone m) && misnames m (m .event) t
 
+-- an override, for each RECURRENCE-ID and each UID that it has
 unfoldable pub overrideMisplaced : List VEvent → VEvent → Bool
 overrideMisplaced all v = some (λ t. some (λ u. misplaced t (masterOf u all)) (v .uids)) (v .recurrenceIds)
 
@@ -67,11 +68,13 @@ overrideMisplaced all v = some (λ t. some (λ u. misplaced t (masterOf u all)) 
 unfoldable pub breaksBeside : List VEvent → List VEvent → VEvent → Bool
 breaksBeside before all v = some (mastersClash v) before || some (overridesClash v) before || overrideMisplaced all v
 
+-- any rule
 unfoldable pub breaks : List VEvent → List VEvent → VEvent → Bool
 breaks before all v = breaksAlone v || breaksBeside before all v
 
 -- ---- the line
 
+-- every VEVENT keeps the rules, or the line of one that does not
 pub data RuleLine : Type 0 where
   allKeep : RuleLine
   brokenAt : ℕ → RuleLine
