@@ -28,6 +28,9 @@ faultOr-else n (PropertyValue.Lasts d) r = refl
 faultOr-else n (PropertyValue.Repeats x) r = refl
 faultOr-else n (PropertyValue.HasStatus x) r = refl
 faultOr-else n (PropertyValue.Transparent x) r = refl
+faultOr-else n PropertyValue.Uid r = refl
+faultOr-else n (PropertyValue.RecurrenceId t) r = refl
+faultOr-else n (PropertyValue.HasExceptions f) r = refl
 faultOr-else n (PropertyValue.HasPeriods b) r = refl
 
 pub faultIn-else : (c : Context) (o : Scope) (xs : List Numbered) (r : ValueCheck) → faultIn c o xs r ≡ faultElse (faultIn c o xs ValueCheck.Good) r

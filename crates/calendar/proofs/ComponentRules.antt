@@ -1,4 +1,5 @@
--- THE THEOREM of refusal 10: no component is broken exactly where each keeps its rules, and otherwise the first that does not is named.
+-- THE THEOREM of refusal 10 for one component: it breaks no rule exactly where it keeps its rules, beside those before it and all.
+-- That the first that does not is named is in FirstFaults.
 use Prim.Native.Nat.{ℕ}
 use mathlib.Core.Path.{_≡_, refl, ap}
 use mathlib.Core.Bool.{Bool, true, false, cond}
@@ -12,19 +13,21 @@ use Rattle.values.specs.Times.{timeOf}
 use Rattle.values.specs.declared.times.Context.{Context}
 use Rattle.values.specs.declared.times.Time.{Time}
 use Rattle.periods.specs.declared.BusyType.{BusyType}
-use Rattle.property.specs.Properties.{propertyOf, timeIn, busyOf, valueAs, beforePeriods, propertyValueOf}
+use Rattle.property.specs.Properties.{propertyOf, timeIn, busyOf, valueAs, beforeItems, propertyValueOf}
 use Rattle.property.specs.declared.Scope.{Scope}
 use Rattle.property.specs.declared.Property.{Property}
 use Rattle.property.specs.declared.PropertyValue.{PropertyValue}
-use Rattle.property.proofs.Properties.{start-keeps, end-keeps, zoned-keeps, type-keeps, periods-keep}
+use Rattle.property.proofs.Properties.{start-keeps, end-keeps, zoned-keeps, type-keeps, items-keep}
 use Rattle.nesting.specs.Components.{Numbered, Component, propertiesIn}
-use Rattle.events.specs.ComponentRules.{propertyName, linesNamed, BlockLines}
+use Rattle.events.specs.ComponentRules.{propertyName, linesNamed, BlockLines, EventRules}
 use Rattle.events.specs.declared.Event.{Event}
 use Rattle.events.specs.declared.EventRead.{EventRead}
 use Rattle.events.specs.declared.Block.{Block}
 use Rattle.events.specs.declared.BlockRead.{BlockRead}
 use Rattle.events.proofs.ComponentRules.{event-iff, block-iff}
-use Rattle.calendar.specs.Meaning.{componentScope, propertyValuesIn, eventOf, blockOf, eventBroken, blockBroken, isBroken}
+use Rattle.overrides.specs.VEvents.{VEvent}
+use Rattle.overrides.proofs.Keeping.{keeps-iff as tied-iff}
+use Rattle.calendar.specs.Meaning.{componentScope, propertyValuesIn, eventOf, blockOf, vEventOf, vEvents, blockBroken, breaksRule}
 use Rattle.calendar.specs.ComponentRules.{KeepsAs, Keeps}
 
 -- ---- what a line of a VFREEBUSY can say
@@ -61,9 +64,9 @@ unfolding propertyName
 periods-line b = record { no-duration = refl; no-rule = refl; no-status = refl; no-transparency = refl }
 
 block-line : (c : Context) (x : ContentLine) → BlockLine (propertyValueOf c Scope.FreeBusy x)
-unfolding propertyValueOf beforePeriods propertyOf valueAs
+unfolding propertyValueOf beforeItems propertyOf valueAs
 block-line c x =
-    periods-keep BlockLine bad-line (x .value) (beforePeriods c Scope.FreeBusy x)
+    items-keep BlockLine bad-line c (x .value) (beforeItems c Scope.FreeBusy x)
     (go (sameName (x .name) (ascii "DTSTART")) (sameName (x .name) (ascii "DTEND")) (sameName (x .name) (ascii "FREEBUSY")))
   where
     go : (s e p : Bool)
@@ -95,30 +98,39 @@ block-lines c (x ∷ xs) =
 
 -- ---- one component
 
-event-read : (r : EventRead) → eventBroken r ≡ false → (e : Event) × (r ≡ EventRead.Of e)
-event-read (EventRead.Of e) h = (e, refl)
-event-read EventRead.Broken h = clash refl h
-
 block-read : (r : BlockRead) → blockBroken r ≡ false → (b : Block) × (r ≡ BlockRead.Of b)
 block-read (BlockRead.Of b) h = (b, refl)
 block-read BlockRead.Broken h = clash refl h
 
-keeps-as : (c : Context) (s : Scope) (k : Component) → isBroken c s k ≡ false → KeepsAs c s k
-unfolding isBroken eventOf blockOf
-keeps-as c Scope.Event k h = event-iff (propertyValuesIn c Scope.Event (propertiesIn (k .items))) .0 (event-read (eventOf c k) h)
-keeps-as c Scope.FreeBusy k h =
-    let xs = propertiesIn (k .items) in
-    block-iff (propertyValuesIn c Scope.FreeBusy xs) (block-lines c xs) .0 (block-read (blockOf c k) h)
-keeps-as c Scope.Other k h = tt
+-- a VEVENT is an event exactly where its lines keep the rules of document 01
+pub event-rules-iff : (c : Context) (k : Component)
+    → ((e : Event) × (vEventOf c k .event ≡ EventRead.Of e)) ↔ EventRules (propertyValuesIn c Scope.Event (propertiesIn (k .items)))
+unfolding vEventOf eventOf
+event-rules-iff c k = event-iff (propertyValuesIn c Scope.Event (propertiesIn (k .items)))
 
-as-keeps : (c : Context) (s : Scope) (k : Component) → KeepsAs c s k → isBroken c s k ≡ false
-unfolding isBroken eventOf blockOf
-as-keeps c Scope.Event k h = ap eventBroken (event-iff (propertyValuesIn c Scope.Event (propertiesIn (k .items))) .1 h .1)
-as-keeps c Scope.FreeBusy k h =
-    let xs = propertiesIn (k .items) in
-    ap blockBroken (block-iff (propertyValuesIn c Scope.FreeBusy xs) (block-lines c xs) .1 h .1)
-as-keeps c Scope.Other k h = refl
+module _ (c : Context) (before all : List VEvent) where
+  keeps-as : (s : Scope) (k : Component) → breaksRule c before all s k ≡ false → KeepsAs c before all s k
+  unfolding breaksRule blockOf
+  keeps-as Scope.Event k h =
+      let t = tied-iff before all (vEventOf c k) .0 h in
+      record { lines = event-rules-iff c k .0 (t .alone .its-event, t .alone .is-event); tied = t }
+  keeps-as Scope.FreeBusy k h =
+      let xs = propertiesIn (k .items) in
+      block-iff (propertyValuesIn c Scope.FreeBusy xs) (block-lines c xs) .0 (block-read (blockOf c k) h)
+  keeps-as Scope.Other k h = tt
 
--- a component is not broken exactly where it keeps its rules
-pub keeps-iff : (c : Context) (k : Component) → (isBroken c (componentScope k) k ≡ false) ↔ Keeps c k
-keeps-iff c k = (keeps-as c (componentScope k) k, as-keeps c (componentScope k) k)
+  as-keeps : (s : Scope) (k : Component) → KeepsAs c before all s k → breaksRule c before all s k ≡ false
+  unfolding breaksRule blockOf
+  as-keeps Scope.Event k h = tied-iff before all (vEventOf c k) .1 (h .tied)
+  as-keeps Scope.FreeBusy k h =
+      let xs = propertiesIn (k .items) in
+      ap blockBroken (block-iff (propertyValuesIn c Scope.FreeBusy xs) (block-lines c xs) .1 h .1)
+  as-keeps Scope.Other k h = refl
+
+-- a component breaks no rule exactly where it keeps its rules beside the others
+pub keeps-iff : (c : Context) (before all : List Component) (k : Component)
+    → (breaksRule c (vEvents c before) (vEvents c all) (componentScope k) k ≡ false) ↔ Keeps c before all k
+keeps-iff c before all k = (
+  keeps-as c (vEvents c before) (vEvents c all) (componentScope k) k,
+  as-keeps c (vEvents c before) (vEvents c all) (componentScope k) k,
+)

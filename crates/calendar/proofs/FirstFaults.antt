@@ -11,8 +11,10 @@ use Rattle.property.specs.Properties.{propertyValueOf}
 use Rattle.property.specs.declared.Scope.{Scope}
 use Rattle.property.specs.declared.PropertyValue.{PropertyValue}
 use Rattle.nesting.specs.Components.{Numbered, Component, propertiesIn}
-use Rattle.calendar.specs.Meaning.{componentScope, faultOr, faultIn, valueFault, isBroken, brokenOr, ruleFault}
-use Rattle.calendar.specs.FirstFaults.{First, ReadLine, linesWithin, readLines, saysOf, Faulty, FirstFaulty, Breaks, FirstBroken}
+use Rattle.overrides.specs.VEvents.{VEvent}
+use Rattle.calendar.specs.Meaning.{componentScope, faultOr, faultIn, valueFault, vEvents, breaksRule, brokenOr, firstFault, ruleFault}
+use Rattle.calendar.specs.FirstFaults.{First, ReadLine, linesWithin, readLines, saysOf, Faulty, FirstFaulty, Placed, placedFrom, Breaks, FirstBroken}
+use Rattle.calendar.proofs.VEvents.{vevents-next}
 use Rattle.calendar.proofs.ComponentRules.{keeps-iff}
 use Rattle.calendar.specs.declared.ValueCheck.{ValueCheck}
 use Rattle.calendar.specs.declared.RuleCheck.{RuleCheck}
@@ -90,6 +92,9 @@ told (PropertyValue.Lasts d) = inr (λ n r. refl)
 told (PropertyValue.Repeats x) = inr (λ n r. refl)
 told (PropertyValue.HasStatus x) = inr (λ n r. refl)
 told (PropertyValue.Transparent x) = inr (λ n r. refl)
+told PropertyValue.Uid = inr (λ n r. refl)
+told (PropertyValue.RecurrenceId t) = inr (λ n r. refl)
+told (PropertyValue.HasExceptions f) = inr (λ n r. refl)
 told (PropertyValue.HasPeriods b) = inr (λ n r. refl)
 
 -- a fault hides what comes behind it
@@ -175,33 +180,64 @@ module _ (c : Context) (ks : List Component) (i : ℕ) where
 
 -- ---- 10
 
-broken-found : (c : Context) (i : ℕ) (ks : List Component) → ruleFault c ks ≡ RuleCheck.Broken i → FirstBroken c ks i
-unfolding ruleFault brokenOr Breaks
-broken-found c i [] e = let z : _≡_ {A = ℕ} 0 1 = cc in absurd (omega arith)
-broken-found c i (k ∷ ks) e = go (isBroken c (componentScope k) k) refl (broken-found c i ks)
-  where
-    go : (t : Bool) → isBroken c (componentScope k) k ≡ t → (ruleFault c ks ≡ RuleCheck.Broken i → FirstBroken c ks i) → FirstBroken c (k ∷ ks) i
-    go true q ih =
-        let w : RuleCheck.Broken (k .begin .number) ≡ RuleCheck.Broken i = rw q at e in
-        record { which = k; first = first-here k ks (λ kept. clash q (keeps-iff c k .1 kept)); number = cc }
-    go false q ih =
-        let f = ih (rw q at e) in
-        record { which = f .which; first = first-later k ks (λ b. b (keeps-iff c k .0 q)) (f .first); number = f .number }
+-- the first of the components ks, which stand behind `before`, that breaks a rule
+record BrokenFrom (c : Context) (all before ks : List Component) (i : ℕ) : Type 0 where
+  which : Placed
+  first : First (Breaks c all) (placedFrom before ks) which
+  number : which .component .begin .number ≡ i
 
-found-broken : (c : Context) (i : ℕ) (ks : List Component) → FirstBroken c ks i → ruleFault c ks ≡ RuleCheck.Broken i
-unfolding ruleFault brokenOr Breaks
-found-broken c i [] f = absurd (no-first (f .first))
-found-broken c i (k ∷ ks) f = go (first-cases k ks (f .first)) (isBroken c (componentScope k) k) refl (found-broken c i ks)
-  where
-    go : ((f .which ≡ k) × Breaks c k) ⊎ ((Breaks c k → ⊥) × First (Breaks c) ks (f .which))
-        → (t : Bool) → isBroken c (componentScope k) k ≡ t → (FirstBroken c ks i → ruleFault c ks ≡ RuleCheck.Broken i)
-        → brokenOr (isBroken c (componentScope k) k) (k .begin .number) (ruleFault c ks) ≡ RuleCheck.Broken i
-    go (inl h) true q ih =
-        ap (λ (b : Bool). brokenOr b (k .begin .number) (ruleFault c ks)) q
-        ∙ ap RuleCheck.Broken (ap (λ (y : Component). y .begin .number) (sym (h .0)) ∙ f .number)
-    go (inl h) false q ih = absurd (h .1 (keeps-iff c k .0 q))
-    go (inr h) true q ih = absurd (h .0 (λ kept. clash q (keeps-iff c k .1 kept)))
-    go (inr h) false q ih = rw q (ih (record { which = f .which; first = h .1; number = f .number }))
+module _ (c : Context) (all : List Component) (i : ℕ) where
+  -- what is found from here on
+  abbrev from : List Component → List Component → RuleCheck
+  from before ks = firstFault c (vEvents c before) (vEvents c all) ks
 
+  -- the component k behind `before`
+  abbrev broken : List Component → Component → Bool
+  broken before k = breaksRule c (vEvents c before) (vEvents c all) (componentScope k) k
+
+  from-step : (before : List Component) (k : Component) (ks : List Component)
+      → from before (k ∷ ks) ≡ brokenOr (broken before k) (k .begin .number) (from (before ++ (k ∷ [])) ks)
+  unfolding firstFault
+  from-step before k ks =
+      ap (λ (l : List VEvent). brokenOr (broken before k) (k .begin .number) (firstFault c l (vEvents c all) ks)) (sym (vevents-next c before k))
+
+  broken-found : (before ks : List Component) → from before ks ≡ RuleCheck.Broken i → BrokenFrom c all before ks i
+  unfolding firstFault brokenOr placedFrom Breaks
+  broken-found before [] e = let z : _≡_ {A = ℕ} 0 1 = cc in absurd (omega arith)
+  broken-found before (k ∷ ks) e = go (broken before k) refl (broken-found (before ++ (k ∷ [])) ks) (sym (from-step before k ks) ∙ e)
+    where
+      go : (t : Bool) → broken before k ≡ t → (from (before ++ (k ∷ [])) ks ≡ RuleCheck.Broken i → BrokenFrom c all (before ++ (k ∷ [])) ks i)
+          → brokenOr (broken before k) (k .begin .number) (from (before ++ (k ∷ [])) ks) ≡ RuleCheck.Broken i → BrokenFrom c all before (k ∷ ks) i
+      go true q ih e =
+          let w : RuleCheck.Broken (k .begin .number) ≡ RuleCheck.Broken i = rw q at e in
+          record { which = _; first = first-here _ _ (λ kept. clash q (keeps-iff c before all k .1 kept)); number = cc }
+      go false q ih e =
+          let f = ih (rw q at e) in
+          record { which = f .which; first = first-later _ _ (λ b. b (keeps-iff c before all k .0 q)) (f .first); number = f .number }
+
+  found-broken : (before ks : List Component) → BrokenFrom c all before ks i → from before ks ≡ RuleCheck.Broken i
+  unfolding brokenOr placedFrom Breaks
+  found-broken before [] f = absurd (no-first (f .first))
+  found-broken before (k ∷ ks) f =
+      from-step before k ks ∙ go (first-cases here (placedFrom (before ++ (k ∷ [])) ks) (f .first)) (broken before k) refl (found-broken (before ++ (k ∷ [])) ks)
+    where
+      here : Placed
+      here = record { before = before; component = k }
+
+      go : ((f .which ≡ here) × Breaks c all here) ⊎ ((Breaks c all here → ⊥) × First (Breaks c all) (placedFrom (before ++ (k ∷ [])) ks) (f .which))
+          → (t : Bool) → broken before k ≡ t → (BrokenFrom c all (before ++ (k ∷ [])) ks i → from (before ++ (k ∷ [])) ks ≡ RuleCheck.Broken i)
+          → brokenOr (broken before k) (k .begin .number) (from (before ++ (k ∷ [])) ks) ≡ RuleCheck.Broken i
+      go (inl h) true q ih =
+          ap (λ (b : Bool). brokenOr b (k .begin .number) (from (before ++ (k ∷ [])) ks)) q
+          ∙ ap RuleCheck.Broken (ap (λ (y : Placed). y .component .begin .number) (sym (h .0)) ∙ f .number)
+      go (inl h) false q ih = absurd (h .1 (keeps-iff c before all k .0 q))
+      go (inr h) true q ih = absurd (h .0 (λ kept. clash q (keeps-iff c before all k .1 kept)))
+      go (inr h) false q ih = rw q (ih (record { which = f .which; first = h .1; number = f .number }))
+
+-- THE THEOREM of refusal 10: the line is that of the first component that does not keep its rules beside those before it
 pub broken-iff : (c : Context) (ks : List Component) (i : ℕ) → (ruleFault c ks ≡ RuleCheck.Broken i) ↔ FirstBroken c ks i
-broken-iff c ks i = (broken-found c i ks, found-broken c i ks)
+unfolding ruleFault vEvents
+broken-iff c ks i = (
+  λ e. let f = broken-found c ks i [] ks e in record { which = f .which; first = f .first; number = f .number },
+  λ f. found-broken c ks i [] ks (record { which = f .which; first = f .first; number = f .number }),
+)

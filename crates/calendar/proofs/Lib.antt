@@ -4,3 +4,6 @@ pub mod LineCounts
 pub mod Checks
 pub mod Periods
 pub mod FirstFaults
+pub mod Identities
+pub mod VEvents
+pub mod Passes

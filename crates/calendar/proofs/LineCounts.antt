@@ -11,13 +11,13 @@ use Rattle.ascii.proofs.Names.{sameName-iff}
 use Rattle.line.specs.Grammar.{ContentLine}
 use Rattle.time.specs.Duration.{readDuration}
 use Rattle.values.specs.Rule.{ruleOf}
-use Rattle.values.specs.Times.{timeOf}
+use Rattle.values.specs.Times.{formOf, timeOf}
 use Rattle.values.specs.declared.times.Context.{Context}
-use Rattle.property.specs.Properties.{propertyOf, timeIn, unlessZoned, typeValue, valueAs, beforePeriods, withPeriods, propertyValueOf}
+use Rattle.property.specs.Properties.{propertyOf, timeIn, unlessZoned, typeValue, valueAs, beforeItems, withItems, propertyValueOf}
 use Rattle.property.specs.declared.Scope.{Scope}
 use Rattle.property.specs.declared.Property.{Property}
 use Rattle.property.specs.declared.PropertyValue.{PropertyValue}
-use Rattle.property.proofs.Properties.{start-keeps, end-keeps, duration-keeps, rule-keeps, zoned-keeps, type-keeps, periods-keep}
+use Rattle.property.proofs.Properties.{start-keeps, end-keeps, duration-keeps, rule-keeps, recurrence-keeps, exceptions-keep, ranged-keeps, zoned-keeps, type-keeps, items-keep}
 use Rattle.nesting.specs.Components.{Numbered, Component, propertiesIn}
 use Rattle.events.specs.ComponentRules.{propertyName, countIf, linesNamed}
 use Rattle.calendar.specs.Meaning.{componentScope, propertyValuesIn, faultOr, faultIn, valueFault}
@@ -37,6 +37,9 @@ Good (PropertyValue.Lasts d) = Unit {0}
 Good (PropertyValue.Repeats r) = Unit {0}
 Good (PropertyValue.HasStatus s) = Unit {0}
 Good (PropertyValue.Transparent t) = Unit {0}
+Good PropertyValue.Uid = Unit {0}
+Good (PropertyValue.RecurrenceId t) = Unit {0}
+Good (PropertyValue.HasExceptions f) = Unit {0}
 Good (PropertyValue.HasPeriods b) = Unit {0}
 
 fault-good : (n : ℕ) (s : PropertyValue) (r : ValueCheck) → faultOr n s r ≡ ValueCheck.Good → Good s × (r ≡ ValueCheck.Good)
@@ -50,23 +53,26 @@ fault-good n (PropertyValue.Lasts d) r e = (tt, e)
 fault-good n (PropertyValue.Repeats x) r e = (tt, e)
 fault-good n (PropertyValue.HasStatus x) r e = (tt, e)
 fault-good n (PropertyValue.Transparent x) r e = (tt, e)
+fault-good n PropertyValue.Uid r e = (tt, e)
+fault-good n (PropertyValue.RecurrenceId t) r e = (tt, e)
+fault-good n (PropertyValue.HasExceptions f) r e = (tt, e)
 fault-good n (PropertyValue.HasPeriods b) r e = (tt, e)
 
 -- ---- the name of what a line says, where it is good
 
 module _ (c : Context) (s : Scope) (x : ContentLine) where
   abbrev valueOfLine : Property → PropertyValue
-  valueOfLine p = withPeriods (x .value) (valueAs p c s x)
+  valueOfLine p = withItems c (x .value) (valueAs p c s x)
 
   -- where it is good, it has this name
   abbrev NamedSo : List ℕ → PropertyValue → Type 0
   NamedSo w v = Good v → propertyName v ≡ w
 
-  -- looking at the periods leaves the name
-  named-line : (w : List ℕ) (v : PropertyValue) → NamedSo w v → NamedSo w (withPeriods (x .value) v)
-  named-line w v h = periods-keep (NamedSo w) (λ k. absurd k) (x .value) v h
+  -- looking at the items leaves the name
+  named-line : (w : List ℕ) (v : PropertyValue) → NamedSo w v → NamedSo w (withItems c (x .value) v)
+  named-line w v h = items-keep (NamedSo w) (λ k. absurd k) c (x .value) v h
 
-  named-time : (w : List ℕ) (v : PropertyValue) → NamedSo w v → NamedSo w (withPeriods (x .value) (unlessZoned x v))
+  named-time : (w : List ℕ) (v : PropertyValue) → NamedSo w v → NamedSo w (withItems c (x .value) (unlessZoned x v))
   named-time w v h = named-line w (unlessZoned x v) (zoned-keeps (NamedSo w) (λ k. absurd k) x v h)
 
   start-name : NamedSo (ascii "DTSTART") (valueOfLine Property.Start)
@@ -86,12 +92,23 @@ module _ (c : Context) (s : Scope) (x : ContentLine) where
   rule-name = named-line (ascii "RRULE") _ (rule-keeps (NamedSo (ascii "RRULE")) (λ k. absurd k) (λ k. absurd k) (ruleOf c (x .value)) (λ r e h. refl))
 
   status-name : propertyName (valueOfLine Property.Status) ≡ ascii "STATUS"
-  unfolding valueAs withPeriods propertyName
+  unfolding valueAs withItems propertyName
   status-name = refl
 
   transparency-name : propertyName (valueOfLine Property.Transparency) ≡ ascii "TRANSP"
-  unfolding valueAs withPeriods propertyName
+  unfolding valueAs withItems propertyName
   transparency-name = refl
+
+  recurrence-name : NamedSo (ascii "RECURRENCE-ID") (valueOfLine Property.RecurrenceId)
+  unfolding valueAs propertyName
+  recurrence-name =
+      let so = NamedSo (ascii "RECURRENCE-ID") in
+      named-line (ascii "RECURRENCE-ID") _
+      (ranged-keeps so (λ k. absurd k) x _ (zoned-keeps so (λ k. absurd k) x _ (recurrence-keeps so (λ k. absurd k) (timeOf c x) (λ t e h. refl))))
+
+  exceptions-name : NamedSo (ascii "EXDATE") (valueOfLine Property.Exceptions)
+  unfolding valueAs propertyName
+  exceptions-name = named-time (ascii "EXDATE") _ (exceptions-keep (NamedSo (ascii "EXDATE")) (λ k. absurd k) (formOf x) (λ h. refl))
 
   periods-name : NamedSo (ascii "FREEBUSY") (valueOfLine Property.Periods)
   unfolding valueAs propertyName
@@ -130,53 +147,58 @@ agree n u v p e f =
       transparencies = word-name n u (ascii "TRANSP") v p refl e f;
     }
 
--- one of four tests is the four tests one by one
-four-tests : (a b c d : Bool) (p q : Property) → cond (a || b || c || d) p q ≡ cond a p (cond b p (cond c p (cond d p q)))
-four-tests true b c d p q = refl
-four-tests false true c d p q = refl
-four-tests false false true d p q = refl
-four-tests false false false d p q = refl
+-- one of two tests is the two tests one by one
+two-tests : (a b : Bool) (p q : Property) → cond (a || b) p q ≡ cond a p (cond b p q)
+two-tests true b p q = refl
+two-tests false b p q = refl
 
 -- the property of a name, by its comparisons
-abbrev picked : Bool → Bool → Bool → Bool → Bool → Bool → Bool → Property
-picked s e d r t p u =
+abbrev picked : Bool → Bool → Bool → Bool → Bool → Bool → Bool → Bool → Bool → Property → Property
+picked s e d r t p i m x q =
     cond s Property.Start
     (cond e Property.End
     (cond d Property.Duration
-    (cond r Property.Rule (cond t Property.Status (cond p Property.Transparency (cond u Property.Unsupported Property.Unread))))))
+    (cond r Property.Rule
+    (cond t Property.Status (cond p Property.Transparency (cond i Property.Uid (cond m Property.RecurrenceId (cond x Property.Exceptions q))))))))
 
 module _ (c : Context) (x : ContentLine) where
-  event-agree-by : (s e d r t p u : Bool) → sameName (x .name) (ascii "DTSTART") ≡ s → sameName (x .name) (ascii "DTEND") ≡ e
-      → sameName (x .name) (ascii "DURATION") ≡ d → sameName (x .name) (ascii "RRULE") ≡ r → sameName (x .name) (ascii "STATUS") ≡ t
-      → sameName (x .name) (ascii "TRANSP") ≡ p → Good (valueOfLine c Scope.Event x (picked s e d r t p u))
-      → Agree (x .name) (valueOfLine c Scope.Event x (picked s e d r t p u))
-  unfolding upper valueAs withPeriods propertyName
-  event-agree-by true e d r t p u es ee ed er et ep h = agree (x .name) (ascii "DTSTART") _ refl es (start-name c Scope.Event x h)
-  event-agree-by false true d r t p u es ee ed er et ep h = agree (x .name) (ascii "DTEND") _ refl ee (end-name c Scope.Event x h)
-  event-agree-by false false true r t p u es ee ed er et ep h = agree (x .name) (ascii "DURATION") _ refl ed (duration-name c Scope.Event x h)
-  event-agree-by false false false true t p u es ee ed er et ep h = agree (x .name) (ascii "RRULE") _ refl er (rule-name c Scope.Event x h)
-  event-agree-by false false false false true p u es ee ed er et ep h = agree (x .name) (ascii "STATUS") _ refl et (status-name c Scope.Event x)
-  event-agree-by false false false false false true u es ee ed er et ep h = agree (x .name) (ascii "TRANSP") _ refl ep (transparency-name c Scope.Event x)
-  event-agree-by false false false false false false true es ee ed er et ep h = absurd h
-  event-agree-by false false false false false false false es ee ed er et ep h =
+  abbrev named : List ℕ → Bool
+  named w = sameName (x .name) w
+
+  abbrev AgreesBy : Property → Type 0
+  AgreesBy q = Good (valueOfLine c Scope.Event x q) → Agree (x .name) (valueOfLine c Scope.Event x q)
+
+  event-agree-by : (s e d r t p i m o u : Bool) → named (ascii "DTSTART") ≡ s → named (ascii "DTEND") ≡ e → named (ascii "DURATION") ≡ d → named (ascii "RRULE") ≡ r
+      → named (ascii "STATUS") ≡ t → named (ascii "TRANSP") ≡ p → named (ascii "UID") ≡ i → named (ascii "RECURRENCE-ID") ≡ m → named (ascii "EXDATE") ≡ o
+      → AgreesBy (picked s e d r t p i m o (cond u Property.Unsupported Property.Unread))
+  unfolding upper valueAs withItems propertyName
+  event-agree-by true e d r t p i m o u es ee ed er et ep ei em eo h = agree (x .name) (ascii "DTSTART") _ refl es (start-name c Scope.Event x h)
+  event-agree-by false true d r t p i m o u es ee ed er et ep ei em eo h = agree (x .name) (ascii "DTEND") _ refl ee (end-name c Scope.Event x h)
+  event-agree-by false false true r t p i m o u es ee ed er et ep ei em eo h = agree (x .name) (ascii "DURATION") _ refl ed (duration-name c Scope.Event x h)
+  event-agree-by false false false true t p i m o u es ee ed er et ep ei em eo h = agree (x .name) (ascii "RRULE") _ refl er (rule-name c Scope.Event x h)
+  event-agree-by false false false false true p i m o u es ee ed er et ep ei em eo h = agree (x .name) (ascii "STATUS") _ refl et (status-name c Scope.Event x)
+  event-agree-by false false false false false true i m o u es ee ed er et ep ei em eo h = agree (x .name) (ascii "TRANSP") _ refl ep (transparency-name c Scope.Event x)
+  event-agree-by false false false false false false true m o u es ee ed er et ep ei em eo h = agree (x .name) (ascii "UID") _ refl ei refl
+  event-agree-by false false false false false false false true o u es ee ed er et ep ei em eo h = agree (x .name) (ascii "RECURRENCE-ID") _ refl em (recurrence-name c Scope.Event x h)
+  event-agree-by false false false false false false false false true u es ee ed er et ep ei em eo h = agree (x .name) (ascii "EXDATE") _ refl eo (exceptions-name c Scope.Event x h)
+  event-agree-by false false false false false false false false false true es ee ed er et ep ei em eo h = absurd h
+  event-agree-by false false false false false false false false false false es ee ed er et ep ei em eo h =
       record { starts = sym es; ends = sym ee; durations = sym ed; rules = sym er; statuses = sym et; transparencies = sym ep }
 
   event-agree : Good (propertyValueOf c Scope.Event x) → Agree (x .name) (propertyValueOf c Scope.Event x)
-  unfolding propertyValueOf beforePeriods propertyOf
+  unfolding propertyValueOf beforeItems propertyOf
   event-agree h =
-      let n = x .name in
-      let s = sameName n (ascii "DTSTART") in
-      let e = sameName n (ascii "DTEND") in
-      let d = sameName n (ascii "DURATION") in
-      let r = sameName n (ascii "RRULE") in
-      let t = sameName n (ascii "STATUS") in
-      let p = sameName n (ascii "TRANSP") in
-      let u = sameName n (ascii "RDATE") || sameName n (ascii "EXDATE") || sameName n (ascii "EXRULE") || sameName n (ascii "RECURRENCE-ID") in
-      let one =
-      four-tests (sameName n (ascii "RDATE")) (sameName n (ascii "EXDATE")) (sameName n (ascii "EXRULE")) (sameName n (ascii "RECURRENCE-ID")) Property.Unsupported Property.Unread in
-      subst (λ (q : Property). Good (valueOfLine c Scope.Event x q) → Agree n (valueOfLine c Scope.Event x q))
-      (ap (λ (q : Property). cond s Property.Start (cond e Property.End (cond d Property.Duration (cond r Property.Rule (cond t Property.Status (cond p Property.Transparency q)))))) one)
-      (event-agree-by s e d r t p u refl refl refl refl refl refl) h
+      let s = named (ascii "DTSTART") in
+      let e = named (ascii "DTEND") in
+      let d = named (ascii "DURATION") in
+      let r = named (ascii "RRULE") in
+      let t = named (ascii "STATUS") in
+      let p = named (ascii "TRANSP") in
+      let i = named (ascii "UID") in
+      let m = named (ascii "RECURRENCE-ID") in
+      let o = named (ascii "EXDATE") in
+      subst AgreesBy (ap (picked s e d r t p i m o) (two-tests (named (ascii "RDATE")) (named (ascii "EXRULE")) Property.Unsupported Property.Unread))
+      (event-agree-by s e d r t p i m o (named (ascii "RDATE") || named (ascii "EXRULE")) refl refl refl refl refl refl refl refl refl) h
 
 -- the same in a VFREEBUSY, of DTSTART and DTEND
 record AgreeTimes (n : List ℕ) (v : PropertyValue) : Type 0 where
@@ -191,14 +213,14 @@ module _ (c : Context) (x : ContentLine) where
       → sameName (x .name) (ascii "FREEBUSY") ≡ p
       → Good (valueOfLine c Scope.FreeBusy x (cond s Property.Start (cond e Property.End (cond p Property.Periods Property.Unread))))
       → AgreeTimes (x .name) (valueOfLine c Scope.FreeBusy x (cond s Property.Start (cond e Property.End (cond p Property.Periods Property.Unread))))
-  unfolding upper valueAs withPeriods propertyName
+  unfolding upper valueAs withItems propertyName
   block-agree-by true e p es ee ep h = agree-times (x .name) (ascii "DTSTART") _ refl es (start-name c Scope.FreeBusy x h)
   block-agree-by false true p es ee ep h = agree-times (x .name) (ascii "DTEND") _ refl ee (end-name c Scope.FreeBusy x h)
   block-agree-by false false true es ee ep h = agree-times (x .name) (ascii "FREEBUSY") _ refl ep (periods-name c Scope.FreeBusy x h)
   block-agree-by false false false es ee ep h = record { starts = sym es; ends = sym ee }
 
   block-agree : Good (propertyValueOf c Scope.FreeBusy x) → AgreeTimes (x .name) (propertyValueOf c Scope.FreeBusy x)
-  unfolding propertyValueOf beforePeriods propertyOf
+  unfolding propertyValueOf beforeItems propertyOf
   block-agree h =
       block-agree-by (sameName (x .name) (ascii "DTSTART")) (sameName (x .name) (ascii "DTEND")) (sameName (x .name) (ascii "FREEBUSY")) refl refl refl h
 

@@ -1,5 +1,5 @@
--- Refusal 10 (document 01, Events and blocks), for the reader: what it means that a component keeps its rules.
--- Tied to `isBroken` in proofs/ComponentRules.antt; the first component that does not keep them is in FirstFaults.
+-- Refusal 10 (document 01, Events and blocks; requests R-1 and R-3), for the reader: what it means that a component keeps its rules.
+-- Tied to `breaksRule` in proofs/ComponentRules.antt; the first component that does not keep them is in FirstFaults.
 use Prim.Native.Nat.{ℕ}
 use mathlib.Core.Path.{_≡_}
 use mathlib.Core.List.{List, [], _∷_}
@@ -10,17 +10,26 @@ use Rattle.property.specs.declared.Scope.{Scope}
 use Rattle.property.specs.declared.PropertyValue.{PropertyValue}
 use Rattle.nesting.specs.Components.{Numbered, Component, propertiesIn}
 use Rattle.events.specs.ComponentRules.{countIf, linesNamed, EventRules, BlockRules}
-use Rattle.calendar.specs.Meaning.{componentScope, propertyValuesIn}
+use Rattle.overrides.specs.VEvents.{VEvent}
+use Rattle.overrides.specs.Keeping.{Keeps as KeepsTied}
+use Rattle.calendar.specs.Meaning.{componentScope, propertyValuesIn, vEventOf, vEvents}
+
+-- a VEVENT, behind the VEVENTs `before`, in a file of these all
+pub record VEventRules (c : Context) (before all : List VEvent) (k : Component) : Type 0 where
+  -- its lines keep the rules of document 01
+  pub lines : EventRules (propertyValuesIn c Scope.Event (propertiesIn (k .items)))
+  -- and it keeps those of R-3, by itself and beside others
+  pub tied : KeepsTied before all (vEventOf c k)
 
 -- a VEVENT and a VFREEBUSY have rules, any other component has none
-abbrev pub KeepsAs : Context → Scope → Component → Type 0
-KeepsAs c Scope.Event k = EventRules (propertyValuesIn c Scope.Event (propertiesIn (k .items)))
-KeepsAs c Scope.FreeBusy k = BlockRules (propertyValuesIn c Scope.FreeBusy (propertiesIn (k .items)))
-KeepsAs c Scope.Other k = Unit {0}
+abbrev pub KeepsAs : Context → List VEvent → List VEvent → Scope → Component → Type 0
+KeepsAs c before all Scope.Event k = VEventRules c before all k
+KeepsAs c before all Scope.FreeBusy k = BlockRules (propertyValuesIn c Scope.FreeBusy (propertiesIn (k .items)))
+KeepsAs c before all Scope.Other k = Unit {0}
 
--- the component keeps the rules that its name asks for
-abbrev pub Keeps : Context → Component → Type 0
-Keeps c k = KeepsAs c (componentScope k) k
+-- the component, behind the components `before`, in a file of these all, keeps the rules that its name asks for
+abbrev pub Keeps : Context → List Component → List Component → Component → Type 0
+Keeps c before all k = KeepsAs c (vEvents c before) (vEvents c all) (componentScope k) k
 
 -- ---- the counts in these rules are counts of lines by their names, since 8 and 9 are given before 10: proofs/LineCounts.antt
 

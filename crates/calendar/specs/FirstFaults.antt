@@ -52,12 +52,22 @@ pub record FirstFaulty (c : Context) (fault : PropertyValue) (ks : List Componen
 
 -- ---- 10
 
--- it does not keep the rules that its name asks for
-unfoldable pub Breaks : Context → Component → Type 0
-Breaks c k = Keeps c k → ⊥
+-- a component, and those before it in the file
+pub record Placed : Type 0 where
+  pub before : List Component
+  pub component : Component
 
--- the component that begins at line i is the first that breaks a rule
+-- each of some components, which stand behind `before`
+unfoldable pub placedFrom : List Component → List Component → List Placed
+placedFrom before [] = []
+placedFrom before (k ∷ ks) = record { before = before; component = k } ∷ placedFrom (before ++ (k ∷ [])) ks
+
+-- in a file of these all, it does not keep the rules that its name asks for
+unfoldable pub Breaks : Context → List Component → Placed → Type 0
+Breaks c all p = Keeps c (p .before) all (p .component) → ⊥
+
+-- the component that begins at line i is the first that breaks a rule, each asked beside those before it
 pub record FirstBroken (c : Context) (ks : List Component) (i : ℕ) : Type 0 where
-  pub which : Component
-  pub first : First (Breaks c) ks which
-  pub number : which .begin .number ≡ i
+  pub which : Placed
+  pub first : First (Breaks c ks) (placedFrom [] ks) which
+  pub number : which .component .begin .number ≡ i

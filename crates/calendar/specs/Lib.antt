@@ -3,3 +3,5 @@ pub mod ComponentRules
 pub mod Checks
 pub mod Periods
 pub mod FirstFaults
+pub mod Identities
+pub mod Passes

@@ -21,6 +21,10 @@ use Rattle.events.specs.Events.{eventBy, blockBy, Entry, event, block}
 use Rattle.events.specs.declared.Event.{Event}
 use Rattle.events.specs.declared.EventRead.{EventRead}
 use Rattle.events.specs.declared.BlockRead.{BlockRead}
+use Rattle.overrides.specs.VEvents.{VEvent}
+use Rattle.overrides.specs.Instances.{removedFrom as startsRemoved}
+use Rattle.overrides.specs.Rules.{breaks}
+use Rattle.calendar.specs.Identities.{identityOf}
 use Rattle.calendar.specs.declared.ValueCheck.{ValueCheck}
 use Rattle.calendar.specs.declared.RuleCheck.{RuleCheck}
 use Rattle.calendar.specs.declared.Fault.{Fault}
@@ -50,6 +54,9 @@ faultOr n (PropertyValue.Lasts d) r = r
 faultOr n (PropertyValue.Repeats x) r = r
 faultOr n (PropertyValue.HasStatus x) r = r
 faultOr n (PropertyValue.Transparent x) r = r
+faultOr n PropertyValue.Uid r = r
+faultOr n (PropertyValue.RecurrenceId t) r = r
+faultOr n (PropertyValue.HasExceptions f) r = r
 faultOr n (PropertyValue.HasPeriods b) r = r
 
 -- the lines of one component, and then what is to follow
@@ -61,7 +68,7 @@ unfoldable pub valueFault : Context → List Component → ValueCheck
 valueFault c [] = ValueCheck.Good
 valueFault c (k ∷ ks) = faultIn c (componentScope k) (propertiesIn (k .items)) (valueFault c ks)
 
--- ---- 10: the first component in file order that breaks a rule
+-- ---- events, blocks, and the VEVENTs of a calendar
 
 unfoldable pub eventOf : Context → Component → EventRead
 eventOf c k = eventBy (withProperties noProperties (propertyValuesIn c Scope.Event (propertiesIn (k .items))))
@@ -69,27 +76,53 @@ eventOf c k = eventBy (withProperties noProperties (propertyValuesIn c Scope.Eve
 unfoldable pub blockOf : Context → Component → BlockRead
 blockOf c k = blockBy (withProperties noProperties (propertyValuesIn c Scope.FreeBusy (propertiesIn (k .items))))
 
-abbrev pub eventBroken : EventRead → Bool
-eventBroken (EventRead.Of e) = false
-eventBroken EventRead.Broken = true
+-- a VEVENT: its event, and what ties it to others
+unfoldable pub vEventOf : Context → Component → VEvent
+vEventOf c k =
+    record {
+      begin = k .begin .number;
+      uids = identityOf c k .uids;
+      recurrenceIds = identityOf c k .recurrenceIds;
+      exceptions = identityOf c k .exceptions;
+      event = eventOf c k;
+    }
+
+-- that of a component, if it is one
+unfoldable pub vEventsAs : Context → Scope → Component → List VEvent
+vEventsAs c Scope.Event k = vEventOf c k ∷ []
+vEventsAs c Scope.FreeBusy k = []
+vEventsAs c Scope.Other k = []
+
+-- those of some components, in file order
+unfoldable pub vEvents : Context → List Component → List VEvent
+vEvents c [] = []
+vEvents c (k ∷ ks) = vEventsAs c (componentScope k) k ++ vEvents c ks
+
+-- ---- 10: the first component in file order that breaks a rule
 
 abbrev pub blockBroken : BlockRead → Bool
 blockBroken (BlockRead.Of b) = false
 blockBroken BlockRead.Broken = true
 
-unfoldable pub isBroken : Context → Scope → Component → Bool
-isBroken c Scope.Event k = eventBroken (eventOf c k)
-isBroken c Scope.FreeBusy k = blockBroken (blockOf c k)
-isBroken c Scope.Other k = false
+-- a VEVENT is asked beside the VEVENTs before it and all of the file, a VFREEBUSY by itself
+unfoldable pub breaksRule : Context → List VEvent → List VEvent → Scope → Component → Bool
+breaksRule c before all Scope.Event k = breaks before all (vEventOf c k)
+breaksRule c before all Scope.FreeBusy k = blockBroken (blockOf c k)
+breaksRule c before all Scope.Other k = false
 
 unfoldable pub brokenOr : Bool → ℕ → RuleCheck → RuleCheck
 brokenOr true n r = RuleCheck.Broken n
 brokenOr false n r = r
 
--- a broken component is named by its BEGIN line
+-- of components that stand behind the VEVENTs `before`; a broken one is named by its BEGIN line
+unfoldable pub firstFault : Context → List VEvent → List VEvent → List Component → RuleCheck
+firstFault c before all [] = RuleCheck.Good
+firstFault c before all (k ∷ ks) =
+    brokenOr (breaksRule c before all (componentScope k) k) (k .begin .number) (firstFault c (before ++ vEventsAs c (componentScope k) k) all ks)
+
+-- of a whole file
 unfoldable pub ruleFault : Context → List Component → RuleCheck
-ruleFault c [] = RuleCheck.Good
-ruleFault c (k ∷ ks) = brokenOr (isBroken c (componentScope k) k) (k .begin .number) (ruleFault c ks)
+ruleFault c ks = firstFault c [] (vEvents c ks) ks
 
 -- ---- the meaning
 
@@ -104,6 +137,9 @@ periodsBy (PropertyValue.Lasts d) x = []
 periodsBy (PropertyValue.Repeats r) x = []
 periodsBy (PropertyValue.HasStatus s) x = []
 periodsBy (PropertyValue.Transparent t) x = []
+periodsBy PropertyValue.Uid x = []
+periodsBy (PropertyValue.RecurrenceId t) x = []
+periodsBy (PropertyValue.HasExceptions f) x = []
 periodsBy (PropertyValue.HasPeriods b) x = typed b (goodPeriods (periodItems (x .value)))
 
 -- the periods of a block, in file order
@@ -111,9 +147,15 @@ unfoldable pub blockPeriods : Context → List Numbered → List BusyPeriod
 blockPeriods c [] = []
 blockPeriods c (x ∷ xs) = periodsBy (propertyValueOf c Scope.FreeBusy (x .line)) (x .line) ++ blockPeriods c xs
 
--- the starts that are taken away from an event, by all the components of its calendar: no property that is read takes one away
+-- the starts that are taken away from a VEVENT by itself and by others of its file; nothing else has any
+unfoldable pub removedAs : Context → List VEvent → Scope → Component → List ℕ
+removedAs c all Scope.Event k = startsRemoved all (vEventOf c k)
+removedAs c all Scope.FreeBusy k = []
+removedAs c all Scope.Other k = []
+
+-- by all the components of its calendar
 unfoldable pub removedFrom : Context → List Component → Component → List ℕ
-removedFrom c all k = []
+removedFrom c all k = removedAs c (vEvents c all) (componentScope k) k
 
 abbrev pub eventEntry : EventRead → List ℕ → List Entry
 eventEntry (EventRead.Of e) gone = event e gone ∷ []

@@ -42,8 +42,9 @@ use Rattle.refusals.proofs.Offsets.{read-out, shift-bound, offset-given}
 use Rattle.refusals.proofs.Refusals.{row-applies, row-passed, structure-passed, structure-refused, contents-passed, contents-refused}
 use Rattle.structure.specs.Reading.{StructureRead}
 use Rattle.nesting.specs.declared.Structure.{Structure}
-use Rattle.contents.specs.Contents.{ContentsAre}
-use Rattle.contents.specs.declared.ContentsRead.{ContentsRead}
+use Rattle.contents.specs.Contents.{EntryTerms}
+use Rattle.contents.specs.Walks.{WalksTell}
+use Rattle.contents.specs.declared.walks.WalksRead.{WalksRead}
 use Rattle.contents.proofs.Contents.{structure-found}
 use Rattle.tables.specs.Building.{periodsAt, BuiltAt}
 use Rattle.tables.proofs.Building.{built-stored, periods-few}
@@ -219,13 +220,13 @@ unfolding busyPieces busyPeriods
 all-pieces a e es x y = stored-as (stored-then x y) (sym (piecesOf-append a e (gathered statedPeriods es) (gathered instancePeriods es)))
 
 -- room and number for the pieces of events
-pub stated-room : {c : Context} {u rows : List ℕ} {a e : ℕ} {o o′ entries : List ℕ} {x : ContentsRead} → ContentsAre c u rows a e o o′ entries x → x .fault ≡ Fault.None
-    → Room o → Room o′ × (x .count ≤ 513)
+pub stated-room : {c : Context} {u index rows : List ℕ} {a e : ℕ} {o : List ℕ} {new : EntryTerms} {x : WalksRead} → WalksTell c u index rows a e o new x → x .fault ≡ Fault.None
+    → Room o → Room (new .pieces) × (x .count ≤ 513)
 stated-room k q l = (stored-long (k .stored q) ∙ l, stored-few (k .stored q) (omega arith))
 
 -- ---- refusals 8 to 11, then the tables
 
-module _ {c : Context} {u rows : List ℕ} {a e : ℕ} {o o′ entries : List ℕ} {x : ContentsRead} (k : ContentsAre c u rows a e o o′ entries x) {r : Collected} {us vs : List ℕ} where
+module _ {c : Context} {u index rows : List ℕ} {a e : ℕ} {o : List ℕ} {new : EntryTerms} {x : WalksRead} (k : WalksTell c u index rows a e o new x) {r : Collected} {us vs : List ℕ} where
   pub contents-refuse : {n i : ℕ} → x .fault ≡ Fault.At n i → r ≡ noTables (Fault.At n i) → ContentsTabled c u a e r us vs
   contents-refuse q w = tabled-refused (contents-refused c u _ (sym (k .fault-is) ∙ q)) w
 
@@ -233,7 +234,7 @@ module _ {c : Context} {u rows : List ℕ} {a e : ℕ} {o o′ entries : List �
     contents-pass : Tabled (pieceRows c u a e) (fewestPeriods a e (entriesOf c (componentsOf u))) r us vs → ContentsTabled c u a e r us vs
     contents-pass t = tabled-passed (contents-passed c u _ (sym (k .fault-is) ∙ q)) t
 
-    module _ {o″ : List ℕ} {n : ℕ} (d : Stored o′ (x .count) (piecesOf a e (gathered instancePeriods (entriesOf c (componentsOf u)))) o″ n) where
+    module _ {o″ : List ℕ} {n : ℕ} (d : Stored (new .pieces) (x .count) (piecesOf a e (gathered instancePeriods (entriesOf c (componentsOf u)))) o″ n) where
       pub contents-many : 512 < n → r ≡ noTables (Fault.At 11 0) → ContentsTabled c u a e r us vs
       unfolding pieceRows
       contents-many m w = contents-pass (tabled-refused (stored-many a e _ (all-pieces a e _ (k .stored q) d) m) w)

@@ -2,6 +2,7 @@
 // Nothing is written but the work buffer and the columns of the tables.
 use calendar::Fault;
 use contents::instances;
+use contents::walks;
 use nesting::Structure;
 use refusals::OffsetRead;
 use structure::Found;
@@ -9,9 +10,8 @@ use time::limits;
 use values::times::Context;
 ghost use mathlib.Core.Path.{_≡_};
 ghost use Prim.Native.Nat.{_*_, _≤_, _<_};
-ghost use lib.ListN.{length, getD};
+ghost use lib.ListN.{length};
 ghost use Rattle.pieces.specs.Columns.{Room};
-ghost use Rattle.contents.specs.Removed.{RemovedRows};
 ghost use Rattle.values.specs.Times.{ContextGood};
 ghost use Rattle.time.specs.Limits.{lastSecond};
 ghost use Rattle.collecting.specs.Collecting.{Collects};
@@ -68,14 +68,14 @@ fn tables_of(starts: &mut [u32], ends: &mut [u32], column: &[u32], n: usize) -> 
     }
 }
 
-// Refusals 8 to 11, then the tables: the pieces are stored in the column, events and blocks in rows of numbers.
+// Refusals 8 to 11, then the tables: the pieces are stored in the column, events and blocks in rows of numbers, with what ties events to each other.
 fn collect_stored(
     starts: &mut [u32],
     ends: &mut [u32],
     column: &mut [u32],
     entries: &mut [u64],
-    places: &[u32],
-    removed: &[u32],
+    exceptions: &mut [u32],
+    links: &mut [u32],
     s: &[u8],
     index: &[u32],
     rows: &[u32],
@@ -86,24 +86,36 @@ fn collect_stored(
     requires { ⌜ (length (now starts) ≡ 512) × (length (now ends) ≡ 512) ⌝ }
     requires { ⌜ Room (now column) ⌝ }
     requires { ⌜ length (now entries) ≡ 3072 ⌝ }
-    requires { ⌜ RemovedRows c (now s) (now rows) (now places) (now removed) (getD (now rows) 2 0) ⌝ }
+    requires { ⌜ length (now links) ≡ 2048 ⌝ }
+    requires { ⌜ (length (now s) ≤ 8 * length (now exceptions)) × (length (now exceptions) ≤ 8193) ⌝ }
     requires { ⌜ ContextGood c ⌝ }
     requires { ⌜ FileRows (now s) (now index) (now rows) ⌝ }
     requires { ⌜ (start < end) × (end ≤ lastSecond) ⌝ }
     ensures { λ r. ⌜ ContentsTabled c (now (s .entry)) start end r (now (starts .exit)) (now (ends .exit)) ⌝ }
 {
-    let read = contents::read_contents(column, entries, s, index, rows, c, start, end);
+    let read = walks::read_components(
+        column,
+        entries,
+        exceptions,
+        links,
+        s,
+        index,
+        rows,
+        c,
+        start,
+        end,
+    );
     let f = read.fault;
     let stated = read.count;
     match f {
         Fault::At(k, line) => refused(Fault::At(k, line)),
         Fault::None => {
-            let n = instances::store_events(
+            let n = instances::store_instances(
                 column,
                 stated,
                 entries,
-                places,
-                removed,
+                links,
+                exceptions,
                 s,
                 index,
                 rows,
@@ -119,7 +131,45 @@ fn collect_stored(
     }
 }
 
-// The same with memory of its own: room for 513 pieces of three numbers, and for 256 rows of twelve. No start is taken away from any event.
+// The same with memory of its own: room for 513 pieces of three numbers, for 256 rows of twelve, and for as many links of eight.
+fn collect_excepted(
+    starts: &mut [u32],
+    ends: &mut [u32],
+    exceptions: &mut [u32],
+    s: &[u8],
+    index: &[u32],
+    rows: &[u32],
+    c: Context,
+    start: u64,
+    end: u64,
+) -> Collected
+    requires { ⌜ (length (now starts) ≡ 512) × (length (now ends) ≡ 512) ⌝ }
+    requires { ⌜ (length (now s) ≤ 8 * length (now exceptions)) × (length (now exceptions) ≤ 8193) ⌝ }
+    requires { ⌜ ContextGood c ⌝ }
+    requires { ⌜ FileRows (now s) (now index) (now rows) ⌝ }
+    requires { ⌜ (start < end) × (end ≤ lastSecond) ⌝ }
+    ensures { λ r. ⌜ ContentsTabled c (now (s .entry)) start end r (now (starts .exit)) (now (ends .exit)) ⌝ }
+{
+    let mut column = [0u32; 1539];
+    let mut entries = [0u64; 3072];
+    let mut links = [0u32; 2048];
+    collect_stored(
+        starts,
+        ends,
+        &mut column,
+        &mut entries,
+        exceptions,
+        &mut links,
+        s,
+        index,
+        rows,
+        c,
+        start,
+        end,
+    )
+}
+
+// An exception has eight bytes of the calendar at least, so a short one gets short memory for them.
 fn collect_contents(
     starts: &mut [u32],
     ends: &mut [u32],
@@ -131,29 +181,18 @@ fn collect_contents(
     end: u64,
 ) -> Collected
     requires { ⌜ (length (now starts) ≡ 512) × (length (now ends) ≡ 512) ⌝ }
+    requires { ⌜ length (now s) ≤ 65536 ⌝ }
     requires { ⌜ ContextGood c ⌝ }
     requires { ⌜ FileRows (now s) (now index) (now rows) ⌝ }
     requires { ⌜ (start < end) × (end ≤ lastSecond) ⌝ }
     ensures { λ r. ⌜ ContentsTabled c (now (s .entry)) start end r (now (starts .exit)) (now (ends .exit)) ⌝ }
 {
-    let mut column = [0u32; 1539];
-    let mut entries = [0u64; 3072];
-    let places = [0u32; 257];
-    let removed = [0u32; 1];
-    collect_stored(
-        starts,
-        ends,
-        &mut column,
-        &mut entries,
-        &places,
-        &removed,
-        s,
-        index,
-        rows,
-        c,
-        start,
-        end,
-    )
+    if s.len() <= 8192 {
+        let mut exceptions = [0u32; 1025];
+        return collect_excepted(starts, ends, &mut exceptions, s, index, rows, c, start, end);
+    }
+    let mut exceptions = [0u32; 8193];
+    collect_excepted(starts, ends, &mut exceptions, s, index, rows, c, start, end)
 }
 
 // Refusals 6 to 11, then the tables, where this was read of lines and nesting.
@@ -169,6 +208,7 @@ fn collect_structured(
     end: u64,
 ) -> Collected
     requires { ⌜ (length (now starts) ≡ 512) × (length (now ends) ≡ 512) ⌝ }
+    requires { ⌜ length (now s) ≤ 65536 ⌝ }
     requires { ⌜ StructureRead (now s) (now index) (now rows) structure ⌝ }
     requires { ⌜ ContextGood c ⌝ }
     requires { ⌜ (start < end) × (end ≤ lastSecond) ⌝ }

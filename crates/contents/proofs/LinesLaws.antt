@@ -8,11 +8,14 @@ use lib.ListN.{getD}
 use Rattle.line.specs.Grammar.{ContentLine}
 use Rattle.line.specs.Reading.{lineOf, valueOf}
 use Rattle.values.specs.Period.{periodItems, allPeriods}
+use Rattle.values.specs.TimeLists.{timeItems, allTimes}
 use Rattle.values.specs.declared.times.Context.{Context}
+use Rattle.values.specs.declared.times.Form.{Form}
+use Rattle.values.specs.declared.times.Time.{Time}
 use Rattle.periods.specs.declared.BusyType.{BusyType}
 use Rattle.periods.specs.declared.Period.{Period}
 use Rattle.periods.specs.BusyTypes.{BusyPeriod, typed}
-use Rattle.property.specs.Properties.{beforePeriods, withPeriods, propertyValueOf, givesPeriods}
+use Rattle.property.specs.Properties.{beforeItems, withItems, propertyValueOf, givesPeriods}
 use Rattle.property.specs.declared.PropertyValue.{PropertyValue}
 use Rattle.property.specs.declared.Scope.{Scope}
 use Rattle.property.proofs.Properties.{event-periods}
@@ -32,6 +35,8 @@ use Rattle.pieces.specs.Pieces.{piecesOf}
 use Rattle.pieces.specs.Columns.{Room}
 use Rattle.pieces.proofs.Pieces.{piecesOf-none, piecesOf-append}
 use Rattle.contents.specs.Lines.{together, linesFault, periodsIn, valuePeriods, ValueIs, LinesGood, LinesAre, good, unsupported, bad}
+use Rattle.identities.specs.declared.IdentityRead.{IdentityRead}
+use Rattle.contents.specs.Identities.{LinesTie}
 use Rattle.contents.specs.declared.lines.LinesRead.{LinesRead}
 use Rattle.contents.specs.declared.lines.ValueStored.{ValueStored}
 use Rattle.contents.proofs.LinesStoring.{Left, left-start, left-then, left-same, left-none, value-stored, value-unread}
@@ -49,12 +54,15 @@ Plain (PropertyValue.Lasts d) = Unit
 Plain (PropertyValue.Repeats r) = Unit
 Plain (PropertyValue.HasStatus x) = Unit
 Plain (PropertyValue.Transparent x) = Unit
+Plain PropertyValue.Uid = Unit
+Plain (PropertyValue.RecurrenceId t) = Unit
+Plain (PropertyValue.HasExceptions f) = ⊥
 Plain (PropertyValue.HasPeriods y) = ⊥
 
-module _ (n : ℕ) (r : ValueCheck) (x : ContentLine) (w : List ℕ) where
+module _ (n : ℕ) (r : ValueCheck) (x : ContentLine) (c : Context) (w : List ℕ) where
   -- it is no fault, gives no period, and stays as it is
-  plain-so : (v : PropertyValue) → Plain v → (faultOr n v r ≡ r) × (periodsBy v x ≡ []) × (withPeriods w v ≡ v)
-  unfolding faultOr periodsBy withPeriods
+  plain-so : (v : PropertyValue) → Plain v → (faultOr n v r ≡ r) × (periodsBy v x ≡ []) × (withItems c w v ≡ v)
+  unfolding faultOr periodsBy withItems
   plain-so PropertyValue.Nothing p = (refl, refl, refl)
   plain-so PropertyValue.Unsupported p = absurd p
   plain-so PropertyValue.Bad p = absurd p
@@ -64,29 +72,41 @@ module _ (n : ℕ) (r : ValueCheck) (x : ContentLine) (w : List ℕ) where
   plain-so (PropertyValue.Repeats q) p = (refl, refl, refl)
   plain-so (PropertyValue.HasStatus s) p = (refl, refl, refl)
   plain-so (PropertyValue.Transparent t) p = (refl, refl, refl)
+  plain-so PropertyValue.Uid p = (refl, refl, refl)
+  plain-so (PropertyValue.RecurrenceId t) p = (refl, refl, refl)
+  plain-so (PropertyValue.HasExceptions f) p = absurd p
   plain-so (PropertyValue.HasPeriods y) p = absurd p
 
 pub nothing-said : (g : ComponentProperties) → g ≡ withProperty g PropertyValue.Nothing
 unfolding withProperty
 nothing-said g = refl
 
+-- neither UID nor RECURRENCE-ID is a part of the event
+pub uid-said : (g : ComponentProperties) → g ≡ withProperty g PropertyValue.Uid
+unfolding withProperty
+uid-said g = refl
+
+pub recurrence-said : (g : ComponentProperties) (t : Time) → g ≡ withProperty g (PropertyValue.RecurrenceId t)
+unfolding withProperty
+recurrence-said g t = refl
+
 -- what a line says, by what it says before its periods are looked at
-module _ (c : Context) (o : Scope) (l : List ℕ) {u : PropertyValue} (q : u ≡ beforePeriods c o (lineOf l)) where
-  value-as : (v : PropertyValue) → u ≡ v → propertyValueOf c o (lineOf l) ≡ withPeriods (valueOf l) v
+module _ (c : Context) (o : Scope) (l : List ℕ) {u : PropertyValue} (q : u ≡ beforeItems c o (lineOf l)) where
+  value-as : (v : PropertyValue) → u ≡ v → propertyValueOf c o (lineOf l) ≡ withItems c (valueOf l) v
   unfolding propertyValueOf lineOf
-  value-as v e = ap (withPeriods (valueOf l)) (sym q ∙ e)
+  value-as v e = ap (withItems c (valueOf l)) (sym q ∙ e)
 
   value-unsupported : u ≡ PropertyValue.Unsupported → propertyValueOf c o (lineOf l) ≡ PropertyValue.Unsupported
-  unfolding withPeriods
+  unfolding withItems
   value-unsupported e = value-as PropertyValue.Unsupported e
 
   value-bad : u ≡ PropertyValue.Bad → propertyValueOf c o (lineOf l) ≡ PropertyValue.Bad
-  unfolding withPeriods
+  unfolding withItems
   value-bad e = value-as PropertyValue.Bad e
 
   module _ (y : BusyType) (e : u ≡ PropertyValue.HasPeriods y) {w : List ℕ} (f : w ≡ valueOf l) where
     periods-by : (t : Bool) → allPeriods (periodItems w) ≡ t → propertyValueOf c o (lineOf l) ≡ cond t (PropertyValue.HasPeriods y) PropertyValue.Bad
-    unfolding withPeriods
+    unfolding withItems
     periods-by t h =
         value-as (PropertyValue.HasPeriods y) e
         ∙ ap (λ (k : Bool). cond k (PropertyValue.HasPeriods y) PropertyValue.Bad) (ap (λ (k : List ℕ). allPeriods (periodItems k)) (sym f) ∙ h)
@@ -98,15 +118,15 @@ abbrev pub propertiesBy : List ℕ → ℕ → List Numbered
 propertiesBy s i = propertiesIn (itemsBy s i)
 
 module _ {s rows : List ℕ} {i row j m : ℕ} where
-  next-property : PropertyAt s rows i row j m → propertiesBy s i ≡ numberedLine s i ∷ propertiesBy s (i + 1)
+  pub next-property : PropertyAt s rows i row j m → propertiesBy s i ≡ numberedLine s i ∷ propertiesBy s (i + 1)
   unfolding propertiesIn
   next-property h = ap propertiesIn (h .items)
 
-  next-inner : {next after : ℕ} → InnerAt s rows i row j m next after → propertiesBy s i ≡ propertiesBy s next
+  pub next-inner : {next after : ℕ} → InnerAt s rows i row j m next after → propertiesBy s i ≡ propertiesBy s next
   unfolding propertiesIn
   next-inner h = ap propertiesIn (h .items)
 
-no-properties : (s : List ℕ) (i : ℕ) → itemsBy s i ≡ Items.none → propertiesBy s i ≡ []
+pub no-properties : (s : List ℕ) (i : ℕ) → itemsBy s i ≡ Items.none → propertiesBy s i ≡ []
 unfolding propertiesIn
 no-properties s i h = ap propertiesIn h
 
@@ -125,7 +145,7 @@ pub record LineHere (c : Context) (t : Scope) (s rows : List ℕ) (xs : List Num
   pub reading : ReadingLines c t s rows xs a b o₀ n₀ o n g i row j m
   pub here : PropertyAt s rows i row j m
   pub line : l ≡ lineBytes s i
-  pub value : u ≡ beforePeriods c t (lineOf l)
+  pub value : u ≡ beforeItems c t (lineOf l)
 
 module _ (c : Context) (t : Scope) {s rows : List ℕ} {k : ℕ} (r : RowOf s rows k) (a b : ℕ) {o : List ℕ} {n : ℕ} (room : Room o) (few : n ≤ 513) where
   pub reading-start : {g : ComponentProperties} (first behind last : ℕ) → g ≡ noProperties → first ≡ getD rows (4 * k) 0 → behind ≡ getD rows (4 * k + 1) 0
@@ -153,23 +173,22 @@ module _ {c : Context} {t : Scope} {s rows : List ℕ} {xs : List Numbered} {a b
         still = left-same (z .still) (ap (λ (ys : List Numbered). piecesOf a b (periodsIn c t ys)) (next-inner h));
       }
 
-  pub reading-done : {r : Item} → r ≡ itemBy rows i row j m → r ≡ Item.Done → LinesAre c t xs a b o₀ n₀ o (LinesRead.Of g n)
+  pub reading-done : {r : Item} → r ≡ itemBy rows i row j m → r ≡ Item.Done → LinesGood c t xs a b o₀ n₀ o g n
   unfolding linesFault faultIn withProperties propertyValuesIn periodsIn
   reading-done q e =
       let h = no-properties s i (no-item-at (z .items) q e) in
-      good
-      (record {
+      record {
         no-fault = sym (z .fault) ∙ ap (linesFault c t) h;
         say = ap (λ (ys : List Numbered). withProperties g (propertyValuesIn c t ys)) (sym h) ∙ z .say;
         stored = left-none (z .still) (ap (λ (ys : List Numbered). piecesOf a b (periodsIn c t ys)) h ∙ piecesOf-none a b);
-      })
+      }
 
   -- the line of a property is known to the index
   pub line-entry : {r : Item} {index : List ℕ} → r ≡ itemBy rows i row j m → r ≡ Item.Property → Indexed s index → Entry s index i
   line-entry q e x = x .entries i (property-at (z .items) q e .inside)
 
   -- its value is read
-  pub line-read : {r : Item} {l : List ℕ} {u : PropertyValue} → r ≡ itemBy rows i row j m → r ≡ Item.Property → l ≡ lineBytes s i → u ≡ beforePeriods c t (lineOf l)
+  pub line-read : {r : Item} {l : List ℕ} {u : PropertyValue} → r ≡ itemBy rows i row j m → r ≡ Item.Property → l ≡ lineBytes s i → u ≡ beforeItems c t (lineOf l)
       → LineHere c t s rows xs a b o₀ n₀ o n g i row j m l u
   line-read q e p f = record { reading = z; here = property-at (z .items) q e; line = p; value = f }
 
@@ -203,17 +222,17 @@ module _ {c : Context} {t : Scope} {s rows : List ℕ} {xs : List Numbered} {a b
         ∙ ap (λ (y : PropertyValue). piecesOf a b (periodsBy y (lineOf l) ++ periodsIn c t (propertiesBy s (i + 1)))) q
         ∙ piecesOf-append a b (periodsBy v (lineOf l)) (periodsIn c t (propertiesBy s (i + 1)))
 
-  pub reading-unsupported : (o′ : List ℕ) → u ≡ PropertyValue.Unsupported → LinesAre c t xs a b o₀ n₀ o′ (LinesRead.Unsupported (i + 1))
+  pub reading-unsupported : u ≡ PropertyValue.Unsupported → linesFault c t xs ≡ ValueCheck.Unsupported (i + 1)
   unfolding faultOr
-  reading-unsupported o′ e = unsupported (sym (fault-here (value-unsupported c t l (z .value) e)))
+  reading-unsupported e = sym (fault-here (value-unsupported c t l (z .value) e))
 
-  pub reading-bad : (o′ : List ℕ) → u ≡ PropertyValue.Bad → LinesAre c t xs a b o₀ n₀ o′ (LinesRead.Bad (i + 1))
+  pub reading-bad : u ≡ PropertyValue.Bad → linesFault c t xs ≡ ValueCheck.Bad (i + 1)
   unfolding faultOr
-  reading-bad o′ e = bad (sym (fault-here (value-bad c t l (z .value) e)))
+  reading-bad e = sym (fault-here (value-bad c t l (z .value) e))
 
   pub reading-plain : {v : PropertyValue} {g′ : ComponentProperties} → u ≡ v → g′ ≡ withProperty g v → Plain v → ReadingLines c t s rows xs a b o₀ n₀ o n g′ (i + 1) row j m
   reading-plain {v} e f y =
-      let so = plain-so (i + 1) (linesFault c t (propertiesBy s (i + 1))) (lineOf l) (valueOf l) v y in
+      let so = plain-so (i + 1) (linesFault c t (propertiesBy s (i + 1))) (lineOf l) c (valueOf l) v y in
       let w : propertyValueOf c t (lineOf l) ≡ v = value-as c t l (z .value) v e ∙ so .2 in
       record {
         items = z .here .rest;
@@ -227,9 +246,9 @@ module _ {c : Context} {t : Scope} {s rows : List ℕ} {xs : List Numbered} {a b
       }
 
   module _ {y : BusyType} (e : u ≡ PropertyValue.HasPeriods y) {w : List ℕ} (f : w ≡ valueOf l) {o′ : List ℕ} {r : ValueStored} (k : ValueIs y w a b o n o′ r) where
-    pub reading-bad-period : r ≡ ValueStored.Bad → LinesAre c t xs a b o₀ n₀ o′ (LinesRead.Bad (i + 1))
+    pub reading-bad-period : r ≡ ValueStored.Bad → linesFault c t xs ≡ ValueCheck.Bad (i + 1)
     unfolding faultOr
-    reading-bad-period x = bad (sym (fault-here (periods-by c t l (z .value) y e f false (value-unread k x))))
+    reading-bad-period x = sym (fault-here (periods-by c t l (z .value) y e f false (value-unread k x)))
 
     pub reading-periods : (n′ : ℕ) → r ≡ ValueStored.Of n′ → ReadingLines c t s rows xs a b o₀ n₀ o′ n′ g (i + 1) row j m
     unfolding faultOr withProperty periodsBy lineOf valuePeriods
@@ -249,25 +268,68 @@ module _ {c : Context} {t : Scope} {s rows : List ℕ} {xs : List Numbered} {a b
               st;
         }
 
+  -- the times of an EXDATE line: bad where one is, else the line says no more of the event
+  module _ {x : Form} (e : u ≡ PropertyValue.HasExceptions x) {w : List ℕ} (f : w ≡ valueOf l) where
+    times-by : (y : Bool) → allTimes (timeItems c x w) ≡ y → propertyValueOf c t (lineOf l) ≡ cond y (PropertyValue.HasExceptions x) PropertyValue.Bad
+    unfolding withItems
+    times-by y h =
+        value-as c t l (z .value) (PropertyValue.HasExceptions x) e
+        ∙ ap (λ (k : Bool). cond k (PropertyValue.HasExceptions x) PropertyValue.Bad) (ap (λ (k : List ℕ). allTimes (timeItems c x k)) (sym f) ∙ h)
+
+    pub reading-bad-time : allTimes (timeItems c x w) ≡ false → linesFault c t xs ≡ ValueCheck.Bad (i + 1)
+    unfolding faultOr
+    reading-bad-time h = sym (fault-here (times-by false h))
+
+    pub exceptions-said : allTimes (timeItems c x w) ≡ true → propertyValueOf c t (numberedLine s i .line) ≡ PropertyValue.HasExceptions x
+    exceptions-said h = value-here (times-by true h)
+
+    pub reading-exceptions : allTimes (timeItems c x w) ≡ true → ReadingLines c t s rows xs a b o₀ n₀ o n g (i + 1) row j m
+    unfolding faultOr withProperty periodsBy
+    reading-exceptions h =
+        let v = times-by true h in
+        record {
+          items = z .here .rest;
+          fault = fault-here v;
+          say = say-here v;
+          still =
+              left-same (z .reading .still)
+              (pieces-here v ∙ ap (λ (ps : List BusyPeriod). ps ++ piecesOf a b (periodsIn c t (propertiesBy s (i + 1)))) (piecesOf-none a b));
+        }
+
+  -- what the other lines say
+  pub plain-said : {v : PropertyValue} → u ≡ v → Plain v → propertyValueOf c t (numberedLine s i .line) ≡ v
+  plain-said {v} e y = value-here (value-as c t l (z .value) v e ∙ plain-so (i + 1) ValueCheck.Good (lineOf l) c (valueOf l) v y .2)
+
+  pub periods-said : {y : BusyType} → u ≡ PropertyValue.HasPeriods y → {w : List ℕ} → w ≡ valueOf l → allPeriods (periodItems w) ≡ true
+      → propertyValueOf c t (numberedLine s i .line) ≡ PropertyValue.HasPeriods y
+  periods-said {y} e f h = value-here (periods-by c t l (z .value) y e f true h)
+
 -- ---- what the answers say
 
-module _ {c : Context} {t : Scope} {xs : List Numbered} {a b : ℕ} {o : List ℕ} {n : ℕ} {o′ : List ℕ} {r : LinesRead} (h : LinesAre c t xs a b o n o′ r) where
-  pub lines-of : (g : ComponentProperties) (m : ℕ) → r ≡ LinesRead.Of g m → LinesGood c t xs a b o n o′ g m
-  lines-of g m e = go (subst (LinesAre c t xs a b o n o′) e h)
+module _ {c : Context} {t : Scope} {s index : List ℕ} {xs : List Numbered} {stop a b : ℕ} {o : List ℕ} {n : ℕ} {o′ e₀ : List ℕ} {held : ℕ} {e′ : List ℕ} {r : LinesRead}
+    (h : LinesAre c t s index xs stop a b o n o′ e₀ held e′ r) where
+  pub lines-of : (g : ComponentProperties) (y : IdentityRead) (m : ℕ) → r ≡ LinesRead.Of g y m → LinesGood c t xs a b o n o′ g m
+  lines-of g y m e = go (subst (LinesAre c t s index xs stop a b o n o′ e₀ held e′) e h)
     where
-      go : LinesAre c t xs a b o n o′ (LinesRead.Of g m) → LinesGood c t xs a b o n o′ g m
-      go (good y) = y
+      go : LinesAre c t s index xs stop a b o n o′ e₀ held e′ (LinesRead.Of g y m) → LinesGood c t xs a b o n o′ g m
+      go (good x w) = x
+
+  pub lines-tie : (g : ComponentProperties) (y : IdentityRead) (m : ℕ) → r ≡ LinesRead.Of g y m → LinesTie c t s index xs e₀ held e′ stop y
+  lines-tie g y m e = go (subst (LinesAre c t s index xs stop a b o n o′ e₀ held e′) e h)
+    where
+      go : LinesAre c t s index xs stop a b o n o′ e₀ held e′ (LinesRead.Of g y m) → LinesTie c t s index xs e₀ held e′ stop y
+      go (good x w) = w
 
   pub lines-unsupported : (i : ℕ) → r ≡ LinesRead.Unsupported i → linesFault c t xs ≡ ValueCheck.Unsupported i
-  lines-unsupported i e = go (subst (LinesAre c t xs a b o n o′) e h)
+  lines-unsupported i e = go (subst (LinesAre c t s index xs stop a b o n o′ e₀ held e′) e h)
     where
-      go : LinesAre c t xs a b o n o′ (LinesRead.Unsupported i) → linesFault c t xs ≡ ValueCheck.Unsupported i
+      go : LinesAre c t s index xs stop a b o n o′ e₀ held e′ (LinesRead.Unsupported i) → linesFault c t xs ≡ ValueCheck.Unsupported i
       go (unsupported y) = y
 
   pub lines-bad : (i : ℕ) → r ≡ LinesRead.Bad i → linesFault c t xs ≡ ValueCheck.Bad i
-  lines-bad i e = go (subst (LinesAre c t xs a b o n o′) e h)
+  lines-bad i e = go (subst (LinesAre c t s index xs stop a b o n o′ e₀ held e′) e h)
     where
-      go : LinesAre c t xs a b o n o′ (LinesRead.Bad i) → linesFault c t xs ≡ ValueCheck.Bad i
+      go : LinesAre c t s index xs stop a b o n o′ e₀ held e′ (LinesRead.Bad i) → linesFault c t xs ≡ ValueCheck.Bad i
       go (bad y) = y
 
 -- ---- the periods of an event's lines, which has none, and of a block's
@@ -283,6 +345,9 @@ no-periods-by (PropertyValue.Lasts d) x h = refl
 no-periods-by (PropertyValue.Repeats r) x h = refl
 no-periods-by (PropertyValue.HasStatus s) x h = refl
 no-periods-by (PropertyValue.Transparent t) x h = refl
+no-periods-by PropertyValue.Uid x h = refl
+no-periods-by (PropertyValue.RecurrenceId t) x h = refl
+no-periods-by (PropertyValue.HasExceptions f) x h = refl
 no-periods-by (PropertyValue.HasPeriods b) x h = absurd (true≢false h)
 
 pub periods-event : (c : Context) (xs : List Numbered) → periodsIn c Scope.Event xs ≡ []

@@ -1,4 +1,4 @@
--- Laws of the pieces of events, row by row: those of the rows before and those from a row on make the whole; and columns that take nothing away.
+-- Laws of the pieces of events, row by row: those of the rows before and those from a row on make the whole.
 use Prim.Native.Nat.{ℕ, _+_, _*_, _-_, _≤_, _<_}
 use mathlib.Core.Path.{_≡_, refl, sym, ap, subst, _∙_}
 use mathlib.Core.Bool.{Bool, true, false, cond}
@@ -6,10 +6,9 @@ use mathlib.Core.List.{List, [], _∷_, _++_, append-nil}
 use native.Mathlib.Omega.{arith}
 use borrow.Author.Tests.{ne-eqb, eq-eqb, eqb-true, eqb-false}
 use lib.Dec.{eqb}
-use lib.ListN.{length, getD, replicate, getD-replicate, length-replicate}
-use Rattle.text.specs.Lines.{part}
-use Rattle.seconds.specs.Seconds.{among, Ordered}
-use Rattle.seconds.proofs.Seconds.{ordered-empty}
+use lib.ListN.{length, getD}
+use Rattle.ascii.proofs.Bools.{clash}
+use Rattle.seconds.specs.Seconds.{among}
 use Rattle.values.specs.declared.times.Context.{Context}
 use Rattle.property.specs.declared.Scope.{Scope}
 use Rattle.periods.specs.BusyTypes.{BusyPeriod}
@@ -23,6 +22,7 @@ use Rattle.events.specs.declared.EventRead.{EventRead}
 use Rattle.events.specs.declared.BlockRead.{BlockRead}
 use Rattle.calendar.specs.Meaning.{componentScope, eventOf, blockOf, blockPeriods, removedFrom, eventEntry, blockEntry, entryOf, entriesAmong, entriesOf, componentsOf}
 use Rattle.calendar.proofs.Meaning.{eventOf-small}
+use Rattle.calendar.proofs.VEvents.{removed-none}
 use Rattle.pieces.specs.BusyPeriods.{eventPeriods, instancePeriods, gathered}
 use Rattle.pieces.specs.Pieces.{piecesOf}
 use Rattle.pieces.specs.Columns.{Stored, Room}
@@ -30,14 +30,10 @@ use Rattle.pieces.proofs.BusyPeriods.{event-same, gathered-append}
 use Rattle.pieces.proofs.Columns.{stored-none, stored-as, stored-few}
 use Rattle.pieces.proofs.Pieces.{piecesOf-none, piecesOf-append}
 use Rattle.contents.specs.EntryRows.{EntryRows}
-use Rattle.contents.specs.Removed.{goneAt, PartAt, RemovedRows, RowKnown, rowPeriods}
+use Rattle.series.specs.Columns.{goneAt, RemovedRows}
+use Rattle.contents.specs.Removed.{RowKnown, rowPeriods}
 use Rattle.contents.proofs.LinesStoring.{Left, left-start, left-then, left-none}
 use Rattle.contents.proofs.Contents.{row-event, row-block, row-other, components-file}
-
--- what stands between two places is the part of a row
-pub gone-read : (places removed : List ℕ) (k : ℕ) {x y : ℕ} → x ≡ getD places k 0 → y ≡ getD places (k + 1) 0 → part removed x y ≡ goneAt places removed k
-unfolding goneAt
-gone-read places removed k p q = rw (p, q) refl
 
 -- ---- the pieces of one row
 
@@ -89,7 +85,7 @@ module _ {c : Context} {s rows entries places removed : List ℕ} {m : ℕ} (h :
       ap (λ (o : Scope). gathered instancePeriods (entryOf c all o x)) (row-event r refl e)
       ∙ ap (λ (y : EventRead). gathered instancePeriods (eventEntry y (removedFrom c all x))) (h .events k l e)
       ∙ event-has (eventAt entries k) (removedFrom c all x)
-      ∙ event-same (eventAt entries k) (removedFrom c all x) (goneAt places removed k) (λ i. sym (z .same k l i))
+      ∙ event-same (eventAt entries k) (removedFrom c all x) (goneAt places removed k) (λ i. sym (z .same k l e i))
 
   block-row : getD rows (4 * k + 3) 0 ≡ 2 → gathered instancePeriods (entryOf c all (componentScope x) x) ≡ []
   unfolding entryOf
@@ -118,6 +114,26 @@ module _ {c : Context} {s rows entries places removed : List ℕ} {m : ℕ} (h :
         event-small = λ e. eventOf-small c x (eventAt entries k) (h .events k l e);
         part = z .parts k l;
       }
+
+-- whatever a row is, its part of the column takes the same starts away
+abbrev isEventScope : Scope → Bool
+isEventScope Scope.Event = true
+isEventScope Scope.FreeBusy = false
+isEventScope Scope.Other = false
+
+pub row-same : {c : Context} {s rows places removed : List ℕ} {m k : ℕ} → RemovedRows c s rows places removed m → RowOf s rows k → k < m → (x : ℕ)
+    → among x (goneAt places removed k) ≡ among x (removedFrom c (componentsOf s) (componentBy s rows k))
+row-same {c} {s} {rows} {places} {removed} {m} {k} z r l x = go (eqb (getD rows (4 * k + 3) 0) 1) (eqb (getD rows (4 * k + 3) 0) 2) refl refl
+  where
+    other : (getD rows (4 * k + 3) 0 ≡ 1 → ⊥) → (componentScope (componentBy s rows k) ≡ Scope.Event → ⊥)
+        → among x (goneAt places removed k) ≡ among x (removedFrom c (componentsOf s) (componentBy s rows k))
+    other n e = ap (among x) (z .none k l n ∙ sym (removed-none c (componentBy s rows k) (componentsOf s) e))
+
+    go : (t u : Bool) → eqb (getD rows (4 * k + 3) 0) 1 ≡ t → eqb (getD rows (4 * k + 3) 0) 2 ≡ u
+        → among x (goneAt places removed k) ≡ among x (removedFrom c (componentsOf s) (componentBy s rows k))
+    go true u p q = z .same k l (eqb-true _ 1 p) x
+    go false true p q = other (eqb-false _ 1 p) (λ e. clash (ap isEventScope e) (ap isEventScope (row-block r refl (eqb-true _ 2 q))))
+    go false false p q = other (eqb-false _ 1 p) (λ e. clash (ap isEventScope e) (ap isEventScope (row-other r refl (eqb-false _ 1 p) (eqb-false _ 2 q))))
 
 -- ---- from component to component
 
@@ -169,29 +185,3 @@ module _ {c : Context} {a b : ℕ} {s rows o₀ : List ℕ} {first m : ℕ} {o :
       stored-as
       (left-none (g .still) (ap (instancePieces c a b (componentsOf s)) (components-none s rows l) ∙ no-instances))
       (ap (instancePieces c a b (componentsOf s)) (ap (componentsBy s rows 1) w ∙ sym (components-file h)))
-
--- ---- nothing is taken away: every place is 0
-
-abbrev zeros : List ℕ
-zeros = replicate 257 0
-
-zero-at : (k : ℕ) → k < 257 → getD zeros k 0 ≡ 0
-zero-at k h = getD-replicate 257 k 0 0 h
-
-nothing-at : (removed : List ℕ) (k : ℕ) → k + 1 < 257 → goneAt zeros removed k ≡ []
-unfolding goneAt
-nothing-at removed k h = rw (zero-at k (omega arith), zero-at (k + 1) h) refl
-
-pub nothing-removed : (c : Context) (s rows removed : List ℕ) (m : ℕ) → m ≤ 256 → RemovedRows c s rows zeros removed m
-unfolding removedFrom
-nothing-removed c s rows removed m few =
-    record {
-      parts = λ k l.
-          record {
-            room = omega (arith, length-replicate {A = ℕ} 257 0);
-            order = omega (arith, zero-at k (omega arith), zero-at (k + 1) (omega arith));
-            inside = omega (arith, zero-at (k + 1) (omega arith));
-            ordered = subst Ordered (sym (nothing-at removed k (omega arith))) ordered-empty;
-          };
-      same = λ k l x. ap (among x) (nothing-at removed k (omega arith));
-    }

@@ -17,6 +17,8 @@ use Rattle.calendar.specs.Periods.{periodsFrom}
 use Rattle.calendar.specs.declared.ValueCheck.{ValueCheck}
 use Rattle.pieces.specs.Pieces.{piecesOf}
 use Rattle.pieces.specs.Columns.{Stored}
+use Rattle.contents.specs.Identities.{LinesTie}
+use Rattle.identities.specs.declared.IdentityRead.{IdentityRead}
 use Rattle.contents.specs.declared.lines.LinesRead.{LinesRead}
 use Rattle.contents.specs.declared.lines.ValueStored.{ValueStored}
 
@@ -39,11 +41,12 @@ pub record LinesGood (c : Context) (s : Scope) (xs : List Numbered) (a b : ℕ) 
   pub say : g ≡ together c s xs
   pub stored : Stored o n (piecesOf a b (periodsIn c s xs)) o′ m
 
--- what reading the lines of a component answers
-pub data LinesAre (c : Context) (s : Scope) (xs : List Numbered) (a b : ℕ) (o : List ℕ) (n : ℕ) (o′ : List ℕ) : LinesRead → Type 0 where
-  good : {g : ComponentProperties} {m : ℕ} → LinesGood c s xs a b o n o′ g m → LinesAre c s xs a b o n o′ (LinesRead.Of g m)
-  unsupported : {i : ℕ} → linesFault c s xs ≡ ValueCheck.Unsupported i → LinesAre c s xs a b o n o′ (LinesRead.Unsupported i)
-  bad : {i : ℕ} → linesFault c s xs ≡ ValueCheck.Bad i → LinesAre c s xs a b o n o′ (LinesRead.Bad i)
+-- what reading the lines of a component answers, its END line being `stop`, and the column of excluded seconds e with h in it
+pub data LinesAre (c : Context) (o : Scope) (s index : List ℕ) (xs : List Numbered) (stop a b : ℕ) (p : List ℕ) (n : ℕ) (p′ e : List ℕ) (h : ℕ) (e′ : List ℕ) : LinesRead → Type 0 where
+  good : {g : ComponentProperties} {y : IdentityRead} {m : ℕ} → LinesGood c o xs a b p n p′ g m → LinesTie c o s index xs e h e′ stop y
+      → LinesAre c o s index xs stop a b p n p′ e h e′ (LinesRead.Of g y m)
+  unsupported : {i : ℕ} → linesFault c o xs ≡ ValueCheck.Unsupported i → LinesAre c o s index xs stop a b p n p′ e h e′ (LinesRead.Unsupported i)
+  bad : {i : ℕ} → linesFault c o xs ≡ ValueCheck.Bad i → LinesAre c o s index xs stop a b p n p′ e h e′ (LinesRead.Bad i)
 
 -- the periods of a FREEBUSY value, all of one type
 unfoldable pub valuePeriods : BusyType → List ℕ → List BusyPeriod

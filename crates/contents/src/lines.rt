@@ -2,6 +2,7 @@
 // A fault ends the reading, since it goes before any rule.
 use events::ComponentProperties;
 use events::properties;
+use identities::IdentityRead;
 use line::read;
 use line::split;
 use periods::BusyType;
@@ -13,15 +14,19 @@ use structure::items::Item;
 use structure::rows;
 use values::period;
 use values::period::PeriodRead;
+use values::time_lists;
+use values::time_lists::TimesStored;
 use values::times::Context;
 ghost use mathlib.Core.Path.{_≡_};
-ghost use Prim.Native.Nat.{_≤_};
+ghost use Prim.Native.Nat.{_+_, _-_, _*_, _≤_};
+ghost use lib.ListN.{length, getD};
 ghost use Rattle.time.specs.Limits.{lastSecond};
 ghost use Rattle.values.specs.Times.{ContextGood};
 ghost use Rattle.nesting.specs.Components.{propertiesIn};
 ghost use Rattle.index.specs.Index.{Indexed};
 ghost use Rattle.structure.specs.Rows.{RowOf, componentBy};
 ghost use Rattle.pieces.specs.Columns.{Room};
+ghost use Rattle.contents.specs.Identities.{RoomFrom};
 ghost use Rattle.contents.specs.Lines.{ValueIs, LinesAre};
 
 // What storing the periods of a value answers.
@@ -34,8 +39,8 @@ pub enum ValueStored {
 
 // What reading the lines of a component answers.
 pub enum LinesRead {
-    // What they say together, and how many pieces stand.
-    Of(ComponentProperties, usize),
+    // What they say together, what ties the component to others, and how many pieces stand.
+    Of(ComponentProperties, IdentityRead, usize),
     // Refusal 8, at the line of this number.
     Unsupported(usize),
     // Refusal 9.
@@ -78,6 +83,8 @@ fn store_value(
 pub fn read_lines(
     column: &mut [u32],
     first: usize,
+    exceptions: &mut [u32],
+    held: usize,
     s: &[u8],
     index: &[u32],
     rows: &[u32],
@@ -93,12 +100,16 @@ pub fn read_lines(
     requires { ⌜ Indexed (now s) (now index) ⌝ }
     requires { ⌜ RowOf (now s) (now rows) k ⌝ }
     requires { ⌜ b ≤ lastSecond ⌝ }
-    ensures { λ r. ⌜ LinesAre c scope (propertiesIn (componentBy (now (s .entry)) (now (rows .entry)) k .items)) a b (now (column .entry)) first (now (column .exit)) r ⌝ }
+    requires { ⌜ length (now s) ≤ 8 * length (now exceptions) ⌝ }
+    requires { ⌜ RoomFrom (now s) (now index) (getD (now rows) (4 * k) 0) held ⌝ }
+    requires { ⌜ held ≤ length (now exceptions) ⌝ }
+    ensures { λ r. ⌜ LinesAre c scope (now (s .entry)) (now (index .entry)) (propertiesIn (componentBy (now (s .entry)) (now (rows .entry)) k .items)) (getD (now (rows .entry)) (4 * k + 1) 0 - 1) a b (now (column .entry)) first (now (column .exit)) (now (exceptions .entry)) held (now (exceptions .exit)) r ⌝ }
 {
     let stop = rows::line_behind(rows, k) - 1;
     let last = rows::next_row(rows, k);
     let mut n = first;
     let mut g = properties::no_properties();
+    let mut y = identities::no_identity(held);
     let mut i = rows::first_line(rows, k);
     let mut row = k + 1;
     loop {
@@ -137,6 +148,32 @@ pub fn read_lines(
                         g = properties::with_transparency(g, x);
                         i = next;
                     }
+                    PropertyValue::Uid => {
+                        y = identities::with_uid(y, next);
+                        i = next;
+                    }
+                    PropertyValue::RecurrenceId(t) => {
+                        y = identities::with_recurrence(y, t);
+                        i = next;
+                    }
+                    PropertyValue::HasExceptions(form) => {
+                        let before = y.held;
+                        let kinds = y.kinds;
+                        match time_lists::store_times(
+                            exceptions,
+                            before,
+                            kinds,
+                            c,
+                            form,
+                            read::value(line),
+                        ) {
+                            TimesStored::Of(m, more) => {
+                                y = identities::with_exceptions(y, more, m);
+                                i = next;
+                            }
+                            TimesStored::Bad => return LinesRead::Bad(next),
+                        }
+                    }
                     PropertyValue::HasPeriods(busy) => {
                         match store_value(column, n, busy, read::value(line), a, b) {
                             ValueStored::Of(m) => {
@@ -152,7 +189,7 @@ pub fn read_lines(
                 i = next;
                 row = after;
             }
-            Item::Done => return LinesRead::Of(g, n),
+            Item::Done => return LinesRead::Of(g, y, n),
         }
     }
 }

@@ -24,14 +24,18 @@ use Rattle.query_check.specs.WellFormed.{nameGood, hasChildComponent, hasProper
 use Rattle.delimiters.specs.Delimiters.{delimiterOf}
 use Rattle.delimiters.specs.Innermost.{isCalendar, isEvent, mayBegin}
 use Rattle.values.specs.Times.{atSecond, timeBy, readTime, formOf, timeOf}
-use Rattle.property.specs.Properties.{propertyOf, timeIn, startBy, unlessZoned, valueAs, propertyValueOf, beforePeriods, withPeriods}
+use Rattle.property.specs.Properties.{propertyOf, timeIn, startBy, unlessZoned, valueAs, propertyValueOf, beforeItems, withItems}
 use Rattle.nesting.specs.Components.{delimitedFrom, itemsOf, treeOf, componentsIn, propertiesIn, itemsBelow}
 use Rattle.nesting.specs.Nesting.{afterBegin, afterEnd, afterProperty, walk, outcome, nestingOf}
 use Rattle.nesting.specs.Files.{treeIn}
 use Rattle.property_tests.specs.PropertyTests.{propertiesHold}
 use Rattle.events.specs.Events.{endingBy, repeatBy, eventMade, eventWith, eventFrom, eventBy}
 use Rattle.events.specs.ComponentProperties.{noProperties, timeGiven, durationGiven, ruleGiven, statusGiven, transparencyGiven, withProperty, withSpan, withBusy, withProperties}
-use Rattle.calendar.specs.Meaning.{scopeOf, componentScope, propertyValuesIn, faultOr, faultIn, valueFault, eventOf, isBroken, brokenOr, ruleFault, fileLines, componentsOf}
+use Rattle.overrides.specs.Lists.{some as someOf, isEmpty, twoOrMore}
+use Rattle.overrides.specs.Rules.{hasRule, otherKind, overrideBreaks, eventBreaks, breaksAlone, mastersClash, overridesClash, misnames, misplaced, overrideMisplaced, breaksBeside, breaks}
+use Rattle.overrides.specs.VEvents.{isMaster, isOverride, hasUid, sharesUid, masterOf}
+use Rattle.calendar.specs.Identities.{uidsBy, recurrenceIdsBy, exceptionsBy, uidsIn, recurrenceIdsIn, exceptionsIn, identityIn, identityOf}
+use Rattle.calendar.specs.Meaning.{scopeOf, componentScope, propertyValuesIn, faultOr, faultIn, valueFault, eventOf, vEventsAs, vEvents, vEventOf, breaksRule, brokenOr, firstFault, ruleFault, fileLines, componentsOf}
 use Rattle.refusals.specs.Refusals.{firstRefusal, sizeRows, lineRow, structureRows, unsupportedRow, badValueRow, ruleRow, calendarRows, contentsRows}
 use Rattle.refusals.specs.Offsets.{offsetGood}
 use Rattle.filter.specs.Tests.{rangeHolds, someComponentNamed, someComponent, componentHolds, childrenHold, componentTest, queryHolds}
@@ -120,5 +124,5 @@ table =
     ∷ []
 
 pub edges : AllHold table
-unfolding matchOutcome unlessRefused firstRefusal matchRows earlyMatchRows offsetRow offsetGood sizeRows queryRows queryGood sectionsGood sectionsOf behindRecords countFits byteAt placeWithin behindTextSection behindTexts behindText recordsGood rangesGood everyBelow componentsGood componentGood nameGood componentAt isName textOf textFrom textPlace isNameByte isLetter parentGood sameName upper propertiesGood parametersGood misplacedIn rangeMisplaced componentsMisplaced someBelow componentMisplaced propertiesMisplaced calendarRows structureRows contentsRows lineRow lineCheck lineCheckFrom cut unfolded isFold isBreak isBlank isWellFormed scan isEnding step isDigit isControl nestingOf outcome walk fileLines contentLines delimiterOf lineOf nameOf before firstOutside headOf parameterTexts splitParts valueOf after afterEnd afterBegin isCalendar unsupportedRow valueFault componentsOf componentsIn itemsBelow treeOf itemsOf delimitedFrom badValueRow ruleRow ruleFault verdictOf verdictBy queryHolds componentTest componentHolds someComponent treeIn rangeHolds propertiesHold childrenHold hasChildComponent hasProperty someComponentNamed afterProperty mayBegin faultIn propertiesIn faultOr propertyValueOf beforePeriods withPeriods valueAs propertyOf componentScope scopeOf isEvent unlessZoned hasParameter parametersNamed startBy timeIn timeOf readTime formOf hasTwice hasList someList timeBy readDateTime clockAt clockOf dateAt three yearAt joined pairAt digitPair checkedDay isDay monthDays lengthIn monthLengths timeAt checkedTime atSecond utcSecond since epoch dayNumber daysBeforeYear endingBy repeatBy eventMade eventWith eventFrom eventBy noProperties timeGiven durationGiven ruleGiven statusGiven transparencyGiven withProperty withSpan withBusy withProperties propertyValuesIn eventOf isBroken brokenOr isLeap yearDays beforeIn daysBeforeMonth
+unfolding matchOutcome unlessRefused firstRefusal matchRows earlyMatchRows offsetRow offsetGood sizeRows queryRows queryGood sectionsGood sectionsOf behindRecords countFits byteAt placeWithin behindTextSection behindTexts behindText recordsGood rangesGood everyBelow componentsGood componentGood nameGood componentAt isName textOf textFrom textPlace isNameByte isLetter parentGood sameName upper propertiesGood parametersGood misplacedIn rangeMisplaced componentsMisplaced someBelow componentMisplaced propertiesMisplaced calendarRows structureRows contentsRows lineRow lineCheck lineCheckFrom cut unfolded isFold isBreak isBlank isWellFormed scan isEnding step isDigit isControl nestingOf outcome walk fileLines contentLines delimiterOf lineOf nameOf before firstOutside headOf parameterTexts splitParts valueOf after afterEnd afterBegin isCalendar unsupportedRow valueFault componentsOf componentsIn itemsBelow treeOf itemsOf delimitedFrom badValueRow ruleRow ruleFault verdictOf verdictBy queryHolds componentTest componentHolds someComponent treeIn rangeHolds propertiesHold childrenHold hasChildComponent hasProperty someComponentNamed afterProperty mayBegin faultIn propertiesIn faultOr propertyValueOf beforeItems withItems valueAs propertyOf componentScope scopeOf isEvent unlessZoned hasParameter parametersNamed startBy timeIn timeOf readTime formOf hasTwice hasList someList timeBy readDateTime clockAt clockOf dateAt three yearAt joined pairAt digitPair checkedDay isDay monthDays lengthIn monthLengths timeAt checkedTime atSecond utcSecond since epoch dayNumber daysBeforeYear endingBy repeatBy eventMade eventWith eventFrom eventBy noProperties timeGiven durationGiven ruleGiven statusGiven transparencyGiven withProperty withSpan withBusy withProperties propertyValuesIn eventOf vEventsAs vEvents vEventOf breaksRule firstFault brokenOr isLeap yearDays beforeIn daysBeforeMonth someOf isEmpty twoOrMore hasRule otherKind overrideBreaks eventBreaks breaksAlone mastersClash overridesClash misnames misplaced overrideMisplaced breaksBeside breaks isMaster isOverride hasUid sharesUid masterOf uidsBy recurrenceIdsBy exceptionsBy uidsIn recurrenceIdsIn exceptionsIn identityIn identityOf
 edges = (refl, (refl, (refl, (refl, (refl, (refl, (refl, (refl, (refl, (refl, (refl, (refl, (refl, (refl, (refl, (refl, (refl, tt)))))))))))))))))

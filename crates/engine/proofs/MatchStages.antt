@@ -13,8 +13,9 @@ use Rattle.nesting.specs.declared.Structure.{Structure}
 use Rattle.structure.specs.Reading.{StructureRead}
 use Rattle.calendar.specs.Meaning.{structureRefusal}
 use Rattle.calendar.specs.declared.Fault.{Fault}
-use Rattle.contents.specs.Contents.{ContentsAre}
-use Rattle.contents.specs.declared.ContentsRead.{ContentsRead}
+use Rattle.contents.specs.Contents.{EntryTerms}
+use Rattle.contents.specs.Walks.{WalksTell}
+use Rattle.contents.specs.declared.walks.WalksRead.{WalksRead}
 use Rattle.contents.proofs.Contents.{structure-found}
 use Rattle.query.specs.Sections.{sectionsOf}
 use Rattle.query.specs.declared.Sections.{Sections}
@@ -39,7 +40,7 @@ use Rattle.engine.proofs.Answers.{refused, let-through}
 -- ---- an unfolded calendar
 
 -- by what reading the contents answered
-module _ {c : Context} {u rows : List ℕ} {a b : ℕ} {o o′ entries : List ℕ} {x : ContentsRead} (k : ContentsAre c u rows a b o o′ entries x) (s : List ℕ) (q : Sections) where
+module _ {c : Context} {u index rows : List ℕ} {a b : ℕ} {o : List ℕ} {new : EntryTerms} {x : WalksRead} (k : WalksTell c u index rows a b o new x) (s : List ℕ) (q : Sections) where
   pub contents-refusal : {n i : ℕ} → x .fault ≡ Fault.At n i → outcomeOf (Answer.Refused n i) ≡ contentsOutcome c u s q
   unfolding contentsOutcome outcomeOf
   contents-refusal e = sym (refused (verdict (queryHolds c s q (treeIn u))) (contents-first c u ∙ sym (k .fault-is) ∙ e))

@@ -2,6 +2,8 @@
 // The query is read before the calendar, as the table has it.
 use crate::Answer;
 use calendar::Fault;
+use contents::walks;
+use filter::files;
 use nesting::Structure;
 use query::Sections;
 use query_check::QueryRead;
@@ -19,8 +21,9 @@ ghost use Rattle.query_check.specs.WellFormed.{recordsGood};
 ghost use Rattle.engine.specs.Answers.{outcomeOf};
 ghost use Rattle.engine.specs.MatchStages.{contentsOutcome, unfoldedOutcome, CalendarAnswered, QueryAnswered};
 
-// Refusals 8 to 10, then the filter. A match has no range: the pieces of the first second are stored, and nobody asks for them. No start is taken away from any event.
-fn match_contents(
+// Refusals 8 to 10, then the filter. A match has no range: the pieces of the first second are stored, and nobody asks for them.
+fn match_excepted(
+    exceptions: &mut [u32],
     s: &[u8],
     index: &[u32],
     rows: &[u32],
@@ -28,6 +31,7 @@ fn match_contents(
     q: Sections,
     c: Context,
 ) -> Answer
+    requires { ⌜ (length (now s) ≤ 8 * length (now exceptions)) × (length (now exceptions) ≤ 8193) ⌝ }
     requires { ⌜ FileRows (now s) (now index) (now rows) ⌝ }
     requires { ⌜ Fits (now query) q ⌝ }
     requires { ⌜ recordsGood (now query) q ≡ true ⌝ }
@@ -36,27 +40,61 @@ fn match_contents(
 {
     let mut column = [0u32; 1539];
     let mut entries = [0u64; 3072];
-    let places = [0u32; 257];
-    let removed = [0u32; 1];
-    let read = contents::read_contents(&mut column, &mut entries, s, index, rows, c, 0, 1);
+    let mut links = [0u32; 2048];
+    let read = walks::read_components(
+        &mut column,
+        &mut entries,
+        exceptions,
+        &mut links,
+        s,
+        index,
+        rows,
+        c,
+        0,
+        1,
+    );
     let f = read.fault;
     match f {
         Fault::At(k, line) => Answer::Refused(k, line),
         Fault::None => {
-            let holds = filter::components::query_holds(
+            let holds = files::file_holds(
                 query,
                 q,
                 s,
                 index,
                 rows,
                 &entries,
-                &places,
-                &removed,
+                &links,
+                exceptions,
                 c,
             );
             Answer::Verdict(holds)
         }
     }
+}
+
+// An exception has eight bytes of the calendar at least, so a short one gets short memory for them.
+fn match_contents(
+    s: &[u8],
+    index: &[u32],
+    rows: &[u32],
+    query: &[u8],
+    q: Sections,
+    c: Context,
+) -> Answer
+    requires { ⌜ length (now s) ≤ 65536 ⌝ }
+    requires { ⌜ FileRows (now s) (now index) (now rows) ⌝ }
+    requires { ⌜ Fits (now query) q ⌝ }
+    requires { ⌜ recordsGood (now query) q ≡ true ⌝ }
+    requires { ⌜ ContextGood c ⌝ }
+    ensures { λ r. ⌜ outcomeOf r ≡ contentsOutcome c (now (s .entry)) (now (query .entry)) q ⌝ }
+{
+    if s.len() <= 8192 {
+        let mut exceptions = [0u32; 1025];
+        return match_excepted(&mut exceptions, s, index, rows, query, q, c);
+    }
+    let mut exceptions = [0u32; 8193];
+    match_excepted(&mut exceptions, s, index, rows, query, q, c)
 }
 
 // Refusals 6 to 10, then the filter, where this was read of lines and nesting.
@@ -69,6 +107,7 @@ fn match_structured(
     q: Sections,
     c: Context,
 ) -> Answer
+    requires { ⌜ length (now s) ≤ 65536 ⌝ }
     requires { ⌜ StructureRead (now s) (now index) (now rows) structure ⌝ }
     requires { ⌜ Fits (now query) q ⌝ }
     requires { ⌜ recordsGood (now query) q ≡ true ⌝ }

@@ -51,6 +51,9 @@ with-small g (PropertyValue.HasStatus x) r h =
     record { start-small = r .start-small; end-small = r .end-small; lasts-small = r .lasts-small; repeats-small = r .repeats-small }
 with-small g (PropertyValue.Transparent x) r h =
     record { start-small = r .start-small; end-small = r .end-small; lasts-small = r .lasts-small; repeats-small = r .repeats-small }
+with-small g PropertyValue.Uid r h = r
+with-small g (PropertyValue.RecurrenceId t) r h = r
+with-small g (PropertyValue.HasExceptions f) r h = r
 with-small g (PropertyValue.HasPeriods b) r h = r
 
 -- each line says something small

@@ -68,6 +68,9 @@ unfolding withProperty withSpan withBusy timeGiven durationGiven ruleGiven statu
 step-counts g PropertyValue.Nothing ss h = h
 step-counts g PropertyValue.Unsupported ss h = h
 step-counts g PropertyValue.Bad ss h = h
+step-counts g PropertyValue.Uid ss h = h
+step-counts g (PropertyValue.RecurrenceId t) ss h = h
+step-counts g (PropertyValue.HasExceptions f) ss h = h
 step-counts g (PropertyValue.HasPeriods b) ss h = h
 step-counts g (PropertyValue.Start t) ss h =
     (or-left (g .repeated) _ (h .0), once-more (g .repeated) _ _ (h .0) (h .1), h .2, h .3, h .4, h .5, h .6)
@@ -87,6 +90,9 @@ unfolding withProperty withSpan withBusy timeGiven durationGiven ruleGiven statu
 counts-step g PropertyValue.Nothing ss h = h
 counts-step g PropertyValue.Unsupported ss h = h
 counts-step g PropertyValue.Bad ss h = h
+counts-step g PropertyValue.Uid ss h = h
+counts-step g (PropertyValue.RecurrenceId t) ss h = h
+counts-step g (PropertyValue.HasExceptions f) ss h = h
 counts-step g (PropertyValue.HasPeriods b) ss h = h
 counts-step g (PropertyValue.Start t) ss h = (still-once (g .repeated) _ _ (h .0) (h .1), one-less (timeGiven (g .span .start)) _ (h .1), h .2, h .3, h .4, h .5, h .6)
 counts-step g (PropertyValue.End t) ss h = (still-once (g .repeated) _ _ (h .0) (h .2), h .1, one-less (timeGiven (g .span .end)) _ (h .2), h .3, h .4, h .5, h .6)
@@ -258,6 +264,9 @@ steps g (PropertyValue.Lasts d) = (inl (refl, refl), inl (refl, refl), inr (d, r
 steps g (PropertyValue.Repeats r) = (inl (refl, refl), inl (refl, refl), inl (refl, refl), inr (r, refl), inl (refl, refl), inl (refl, refl))
 steps g (PropertyValue.HasStatus x) = (inl (refl, refl), inl (refl, refl), inl (refl, refl), inl (refl, refl), inr (x, refl), inl (refl, refl))
 steps g (PropertyValue.Transparent x) = (inl (refl, refl), inl (refl, refl), inl (refl, refl), inl (refl, refl), inl (refl, refl), inr (x, refl))
+steps g PropertyValue.Uid = (inl (refl, refl), inl (refl, refl), inl (refl, refl), inl (refl, refl), inl (refl, refl), inl (refl, refl))
+steps g (PropertyValue.RecurrenceId t) = (inl (refl, refl), inl (refl, refl), inl (refl, refl), inl (refl, refl), inl (refl, refl), inl (refl, refl))
+steps g (PropertyValue.HasExceptions f) = (inl (refl, refl), inl (refl, refl), inl (refl, refl), inl (refl, refl), inl (refl, refl), inl (refl, refl))
 steps g (PropertyValue.HasPeriods b) = (inl (refl, refl), inl (refl, refl), inl (refl, refl), inl (refl, refl), inl (refl, refl), inl (refl, refl))
 
 -- the parts, by what they hold

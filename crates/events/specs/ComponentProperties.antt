@@ -48,7 +48,8 @@ withSpan g again x = record { repeated = g .repeated || again; span = x; repeats
 unfoldable pub withBusy : ComponentProperties → Bool → BusyProperties → ComponentProperties
 withBusy g again x = record { repeated = g .repeated || again; span = g .span; repeats = g .repeats; busy = x }
 
--- one line more; no more than one may stand of DTSTART, DTEND, DURATION, RRULE, STATUS, TRANSP
+-- one line more; no more than one may stand of DTSTART, DTEND, DURATION, RRULE, STATUS, TRANSP.
+-- What ties a VEVENT to others (UID, RECURRENCE-ID, EXDATE) is no part of its event: its rules are stated beside the event
 unfoldable pub withProperty : ComponentProperties → PropertyValue → ComponentProperties
 withProperty g PropertyValue.Nothing = g
 withProperty g PropertyValue.Unsupported = g
@@ -65,6 +66,9 @@ withProperty g (PropertyValue.HasStatus s) =
     withBusy g (statusGiven (g .busy .status)) (record { status = StatusGiven.Given s; transparency = g .busy .transparency })
 withProperty g (PropertyValue.Transparent t) =
     withBusy g (transparencyGiven (g .busy .transparency)) (record { status = g .busy .status; transparency = TransparencyGiven.Given t })
+withProperty g PropertyValue.Uid = g
+withProperty g (PropertyValue.RecurrenceId t) = g
+withProperty g (PropertyValue.HasExceptions f) = g
 withProperty g (PropertyValue.HasPeriods b) = g
 
 unfoldable pub withProperties : ComponentProperties → List PropertyValue → ComponentProperties

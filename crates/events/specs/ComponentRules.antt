@@ -26,6 +26,9 @@ propertyName (PropertyValue.Lasts d) = ascii "DURATION"
 propertyName (PropertyValue.Repeats r) = ascii "RRULE"
 propertyName (PropertyValue.HasStatus s) = ascii "STATUS"
 propertyName (PropertyValue.Transparent t) = ascii "TRANSP"
+propertyName PropertyValue.Uid = ascii "UID"
+propertyName (PropertyValue.RecurrenceId t) = ascii "RECURRENCE-ID"
+propertyName (PropertyValue.HasExceptions f) = ascii "EXDATE"
 propertyName (PropertyValue.HasPeriods b) = ascii "FREEBUSY"
 
 -- one more, where the test holds

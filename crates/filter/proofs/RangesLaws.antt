@@ -88,6 +88,9 @@ given-overlap a b (PropertyValue.Lasts d) x h = clash h refl
 given-overlap a b (PropertyValue.Repeats r) x h = clash h refl
 given-overlap a b (PropertyValue.HasStatus s) x h = clash h refl
 given-overlap a b (PropertyValue.Transparent t) x h = clash h refl
+given-overlap a b PropertyValue.Uid x h = clash h refl
+given-overlap a b (PropertyValue.RecurrenceId t) x h = clash h refl
+given-overlap a b (PropertyValue.HasExceptions f) x h = clash h refl
 given-overlap a b (PropertyValue.HasPeriods t) x h = ap (periodsOverlap a b) (sym (periodsOf-typed t (goodPeriods (periodItems (x .value)))))
 
 ungiven-overlap : (a b : ℕ) (o : PropertyValue) (x : ContentLine) → givesPeriods o ≡ false → false ≡ periodsOverlap a b (periodsOf (periodsBy o x))
@@ -101,6 +104,9 @@ ungiven-overlap a b (PropertyValue.Lasts d) x h = refl
 ungiven-overlap a b (PropertyValue.Repeats r) x h = refl
 ungiven-overlap a b (PropertyValue.HasStatus s) x h = refl
 ungiven-overlap a b (PropertyValue.Transparent t) x h = refl
+ungiven-overlap a b PropertyValue.Uid x h = refl
+ungiven-overlap a b (PropertyValue.RecurrenceId t) x h = refl
+ungiven-overlap a b (PropertyValue.HasExceptions f) x h = refl
 ungiven-overlap a b (PropertyValue.HasPeriods t) x h = clash refl h
 
 module _ (c : Context) (a b : ℕ) where

@@ -18,7 +18,7 @@ use Rattle.query_check.proofs.QueryRules.{records-say}
 use Rattle.values.specs.declared.times.Context.{Context}
 use Rattle.property.specs.declared.Scope.{Scope}
 use Rattle.nesting.specs.Components.{Component, propertiesIn, componentsIn}
-use Rattle.structure.specs.Rows.{componentBy, componentsBy}
+use Rattle.structure.specs.Rows.{RowOf, componentBy, componentsBy}
 use Rattle.events.specs.EntryRows.{eventAt, blockAt}
 use Rattle.events.specs.declared.Event.{Event}
 use Rattle.events.specs.declared.EventRead.{EventRead}
@@ -28,7 +28,8 @@ use Rattle.events.specs.Sizes.{EventSmall}
 use Rattle.seconds.specs.Seconds.{among}
 use Rattle.nesting.specs.Files.{treeIn}
 use Rattle.calendar.specs.Meaning.{componentScope, eventOf, blockPeriods, removedFrom, componentsOf, fileLines}
-use Rattle.contents.specs.Removed.{goneAt, RemovedRows}
+use Rattle.series.specs.Columns.{goneAt, RemovedRows}
+use Rattle.contents.proofs.Removed.{row-same}
 use Rattle.calendar.proofs.Meaning.{eventOf-small}
 use Rattle.recurrence.specs.TimeRange.{endsAfter, instanceIn, blockIn}
 use Rattle.recurrence.specs.Candidates.{FirstCandidate, MoreCandidates}
@@ -235,16 +236,16 @@ unfolding componentsOf fileLines treeIn wholeOf
 components-whole c s = refl
 
 -- the part of a row takes the same starts away
-pub trial-by-part : {c : Context} {s rows places removed : List ℕ} {k m : ℕ} {b : Bool} {t : Trial} {gone : List ℕ} → RemovedRows c s rows places removed m → k < m
+pub trial-by-part : {c : Context} {s rows places removed : List ℕ} {k m : ℕ} {b : Bool} {t : Trial} {gone : List ℕ} → RemovedRows c s rows places removed m → RowOf s rows k → k < m
     → gone ≡ goneAt places removed k → TrialOf b (goneFrom c s rows k) t → TrialOf b gone t
 unfolding goneFrom
-trial-by-part {c} {s} {rows} {places} {removed} {k} {t = t} z l q w =
+trial-by-part {c} {s} {rows} {places} {removed} {k} {t = t} z r l q w =
     record {
       small = w .small;
       decides =
           ap (λ (g : List ℕ). trialHolds g t) q
           ∙ holds-same (goneAt places removed k) (removedFrom c (wholeOf c (treeIn s) .components) (componentBy s rows k))
-          (λ x. z .same k l x ∙ ap (λ (ks : List Component). among x (removedFrom c ks (componentBy s rows k))) (components-whole c s)) t
+          (λ x. row-same z r l x ∙ ap (λ (ks : List Component). among x (removedFrom c ks (componentBy s rows k))) (components-whole c s)) t
           ∙ w .decides;
     }
 

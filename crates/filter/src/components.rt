@@ -2,10 +2,10 @@
 // The search is left at the first component and instance that pass; a record's children have higher numbers.
 use crate::trials;
 use crate::trials::Trial;
-use contents::instances;
 use line::read;
 use query::Sections;
 use query::fields;
+use series::columns;
 use structure::rows;
 use values::times::Context;
 ghost use mathlib.Core.Path.{_≡_};
@@ -21,7 +21,7 @@ ghost use Rattle.query.specs.Fits.{Fits};
 ghost use Rattle.query.specs.Records.{textOf, componentAt};
 ghost use Rattle.query_check.specs.WellFormed.{recordsGood};
 ghost use Rattle.contents.specs.EntryRows.{EntryRows};
-ghost use Rattle.contents.specs.Removed.{RemovedRows};
+ghost use Rattle.series.specs.Columns.{RemovedRows};
 ghost use Rattle.filter.specs.Tests.{wholeOf, someComponentNamed, childrenHold, componentTest, queryHolds};
 ghost use Rattle.filter.specs.Ranges.{Given, Here, Among, RowSmall};
 ghost use Rattle.filter.specs.Trials.{componentFits, TrialOf, goneFrom, Alone};
@@ -107,7 +107,7 @@ fn component_holds(
             row,
             c,
         );
-        let gone = instances::gone_at(places, removed, row);
+        let gone = columns::gone_at(places, removed, row);
         let mut k = trials::first_tried(t);
         while trials::goes_on(t, k) {
             if trials::passes(t, gone, k) {

@@ -1,5 +1,5 @@
 -- Laws of the index: how the walk over the lines fills it, and what a reader of one line takes from it.
-use Prim.Native.Nat.{ℕ, _+_, _-_, _*_, _/_, _%_, _≤_, _<_}
+use Prim.Native.Nat.{ℕ, zero, suc, _+_, _-_, _*_, _/_, _%_, _≤_, _<_}
 use mathlib.Core.Path.{_≡_, refl, sym, ap, subst, _∙_}
 use mathlib.Core.Bool.{Bool, true, false, cond}
 use mathlib.Core.List.{List, [], _∷_}
@@ -14,6 +14,7 @@ use Rattle.ascii.specs.Names.{sameName}
 use Rattle.ascii.proofs.Names.{sameName-length}
 use Rattle.ascii.proofs.Bools.{clash, and-right}
 use Rattle.text.specs.Lines.{line, part, allLines, contentLines, LineAt, NothingAt}
+use Rattle.text.proofs.Lines.{length-part}
 use Rattle.line.specs.Scanner.{step, isEnding, scan, isWellFormed}
 use Rattle.line.specs.Reading.{nameOf}
 use Rattle.line.specs.WellFormed.{Checked, GoodLineAt, NamedLineAt, BadLineAt}
@@ -21,7 +22,7 @@ use Rattle.line.specs.declared.scan.State.the-variants.{Start, Name, Wrong}
 use Rattle.line.proofs.Reading.{name-take, name-fits}
 use Rattle.line.proofs.ScannerNames.{name-short}
 use Rattle.line.proofs.WellFormed.{checked-start, checked-next, checked-bad, checked-end}
-use Rattle.index.specs.Index.{lineBytes, Between, startIn, nameIn, Entry, Lines, FilledBy}
+use Rattle.index.specs.Index.{lineBytes, Between, startIn, nameIn, Entry, Indexed, Lines, FilledBy}
 use Rattle.index.specs.declared.Filled.{Filled}
 
 -- ---- a line is two bytes or more
@@ -84,13 +85,9 @@ no-more n ls e = omega (arith, length-drop n ls, ap length e)
 some-more : (n : ℕ) (ls : List (List ℕ)) (l : List ℕ) (r : List (List ℕ)) → drop n ls ≡ l ∷ r → n < length ls
 some-more n ls l r e = omega (arith, length-drop n ls, ap length e)
 
--- the line is as long as the places are apart
-part-long : (s : List ℕ) (a e : ℕ) → a ≤ e → e ≤ length s → length (part s a e) ≡ e - a
-part-long s a e p q = omega (arith, length-take (e - a) (drop a s), length-drop a s)
-
 good-long : {s : List ℕ} {a e : ℕ} → GoodLineAt s a e → a + 2 ≤ e
 good-long {s} {a} {e} h =
-    omega (arith, h .line .starts, well-formed-two (part s a e) (h .good), part-long s a e (h .line .starts) (omega (arith, h .line .inside)))
+    omega (arith, h .line .starts, well-formed-two (part s a e) (h .good), length-part s a e (h .line .starts) (omega (arith, h .line .inside)))
 
 between-at : {s : List ℕ} {i a e : ℕ} → GoodLineAt s a e → contentLines (drop a s) ≡ drop i (contentLines s) → Between s i a (e + 2)
 between-at {s} {i} {a} {e} h p =
@@ -262,6 +259,23 @@ module _ {s index : List ℕ} {i : ℕ} (k : Entry s index i) where
 pub name-read : (index : List ℕ) (i : ℕ) {x : ℕ} → x ≡ getD index i 0 → x / 131072 ≡ nameIn (getD index i 0)
 unfolding nameIn
 name-read index i p = ap (λ (v : ℕ). v / 131072) p
+
+-- ---- where lines stand
+
+-- a line and its CR LF stand between its start and the next one's
+pub entry-long : {s index : List ℕ} {i : ℕ} → Entry s index i → startIn (getD index i 0) + length (lineBytes s i) + 2 ≡ startIn (getD index (i + 1) 0)
+entry-long {s} {index} {i} k =
+    let a = startIn (getD index i 0) in
+    let b = startIn (getD index (i + 1) 0) in
+    let n : length (part s a (b - 2)) ≡ b - 2 - a = length-part s a (b - 2) (omega (arith, k .between .order)) (omega (arith, k .between .inside)) in
+    omega (arith, k .between .order, sym n ∙ ap length (entry-line k))
+
+-- a later line starts later
+pub starts-rise : {s index : List ℕ} → Indexed s index → (i n : ℕ) → i + n ≤ length (contentLines s) → startIn (getD index i 0) ≤ startIn (getD index (i + n) 0)
+starts-rise {s} {index} h i zero l = omega (arith, ap (λ (x : ℕ). startIn (getD index x 0)) (let z : i + 0 ≡ i = omega arith in z))
+starts-rise {s} {index} h i (suc n) l =
+    let z : i + suc n ≡ i + n + 1 = omega arith in
+    omega (arith, starts-rise h i n (omega arith), h .entries (i + n) (omega arith) .between .order, ap (λ (x : ℕ). startIn (getD index x 0)) z)
 
 -- ---- what a caller learns
 

@@ -27,6 +27,7 @@ use Rattle.line.specs.Grammar.{Parameter, ContentLine}
 use Rattle.line.proofs.ReadingParameters.{parametersFrom, parameters-next, parameters-end, parameters-all}
 use Rattle.values.specs.declared.times.Context.{Context}
 use Rattle.values.specs.Times.{formOf, timeOf}
+use Rattle.values.specs.TimeLists.{timeItems, allTimes}
 use Rattle.values.specs.Rule.{ruleOf}
 use Rattle.values.specs.Period.{periodItems, allPeriods}
 use Rattle.values.specs.declared.times.Time.{Time}
@@ -40,8 +41,8 @@ use Rattle.values.proofs.PeriodLaws.{readDuration-small}
 use Rattle.property.specs.declared.Scope.{Scope}
 use Rattle.property.specs.declared.Property.{Property}
 use Rattle.property.specs.declared.PropertyValue.{PropertyValue}
-use Rattle.property.specs.Properties.{PropertyWord, picked, wordsIn, propertyOf, valueAs, beforePeriods, withPeriods, propertyValueOf, isStart, timeIn, startBy}
-use Rattle.property.specs.Properties.{endBy, unlessZoned, durationBy, ruleValue, busyOf, typeValue, givesPeriods, PropertyValueSmall, busyNamed}
+use Rattle.property.specs.Properties.{PropertyWord, picked, wordsIn, propertyOf, valueAs, beforeItems, withItems, propertyValueOf, isStart, timeIn, startBy}
+use Rattle.property.specs.Properties.{endBy, recurrenceBy, exceptionsBy, unlessZoned, unlessRanged, durationBy, ruleValue, busyOf, typeValue, givesPeriods, PropertyValueSmall, busyNamed}
 use Rattle.property.proofs.Property.{the-type}
 
 -- ---- which property a name is, by its length: only the words that are as long can be meant
@@ -95,12 +96,12 @@ pub word-last : {s : Scope} {m : List ℕ} {e : PropertyWord} {t : Bool} {r : Pr
 word-last q w h = h ∙ decided q w
 
 -- no word of a VEVENT is as long as that
-pub event-unread : (m : List ℕ) (n : ℕ) → length m ≡ n → (n ≡ 5 → ⊥) → (n ≡ 6 → ⊥) → (n ≡ 7 → ⊥) → (n ≡ 8 → ⊥) → (n ≡ 13 → ⊥)
+pub event-unread : (m : List ℕ) (n : ℕ) → length m ≡ n → (n ≡ 3 → ⊥) → (n ≡ 5 → ⊥) → (n ≡ 6 → ⊥) → (n ≡ 7 → ⊥) → (n ≡ 8 → ⊥) → (n ≡ 13 → ⊥)
     → Property.Unread ≡ propertyOf Scope.Event m
-event-unread m n h a b c d e =
+event-unread m n h u a b c d e =
     sym
     (by-length Scope.Event m n h
-    ∙ ap (picked m) (let z : ofLength n (wordsIn Scope.Event) ≡ [] = rw (ne-eqb n 5 a, ne-eqb n 6 b, ne-eqb n 7 c, ne-eqb n 8 d, ne-eqb n 13 e) in z))
+    ∙ ap (picked m) (let z : ofLength n (wordsIn Scope.Event) ≡ [] = rw (ne-eqb n 3 u, ne-eqb n 5 a, ne-eqb n 6 b, ne-eqb n 7 c, ne-eqb n 8 d, ne-eqb n 13 e) in z))
 
 pub free-busy-unread : (m : List ℕ) (n : ℕ) → length m ≡ n → (n ≡ 5 → ⊥) → (n ≡ 7 → ⊥) → (n ≡ 8 → ⊥) → Property.Unread ≡ propertyOf Scope.FreeBusy m
 free-busy-unread m n h a b c =
@@ -120,11 +121,14 @@ start-or-end Property.Duration h = neither 2 (omega arith) h
 start-or-end Property.Rule h = neither 3 (omega arith) h
 start-or-end Property.Status h = neither 4 (omega arith) h
 start-or-end Property.Transparency h = neither 5 (omega arith) h
-start-or-end Property.Periods h = neither 6 (omega arith) h
-start-or-end Property.Unsupported h = neither 7 (omega arith) h
-start-or-end Property.Unread h = neither 8 (omega arith) h
+start-or-end Property.Uid h = neither 6 (omega arith) h
+start-or-end Property.RecurrenceId h = neither 7 (omega arith) h
+start-or-end Property.Exceptions h = neither 8 (omega arith) h
+start-or-end Property.Periods h = neither 9 (omega arith) h
+start-or-end Property.Unsupported h = neither 10 (omega arith) h
+start-or-end Property.Unread h = neither 11 (omega arith) h
 
--- ---- a line without parameters: its value stands behind the colon, its time is a DATE-TIME, it has no TZID, and its periods are busy
+-- ---- a line without parameters: its value stands behind the colon, its time is a DATE-TIME, it has neither TZID nor RANGE, and its periods are busy
 
 -- the empty word names BUSY
 unnamed-busy : busyNamed [] ≡ BusyType.Busy
@@ -136,9 +140,9 @@ module _ (x : ContentLine) (e : x .parameters ≡ []) where
   unfolding formOf hasParameter hasTwice hasList parametersNamed someList
   plain-form = rw e
 
-  pub plain-unzoned : false ≡ hasParameter (ascii "TZID") x
+  pub plain-without : (n : List ℕ) → false ≡ hasParameter n x
   unfolding hasParameter parametersNamed
-  plain-unzoned = rw e
+  plain-without n = rw e
 
   plain-busy : busyOf x ≡ BusyType.Busy
   unfolding busyOf firstValue valuesNamed pooled parametersNamed
@@ -179,8 +183,8 @@ module _ (t : List ℕ) (x : ContentLine) (e : x .parameters ≡ parameterOf t �
         (ap PropertyValue.HasPeriods (q ∙ ap busyNamed (p ∙ first-only (valuesOf t))))
 
 -- a name that is not read
-pub unread-line : (c : Context) (s : Scope) (l : List ℕ) → propertyOf s (nameOf l) ≡ Property.Unread → PropertyValue.Nothing ≡ beforePeriods c s (lineOf l)
-unfolding beforePeriods valueAs lineOf
+pub unread-line : (c : Context) (s : Scope) (l : List ℕ) → propertyOf s (nameOf l) ≡ Property.Unread → PropertyValue.Nothing ≡ beforeItems c s (lineOf l)
+unfolding beforeItems valueAs lineOf
 unread-line c s l h = rw h
 
 -- ---- a time, with TZID and without it
@@ -213,23 +217,23 @@ module _ (l : List ℕ) (start : Bool) (c : Context) (s : Scope) (t : Bool) (e :
 -- ---- periods
 
 -- a time is no period, and neither is a line that is not read
-none-by : (v : List ℕ) (x : ContentLine) (z : Bool) (r : TimeRead) (start : Bool)
-    → givesPeriods (withPeriods v (cond z PropertyValue.Unsupported (cond start (startBy r) (endBy r)))) ≡ false
-unfolding startBy endBy withPeriods givesPeriods
-none-by v x true r start = refl
-none-by v x false (TimeRead.Of t) true = refl
-none-by v x false (TimeRead.Of t) false = refl
-none-by v x false TimeRead.Bad true = refl
-none-by v x false TimeRead.Bad false = refl
+none-by : (c : Context) (v : List ℕ) (x : ContentLine) (z : Bool) (r : TimeRead) (start : Bool)
+    → givesPeriods (withItems c v (cond z PropertyValue.Unsupported (cond start (startBy r) (endBy r)))) ≡ false
+unfolding startBy endBy withItems givesPeriods
+none-by c v x true r start = refl
+none-by c v x false (TimeRead.Of t) true = refl
+none-by c v x false (TimeRead.Of t) false = refl
+none-by c v x false TimeRead.Bad true = refl
+none-by c v x false TimeRead.Bad false = refl
 
 time-none : (start : Bool) (c : Context) (s : Scope) (x : ContentLine) (v : List ℕ)
-    → givesPeriods (withPeriods v (valueAs (cond start Property.Start Property.End) c s x)) ≡ false
+    → givesPeriods (withItems c v (valueAs (cond start Property.Start Property.End) c s x)) ≡ false
 unfolding valueAs unlessZoned
-time-none true c s x v = none-by v x (hasParameter (ascii "TZID") x) (timeIn s (timeOf c x)) true
-time-none false c s x v = none-by v x (hasParameter (ascii "TZID") x) (timeIn s (timeOf c x)) false
+time-none true c s x v = none-by c v x (hasParameter (ascii "TZID") x) (timeIn s (timeOf c x)) true
+time-none false c s x v = none-by c v x (hasParameter (ascii "TZID") x) (timeIn s (timeOf c x)) false
 
-unread-none : (c : Context) (s : Scope) (x : ContentLine) (v : List ℕ) → false ≡ givesPeriods (withPeriods v (valueAs Property.Unread c s x))
-unfolding valueAs withPeriods givesPeriods
+unread-none : (c : Context) (s : Scope) (x : ContentLine) (v : List ℕ) → false ≡ givesPeriods (withItems c v (valueAs Property.Unread c s x))
+unfolding valueAs withItems givesPeriods
 unread-none c s x v = refl
 
 -- what a line says as FREEBUSY, and as anything else
@@ -242,11 +246,11 @@ module _ (c : Context) (l : List ℕ) where
 
   module _ (t : Bool) (e : t ≡ (hasTwice (ascii "FBTYPE") (lineOf l) || hasList (ascii "FBTYPE") (lineOf l))) (h : sameName (nameOf l) (ascii "FREEBUSY") ≡ true) where
     pub bad-type : t ≡ true → false ≡ givesPeriods (propertyValueOf c Scope.FreeBusy (lineOf l))
-    unfolding propertyValueOf beforePeriods valueAs typeValue withPeriods givesPeriods lineOf
+    unfolding propertyValueOf beforeItems valueAs typeValue withItems givesPeriods lineOf
     bad-type k = rw (free-busy-named h, sym e ∙ k)
 
     pub good-type : t ≡ false → (v : List ℕ) → v ≡ valueOf l → (b : Bool) → b ≡ allPeriods (periodItems v) → b ≡ givesPeriods (propertyValueOf c Scope.FreeBusy (lineOf l))
-    unfolding propertyValueOf beforePeriods valueAs typeValue withPeriods givesPeriods lineOf
+    unfolding propertyValueOf beforeItems valueAs typeValue withItems givesPeriods lineOf
     good-type k v f b q = rw (free-busy-named h, sym e ∙ k) (go (allPeriods (periodItems (valueOf l))) (q ∙ ap (λ (w : List ℕ). allPeriods (periodItems w)) f))
       where
         go : (y : Bool) → b ≡ y → b ≡ givesPeriods (cond y (PropertyValue.HasPeriods (busyOf (lineOf l))) PropertyValue.Bad)
@@ -254,11 +258,11 @@ module _ (c : Context) (l : List ℕ) where
         go false z = z
 
   pub other-name : sameName (nameOf l) (ascii "FREEBUSY") ≡ false → false ≡ givesPeriods (propertyValueOf c Scope.FreeBusy (lineOf l))
-  unfolding propertyValueOf beforePeriods propertyOf lineOf
+  unfolding propertyValueOf beforeItems propertyOf lineOf
   other-name h = go (sameName (nameOf l) (ascii "DTSTART")) (sameName (nameOf l) (ascii "DTEND")) (sameName (nameOf l) (ascii "FREEBUSY")) h
     where
       go : (x y z : Bool) → z ≡ false
-          → false ≡ givesPeriods (withPeriods (valueOf l) (valueAs (cond x Property.Start (cond y Property.End (cond z Property.Periods Property.Unread))) c Scope.FreeBusy (lineOf l)))
+          → false ≡ givesPeriods (withItems c (valueOf l) (valueAs (cond x Property.Start (cond y Property.End (cond z Property.Periods Property.Unread))) c Scope.FreeBusy (lineOf l)))
       go true y z k = sym (time-none true c Scope.FreeBusy (lineOf l) (valueOf l))
       go false true z k = sym (time-none false c Scope.FreeBusy (lineOf l) (valueOf l))
       go false false true k = absurd (true≢false k)
@@ -272,29 +276,55 @@ isPeriods Property.Duration = false
 isPeriods Property.Rule = false
 isPeriods Property.Status = false
 isPeriods Property.Transparency = false
+isPeriods Property.Uid = false
+isPeriods Property.RecurrenceId = false
+isPeriods Property.Exceptions = false
 isPeriods Property.Periods = true
 isPeriods Property.Unsupported = false
 isPeriods Property.Unread = false
 
-duration-none : (v : List ℕ) (r : DurationRead) → givesPeriods (withPeriods v (durationBy r)) ≡ false
-unfolding durationBy withPeriods givesPeriods
-duration-none v (DurationRead.Of d) = refl
-duration-none v DurationRead.Bad = refl
+duration-none : (c : Context) (v : List ℕ) (r : DurationRead) → givesPeriods (withItems c v (durationBy r)) ≡ false
+unfolding durationBy withItems givesPeriods
+duration-none c v (DurationRead.Of d) = refl
+duration-none c v DurationRead.Bad = refl
 
-rule-none : (v : List ℕ) (r : RuleRead) → givesPeriods (withPeriods v (ruleValue r)) ≡ false
-unfolding ruleValue withPeriods givesPeriods
-rule-none v (RuleRead.Of x) = refl
-rule-none v RuleRead.Unsupported = refl
-rule-none v RuleRead.Bad = refl
+rule-none : (c : Context) (v : List ℕ) (r : RuleRead) → givesPeriods (withItems c v (ruleValue r)) ≡ false
+unfolding ruleValue withItems givesPeriods
+rule-none c v (RuleRead.Of x) = refl
+rule-none c v RuleRead.Unsupported = refl
+rule-none c v RuleRead.Bad = refl
 
-no-periods : (p : Property) (c : Context) (s : Scope) (x : ContentLine) (v : List ℕ) → isPeriods p ≡ false → givesPeriods (withPeriods v (valueAs p c s x)) ≡ false
-unfolding valueAs withPeriods givesPeriods
+-- neither of two gives periods, whichever stands
+either-none : (t : Bool) (a b : PropertyValue) → givesPeriods a ≡ false → givesPeriods b ≡ false → givesPeriods (cond t a b) ≡ false
+either-none true a b h k = h
+either-none false a b h k = k
+
+recurrence-none : (c : Context) (v : List ℕ) (r z : Bool) (t : TimeRead)
+    → givesPeriods (withItems c v (cond r PropertyValue.Unsupported (cond z PropertyValue.Unsupported (recurrenceBy t)))) ≡ false
+unfolding recurrenceBy withItems givesPeriods
+recurrence-none c v true z t = refl
+recurrence-none c v false true t = refl
+recurrence-none c v false false (TimeRead.Of t) = refl
+recurrence-none c v false false TimeRead.Bad = refl
+
+exceptions-none : (c : Context) (v : List ℕ) (z : Bool) (f : Form) → givesPeriods (withItems c v (cond z PropertyValue.Unsupported (exceptionsBy f))) ≡ false
+unfolding exceptionsBy withItems givesPeriods
+exceptions-none c v true f = refl
+exceptions-none c v false Form.DateTime = either-none (allTimes (timeItems c Form.DateTime v)) _ _ refl refl
+exceptions-none c v false Form.Date = either-none (allTimes (timeItems c Form.Date v)) _ _ refl refl
+exceptions-none c v false Form.Wrong = refl
+
+no-periods : (p : Property) (c : Context) (s : Scope) (x : ContentLine) (v : List ℕ) → isPeriods p ≡ false → givesPeriods (withItems c v (valueAs p c s x)) ≡ false
+unfolding valueAs unlessRanged unlessZoned withItems givesPeriods
 no-periods Property.Start c s x v h = time-none true c s x v
 no-periods Property.End c s x v h = time-none false c s x v
-no-periods Property.Duration c s x v h = duration-none v (readDuration (x .value))
-no-periods Property.Rule c s x v h = rule-none v (ruleOf c (x .value))
+no-periods Property.Duration c s x v h = duration-none c v (readDuration (x .value))
+no-periods Property.Rule c s x v h = rule-none c v (ruleOf c (x .value))
 no-periods Property.Status c s x v h = refl
 no-periods Property.Transparency c s x v h = refl
+no-periods Property.Uid c s x v h = refl
+no-periods Property.RecurrenceId c s x v h = recurrence-none c v (hasParameter (ascii "RANGE") x) (hasParameter (ascii "TZID") x) (timeOf c x)
+no-periods Property.Exceptions c s x v h = exceptions-none c v (hasParameter (ascii "TZID") x) (formOf x)
 no-periods Property.Periods c s x v h = absurd (true≢false h)
 no-periods Property.Unsupported c s x v h = refl
 no-periods Property.Unread c s x v h = refl
@@ -313,10 +343,10 @@ picked-none m (e ∷ es) h = go (sameName m (e .word)) (picked-none m es (h .1))
     go false k = k
 
 pub event-periods : (c : Context) (x : ContentLine) → givesPeriods (propertyValueOf c Scope.Event x) ≡ false
-unfolding propertyValueOf beforePeriods propertyOf
+unfolding propertyValueOf beforeItems propertyOf
 event-periods c x =
     no-periods (propertyOf Scope.Event (x .name)) c Scope.Event x (x .value)
-    (picked-none (x .name) (wordsIn Scope.Event) (refl, (refl, (refl, (refl, (refl, (refl, (refl, (refl, (refl, (refl, tt)))))))))))
+    (picked-none (x .name) (wordsIn Scope.Event) (refl, (refl, (refl, (refl, (refl, (refl, (refl, (refl, (refl, (refl, (refl, tt))))))))))))
 
 -- ---- a claim about what a line says holds where it holds of what each reading can come to
 
@@ -330,6 +360,17 @@ module _ (P : PropertyValue → Type 0) where
   unfolding endBy
   end-keeps b (TimeRead.Of t) h = h t refl
   end-keeps b TimeRead.Bad h = b
+
+  pub recurrence-keeps : P PropertyValue.Bad → (r : TimeRead) → ((t : Time) → r ≡ TimeRead.Of t → P (PropertyValue.RecurrenceId t)) → P (recurrenceBy r)
+  unfolding recurrenceBy
+  recurrence-keeps b (TimeRead.Of t) h = h t refl
+  recurrence-keeps b TimeRead.Bad h = b
+
+  pub exceptions-keep : P PropertyValue.Bad → (f : Form) → P (PropertyValue.HasExceptions f) → P (exceptionsBy f)
+  unfolding exceptionsBy
+  exceptions-keep b Form.DateTime h = h
+  exceptions-keep b Form.Date h = h
+  exceptions-keep b Form.Wrong h = b
 
   pub duration-keeps : P PropertyValue.Bad → (r : DurationRead) → ((d : Duration) → r ≡ DurationRead.Of d → P (PropertyValue.Lasts d)) → P (durationBy r)
   unfolding durationBy
@@ -350,22 +391,29 @@ module _ (P : PropertyValue → Type 0) where
   unfolding unlessZoned
   zoned-keeps u x v h = either-keeps (hasParameter (ascii "TZID") x) _ _ u h
 
+  pub ranged-keeps : P PropertyValue.Unsupported → (x : ContentLine) (v : PropertyValue) → P v → P (unlessRanged x v)
+  unfolding unlessRanged
+  ranged-keeps u x v h = either-keeps (hasParameter (ascii "RANGE") x) _ _ u h
+
   pub type-keeps : P PropertyValue.Bad → (x : ContentLine) → P (PropertyValue.HasPeriods (busyOf x)) → P (typeValue x)
   unfolding typeValue
   type-keeps b x h = either-keeps (hasTwice (ascii "FBTYPE") x || hasList (ascii "FBTYPE") x) _ _ b h
 
-  pub periods-keep : P PropertyValue.Bad → (w : List ℕ) (v : PropertyValue) → P v → P (withPeriods w v)
-  unfolding withPeriods
-  periods-keep b w PropertyValue.Nothing h = h
-  periods-keep b w PropertyValue.Unsupported h = h
-  periods-keep b w PropertyValue.Bad h = h
-  periods-keep b w (PropertyValue.Start t) h = h
-  periods-keep b w (PropertyValue.End t) h = h
-  periods-keep b w (PropertyValue.Lasts d) h = h
-  periods-keep b w (PropertyValue.Repeats r) h = h
-  periods-keep b w (PropertyValue.HasStatus x) h = h
-  periods-keep b w (PropertyValue.Transparent x) h = h
-  periods-keep b w (PropertyValue.HasPeriods x) h = either-keeps (allPeriods (periodItems w)) _ _ h b
+  pub items-keep : P PropertyValue.Bad → (c : Context) (w : List ℕ) (v : PropertyValue) → P v → P (withItems c w v)
+  unfolding withItems
+  items-keep b c w PropertyValue.Nothing h = h
+  items-keep b c w PropertyValue.Unsupported h = h
+  items-keep b c w PropertyValue.Bad h = h
+  items-keep b c w (PropertyValue.Start t) h = h
+  items-keep b c w (PropertyValue.End t) h = h
+  items-keep b c w (PropertyValue.Lasts d) h = h
+  items-keep b c w (PropertyValue.Repeats r) h = h
+  items-keep b c w (PropertyValue.HasStatus x) h = h
+  items-keep b c w (PropertyValue.Transparent x) h = h
+  items-keep b c w PropertyValue.Uid h = h
+  items-keep b c w (PropertyValue.RecurrenceId t) h = h
+  items-keep b c w (PropertyValue.HasExceptions f) h = either-keeps (allTimes (timeItems c f w)) _ _ h b
+  items-keep b c w (PropertyValue.HasPeriods x) h = either-keeps (allPeriods (periodItems w)) _ _ h b
 
 -- ---- how large what a line says can be
 
@@ -376,9 +424,12 @@ timeIn-same Scope.Event r t e = e
 timeIn-same Scope.FreeBusy r t e = utcOnly-same r t e
 timeIn-same Scope.Other r t e = e
 
-timeIn-small : (c : Context) (s : Scope) (x : ContentLine) (t : Time) → timeIn s (timeOf c x) ≡ TimeRead.Of t → t .second ≤ lastSecond
+timeOf-small : (c : Context) (x : ContentLine) (t : Time) → timeOf c x ≡ TimeRead.Of t → t .second ≤ lastSecond
 unfolding timeOf
-timeIn-small c s x t e = readTime-small c (formOf x) (x .value) t (timeIn-same s (timeOf c x) t e)
+timeOf-small c x t e = readTime-small c (formOf x) (x .value) t e
+
+timeIn-small : (c : Context) (s : Scope) (x : ContentLine) (t : Time) → timeIn s (timeOf c x) ≡ TimeRead.Of t → t .second ≤ lastSecond
+timeIn-small c s x t e = timeOf-small c x t (timeIn-same s (timeOf c x) t e)
 
 valueAs-small : (p : Property) (c : Context) (s : Scope) (x : ContentLine) → PropertyValueSmall (valueAs p c s x)
 unfolding valueAs
@@ -389,11 +440,15 @@ valueAs-small Property.Duration c s x = duration-keeps PropertyValueSmall tt (re
 valueAs-small Property.Rule c s x = rule-keeps PropertyValueSmall tt tt (ruleOf c (x .value)) (λ r. ruleOf-small c (x .value) r)
 valueAs-small Property.Status c s x = tt
 valueAs-small Property.Transparency c s x = tt
+valueAs-small Property.Uid c s x = tt
+valueAs-small Property.RecurrenceId c s x =
+    ranged-keeps PropertyValueSmall tt x _ (zoned-keeps PropertyValueSmall tt x _ (recurrence-keeps PropertyValueSmall tt (timeOf c x) (λ t. timeOf-small c x t)))
+valueAs-small Property.Exceptions c s x = zoned-keeps PropertyValueSmall tt x _ (exceptions-keep PropertyValueSmall tt (formOf x) tt)
 valueAs-small Property.Periods c s x = type-keeps PropertyValueSmall tt x tt
 valueAs-small Property.Unsupported c s x = tt
 valueAs-small Property.Unread c s x = tt
 
 -- what a line says is small: times are within the limits, durations and rules as their readers leave them
 pub propertyValueOf-small : (c : Context) (s : Scope) (x : ContentLine) → PropertyValueSmall (propertyValueOf c s x)
-unfolding propertyValueOf beforePeriods
-propertyValueOf-small c s x = periods-keep PropertyValueSmall tt (x .value) (beforePeriods c s x) (valueAs-small (propertyOf s (x .name)) c s x)
+unfolding propertyValueOf beforeItems
+propertyValueOf-small c s x = items-keep PropertyValueSmall tt c (x .value) (beforeItems c s x) (valueAs-small (propertyOf s (x .name)) c s x)

@@ -10,10 +10,12 @@ use Rattle.time.specs.Limits.{lastSecond}
 use Rattle.time.specs.declared.duration.DurationRead.{DurationRead}
 use Rattle.line.specs.Grammar.{ContentLine}
 use Rattle.line.specs.Reading.{hasParameter, hasTwice, hasList, firstValue}
-use Rattle.values.specs.Times.{timeOf, utcOnly}
+use Rattle.values.specs.Times.{formOf, timeOf, utcOnly}
+use Rattle.values.specs.TimeLists.{timeItems, allTimes}
 use Rattle.values.specs.Rule.{ruleOf, RuleSmall}
 use Rattle.values.specs.Period.{periodItems, allPeriods, DurationSmall}
 use Rattle.values.specs.declared.times.Context.{Context}
+use Rattle.values.specs.declared.times.Form.{Form}
 use Rattle.values.specs.declared.times.TimeRead.{TimeRead}
 use Rattle.values.specs.declared.rule.RuleRead.{RuleRead}
 use Rattle.property.specs.declared.Scope.{Scope}
@@ -39,10 +41,11 @@ wordsIn Scope.Event =
     ∷ entry (ascii "RRULE") Property.Rule
     ∷ entry (ascii "STATUS") Property.Status
     ∷ entry (ascii "TRANSP") Property.Transparency
+    ∷ entry (ascii "UID") Property.Uid
+    ∷ entry (ascii "RECURRENCE-ID") Property.RecurrenceId
+    ∷ entry (ascii "EXDATE") Property.Exceptions
     ∷ entry (ascii "RDATE") Property.Unsupported
-    ∷ entry (ascii "EXDATE") Property.Unsupported
     ∷ entry (ascii "EXRULE") Property.Unsupported
-    ∷ entry (ascii "RECURRENCE-ID") Property.Unsupported
     ∷ []
 wordsIn Scope.FreeBusy =
     entry (ascii "DTSTART") Property.Start ∷ entry (ascii "DTEND") Property.End ∷ entry (ascii "FREEBUSY") Property.Periods ∷ []
@@ -70,9 +73,23 @@ unfoldable pub endBy : TimeRead → PropertyValue
 endBy (TimeRead.Of t) = PropertyValue.End t
 endBy TimeRead.Bad = PropertyValue.Bad
 
+unfoldable pub recurrenceBy : TimeRead → PropertyValue
+recurrenceBy (TimeRead.Of t) = PropertyValue.RecurrenceId t
+recurrenceBy TimeRead.Bad = PropertyValue.Bad
+
+-- the times of EXDATE are of this form
+unfoldable pub exceptionsBy : Form → PropertyValue
+exceptionsBy Form.DateTime = PropertyValue.HasExceptions Form.DateTime
+exceptionsBy Form.Date = PropertyValue.HasExceptions Form.Date
+exceptionsBy Form.Wrong = PropertyValue.Bad
+
 -- a time with TZID is unsupported, whatever else is on its line
 unfoldable pub unlessZoned : ContentLine → PropertyValue → PropertyValue
 unlessZoned x s = cond (hasParameter (ascii "TZID") x) PropertyValue.Unsupported s
+
+-- so is RECURRENCE-ID with RANGE
+unfoldable pub unlessRanged : ContentLine → PropertyValue → PropertyValue
+unlessRanged x s = cond (hasParameter (ascii "RANGE") x) PropertyValue.Unsupported s
 
 unfoldable pub durationBy : DurationRead → PropertyValue
 durationBy (DurationRead.Of d) = PropertyValue.Lasts d
@@ -102,7 +119,7 @@ busyOf x = busyNamed (firstValue (ascii "FBTYPE") x)
 unfoldable pub typeValue : ContentLine → PropertyValue
 typeValue x = cond (hasTwice (ascii "FBTYPE") x || hasList (ascii "FBTYPE") x) PropertyValue.Bad (PropertyValue.HasPeriods (busyOf x))
 
--- what a line says as a property, its periods not looked at
+-- what a line says as a property, the items of its list not looked at; UID may have any value
 unfoldable pub valueAs : Property → Context → Scope → ContentLine → PropertyValue
 valueAs Property.Start c s x = unlessZoned x (startBy (timeIn s (timeOf c x)))
 valueAs Property.End c s x = unlessZoned x (endBy (timeIn s (timeOf c x)))
@@ -110,6 +127,9 @@ valueAs Property.Duration c s x = durationBy (readDuration (x .value))
 valueAs Property.Rule c s x = ruleValue (ruleOf c (x .value))
 valueAs Property.Status c s x = PropertyValue.HasStatus (statusNamed (x .value))
 valueAs Property.Transparency c s x = PropertyValue.Transparent (sameName (x .value) (ascii "TRANSPARENT"))
+valueAs Property.Uid c s x = PropertyValue.Uid
+valueAs Property.RecurrenceId c s x = unlessRanged x (unlessZoned x (recurrenceBy (timeOf c x)))
+valueAs Property.Exceptions c s x = unlessZoned x (exceptionsBy (formOf x))
 valueAs Property.Periods c s x = typeValue x
 valueAs Property.Unsupported c s x = PropertyValue.Unsupported
 valueAs Property.Unread c s x = PropertyValue.Nothing
@@ -122,29 +142,36 @@ isStart Property.Duration = false
 isStart Property.Rule = false
 isStart Property.Status = false
 isStart Property.Transparency = false
+isStart Property.Uid = false
+isStart Property.RecurrenceId = false
+isStart Property.Exceptions = false
 isStart Property.Periods = false
 isStart Property.Unsupported = false
 isStart Property.Unread = false
 
-unfoldable pub beforePeriods : Context → Scope → ContentLine → PropertyValue
-beforePeriods c s x = valueAs (propertyOf s (x .name)) c s x
+-- what a line says, the items of its list not looked at
+unfoldable pub beforeItems : Context → Scope → ContentLine → PropertyValue
+beforeItems c s x = valueAs (propertyOf s (x .name)) c s x
 
--- FREEBUSY with this value is bad where any of its periods is
-unfoldable pub withPeriods : List ℕ → PropertyValue → PropertyValue
-withPeriods v PropertyValue.Nothing = PropertyValue.Nothing
-withPeriods v PropertyValue.Unsupported = PropertyValue.Unsupported
-withPeriods v PropertyValue.Bad = PropertyValue.Bad
-withPeriods v (PropertyValue.Start t) = PropertyValue.Start t
-withPeriods v (PropertyValue.End t) = PropertyValue.End t
-withPeriods v (PropertyValue.Lasts d) = PropertyValue.Lasts d
-withPeriods v (PropertyValue.Repeats r) = PropertyValue.Repeats r
-withPeriods v (PropertyValue.HasStatus s) = PropertyValue.HasStatus s
-withPeriods v (PropertyValue.Transparent b) = PropertyValue.Transparent b
-withPeriods v (PropertyValue.HasPeriods b) = cond (allPeriods (periodItems v)) (PropertyValue.HasPeriods b) PropertyValue.Bad
+-- EXDATE with this value is bad where any of its times is, and FREEBUSY where any of its periods is
+unfoldable pub withItems : Context → List ℕ → PropertyValue → PropertyValue
+withItems c v PropertyValue.Nothing = PropertyValue.Nothing
+withItems c v PropertyValue.Unsupported = PropertyValue.Unsupported
+withItems c v PropertyValue.Bad = PropertyValue.Bad
+withItems c v (PropertyValue.Start t) = PropertyValue.Start t
+withItems c v (PropertyValue.End t) = PropertyValue.End t
+withItems c v (PropertyValue.Lasts d) = PropertyValue.Lasts d
+withItems c v (PropertyValue.Repeats r) = PropertyValue.Repeats r
+withItems c v (PropertyValue.HasStatus s) = PropertyValue.HasStatus s
+withItems c v (PropertyValue.Transparent b) = PropertyValue.Transparent b
+withItems c v PropertyValue.Uid = PropertyValue.Uid
+withItems c v (PropertyValue.RecurrenceId t) = PropertyValue.RecurrenceId t
+withItems c v (PropertyValue.HasExceptions f) = cond (allTimes (timeItems c f v)) (PropertyValue.HasExceptions f) PropertyValue.Bad
+withItems c v (PropertyValue.HasPeriods b) = cond (allPeriods (periodItems v)) (PropertyValue.HasPeriods b) PropertyValue.Bad
 
 -- what a line says
 unfoldable pub propertyValueOf : Context → Scope → ContentLine → PropertyValue
-propertyValueOf c s x = withPeriods (x .value) (beforePeriods c s x)
+propertyValueOf c s x = withItems c (x .value) (beforeItems c s x)
 
 -- does it give periods?
 unfoldable pub givesPeriods : PropertyValue → Bool
@@ -157,6 +184,9 @@ givesPeriods (PropertyValue.Lasts d) = false
 givesPeriods (PropertyValue.Repeats r) = false
 givesPeriods (PropertyValue.HasStatus s) = false
 givesPeriods (PropertyValue.Transparent b) = false
+givesPeriods PropertyValue.Uid = false
+givesPeriods (PropertyValue.RecurrenceId t) = false
+givesPeriods (PropertyValue.HasExceptions f) = false
 givesPeriods (PropertyValue.HasPeriods b) = true
 
 -- how large what a line says can be
@@ -170,4 +200,7 @@ PropertyValueSmall (PropertyValue.Lasts d) = DurationSmall d
 PropertyValueSmall (PropertyValue.Repeats r) = RuleSmall r
 PropertyValueSmall (PropertyValue.HasStatus s) = Unit {0}
 PropertyValueSmall (PropertyValue.Transparent b) = Unit {0}
+PropertyValueSmall PropertyValue.Uid = Unit {0}
+PropertyValueSmall (PropertyValue.RecurrenceId t) = t .second ≤ lastSecond
+PropertyValueSmall (PropertyValue.HasExceptions f) = Unit {0}
 PropertyValueSmall (PropertyValue.HasPeriods b) = Unit {0}

@@ -21,9 +21,9 @@ ghost use lib.ListN.{length};
 ghost use Rattle.ascii.specs.Words.{ascii};
 ghost use Rattle.line.specs.Grammar.{ContentLine};
 ghost use Rattle.line.specs.Reading.{nameOf, valueOf, lineOf, parameterOf, Plain, hasParameter, hasTwice, hasList};
-ghost use Rattle.values.specs.Times.{formOf, ContextGood};
-ghost use Rattle.property.specs.Properties.{propertyOf, timeIn, startBy, endBy, isStart, durationBy, ruleValue, statusNamed};
-ghost use Rattle.property.specs.Properties.{busyNamed, busyOf, typeValue, valueAs, beforePeriods, propertyValueOf, givesPeriods};
+ghost use Rattle.values.specs.Times.{formOf, timeOf, ContextGood};
+ghost use Rattle.property.specs.Properties.{propertyOf, timeIn, startBy, endBy, recurrenceBy, exceptionsBy, isStart, durationBy, ruleValue, statusNamed};
+ghost use Rattle.property.specs.Properties.{busyNamed, busyOf, typeValue, valueAs, beforeItems, propertyValueOf, givesPeriods};
 
 // The component that a line stands directly in.
 pub enum Scope {
@@ -40,6 +40,9 @@ pub enum Property {
     Rule,
     Status,
     Transparency,
+    Uid,
+    RecurrenceId,
+    Exceptions,
     Periods,
     // Read nowhere, but refused directly in a VEVENT.
     Unsupported,
@@ -67,6 +70,11 @@ pub enum PropertyValue {
     HasStatus(Status),
     // Is TRANSP the word TRANSPARENT?
     Transparent(bool),
+    // UID: its bytes are read in place.
+    Uid,
+    RecurrenceId(Time),
+    // EXDATE: its times, of this form, are read in place.
+    HasExceptions(Form),
     // FREEBUSY: its periods are read in place.
     HasPeriods(BusyType),
 }
@@ -104,7 +112,7 @@ fn event_of_six(name: &[u8]) -> Property
         return Property::Transparency;
     }
     if ascii::same_name(name, b"EXDATE") {
-        return Property::Unsupported;
+        return Property::Exceptions;
     }
     property_if(ascii::same_name(name, b"EXRULE"), Property::Unsupported)
 }
@@ -114,13 +122,14 @@ fn event_property(name: &[u8]) -> Property
     ensures { λ r. ⌜ r ≡ propertyOf Scope.Event (now (name .entry)) ⌝ }
 {
     match name.len() {
+        3 => property_if(ascii::same_name(name, b"UID"), Property::Uid),
         5 => event_of_five(name),
         6 => event_of_six(name),
         7 => property_if(ascii::same_name(name, b"DTSTART"), Property::Start),
         8 => property_if(ascii::same_name(name, b"DURATION"), Property::Duration),
         13 => property_if(
             ascii::same_name(name, b"RECURRENCE-ID"),
-            Property::Unsupported,
+            Property::RecurrenceId,
         ),
         _ => Property::Unread,
     }
@@ -171,6 +180,17 @@ fn is_zoned(line: &[u8], plain: bool) -> bool
     line::read::has_parameter(line, b"TZID")
 }
 
+// Has the line RANGE? One that is plain has no parameter at all.
+fn is_ranged(line: &[u8], plain: bool) -> bool
+    requires { ⌜ (plain ≡ true → lineOf (now line) .parameters ≡ []) ⌝ }
+    ensures { λ r. ⌜ r ≡ hasParameter (ascii "RANGE") (lineOf (now (line .entry))) ⌝ }
+{
+    if plain {
+        return false;
+    }
+    line::read::has_parameter(line, b"RANGE")
+}
+
 // The form that the line asks for.
 fn form_in(line: &[u8], plain: bool) -> Form
     requires { ⌜ (plain ≡ true → lineOf (now line) .parameters ≡ []) ⌝ }
@@ -180,6 +200,16 @@ fn form_in(line: &[u8], plain: bool) -> Form
         return Form::DateTime;
     }
     times::form_of(line)
+}
+
+// The time that the line, whose value is v, gives.
+fn time_on(c: Context, line: &[u8], v: &[u8], plain: bool) -> TimeRead
+    requires { ⌜ ContextGood c ⌝ }
+    requires { ⌜ now v ≡ valueOf (now line) ⌝ }
+    requires { ⌜ (plain ≡ true → lineOf (now line) .parameters ≡ []) ⌝ }
+    ensures { λ r. ⌜ r ≡ timeOf c (lineOf (now (line .entry))) ⌝ }
+{
+    times::read_time(c, form_in(line, plain), v)
 }
 
 // The time as that of DTSTART or of DTEND.
@@ -215,10 +245,54 @@ fn time_value(
     if is_zoned(line, plain) {
         return PropertyValue::Unsupported;
     }
-    timed(
-        start,
-        time_in(scope, times::read_time(c, form_in(line, plain), v)),
-    )
+    timed(start, time_in(scope, time_on(c, line, v, plain)))
+}
+
+fn recurrence_by(r: TimeRead) -> PropertyValue
+    ensures { λ q. ⌜ q ≡ recurrenceBy r ⌝ }
+{
+    match r {
+        TimeRead::Of(t) => PropertyValue::RecurrenceId(t),
+        TimeRead::Bad => PropertyValue::Bad,
+    }
+}
+
+// RECURRENCE-ID. With RANGE or TZID the line is unsupported, whatever else is on it.
+fn recurrence_value(c: Context, line: &[u8], v: &[u8], plain: bool) -> PropertyValue
+    requires { ⌜ ContextGood c ⌝ }
+    requires { ⌜ now v ≡ valueOf (now line) ⌝ }
+    requires { ⌜ (plain ≡ true → lineOf (now line) .parameters ≡ []) ⌝ }
+    ensures { λ r. ⌜ ((s : Scope) → r ≡ valueAs Property.RecurrenceId c s (lineOf (now (line .entry)))) ⌝ }
+{
+    if is_ranged(line, plain) {
+        return PropertyValue::Unsupported;
+    }
+    if is_zoned(line, plain) {
+        return PropertyValue::Unsupported;
+    }
+    recurrence_by(time_on(c, line, v, plain))
+}
+
+// EXDATE with times of the form.
+fn exceptions_by(form: Form) -> PropertyValue
+    ensures { λ q. ⌜ q ≡ exceptionsBy form ⌝ }
+{
+    match form {
+        Form::DateTime => PropertyValue::HasExceptions(Form::DateTime),
+        Form::Date => PropertyValue::HasExceptions(Form::Date),
+        Form::Wrong => PropertyValue::Bad,
+    }
+}
+
+// EXDATE: the form of its times, and they are left to the caller. With TZID the line is unsupported.
+fn exceptions_value(line: &[u8], plain: bool) -> PropertyValue
+    requires { ⌜ (plain ≡ true → lineOf (now line) .parameters ≡ []) ⌝ }
+    ensures { λ r. ⌜ ((c : Context) (s : Scope) → r ≡ valueAs Property.Exceptions c s (lineOf (now (line .entry)))) ⌝ }
+{
+    if is_zoned(line, plain) {
+        return PropertyValue::Unsupported;
+    }
+    exceptions_by(form_in(line, plain))
 }
 
 fn is_start(property: Property) -> bool
@@ -231,6 +305,9 @@ fn is_start(property: Property) -> bool
         Property::Rule => false,
         Property::Status => false,
         Property::Transparency => false,
+        Property::Uid => false,
+        Property::RecurrenceId => false,
+        Property::Exceptions => false,
         Property::Periods => false,
         Property::Unsupported => false,
         Property::Unread => false,
@@ -345,7 +422,7 @@ fn type_value(line: &[u8], plain: bool) -> PropertyValue
     type_among(line)
 }
 
-// What a line says as the property. Its value is v, and its periods are left to the caller.
+// What a line says as the property. Its value is v, and the items of a list are left to the caller.
 // The last arm is DTSTART and DTEND, together, so that a time is read in one place.
 fn value_as(
     property: Property,
@@ -367,6 +444,9 @@ fn value_as(
         Property::Rule => rule_value(rule::rule_of(c, v)),
         Property::Status => PropertyValue::HasStatus(status_named(v)),
         Property::Transparency => PropertyValue::Transparent(ascii::same_name(v, b"TRANSPARENT")),
+        Property::Uid => PropertyValue::Uid,
+        Property::RecurrenceId => recurrence_value(c, line, v, plain),
+        Property::Exceptions => exceptions_value(line, plain),
         Property::Periods => type_value(line, plain),
         _ => time_value(is_start(property), c, scope, line, v, plain),
     }
@@ -383,12 +463,12 @@ fn value_in(line: &[u8], n: usize, plain: bool) -> &[u8]
     line::read::value(line)
 }
 
-// What a line, whose name is n bytes long, says directly in the component; of FREEBUSY the periods are left to the caller.
+// What a line, whose name is n bytes long, says directly in the component; the items of a list are left to the caller.
 // Where no rule reads it, its value is not looked for.
 pub fn property_value(c: Context, scope: Scope, line: &[u8], n: usize) -> PropertyValue
     requires { ⌜ ContextGood c ⌝ }
     requires { ⌜ n ≡ length (nameOf (now line)) ⌝ }
-    ensures { λ r. ⌜ r ≡ beforePeriods c scope (lineOf (now (line .entry))) ⌝ }
+    ensures { λ r. ⌜ r ≡ beforeItems c scope (lineOf (now (line .entry))) ⌝ }
 {
     let property = property_of(scope, &line[..n]);
     match property {

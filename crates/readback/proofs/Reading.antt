@@ -26,7 +26,7 @@ use Rattle.values.specs.declared.times.Context.{Context}
 use Rattle.values.specs.declared.times.Time.{Time}
 use Rattle.values.specs.declared.times.TimeRead.{TimeRead}
 use Rattle.values.proofs.PeriodLaws.{periodItems-written}
-use Rattle.property.specs.Properties.{propertyOf, timeIn, startBy, endBy, unlessZoned, busyNamed, busyOf, typeValue, valueAs, propertyValueOf, beforePeriods, withPeriods}
+use Rattle.property.specs.Properties.{propertyOf, timeIn, startBy, endBy, unlessZoned, busyNamed, busyOf, typeValue, valueAs, propertyValueOf, beforeItems, withItems}
 use Rattle.property.specs.declared.Scope.{Scope}
 use Rattle.property.specs.declared.PropertyValue.{PropertyValue}
 use Rattle.nesting.specs.WellNested.{numberedFrom}
@@ -40,7 +40,7 @@ use Rattle.events.specs.declared.Bound.{Bound}
 use Rattle.events.specs.declared.Block.{Block}
 use Rattle.events.specs.declared.BlockRead.{BlockRead}
 use Rattle.events.proofs.ComponentRules.{later-between}
-use Rattle.calendar.specs.Meaning.{propertyValuesIn, faultOr, faultIn, periodsBy, blockPeriods, scopeOf, componentScope, valueFault, blockOf, isBroken, brokenOr, ruleFault, entryOf, entriesAmong, entriesOf, componentsOf, calendar, meaningOf}
+use Rattle.calendar.specs.Meaning.{propertyValuesIn, faultOr, faultIn, periodsBy, blockPeriods, scopeOf, componentScope, valueFault, blockOf, breaksRule, brokenOr, firstFault, ruleFault, entryOf, entriesAmong, entriesOf, componentsOf, calendar, meaningOf}
 use Rattle.calendar.specs.declared.ValueCheck.{ValueCheck}
 use Rattle.calendar.specs.declared.RuleCheck.{RuleCheck}
 use Rattle.calendar.proofs.Meaning.{not-refused}
@@ -62,18 +62,18 @@ unfolding timeOf formOf hasTwice hasList hasParameter parametersNamed someList r
 time-read c n t h = rw (read-written t h, second-written t (c .shift) h)
 
 pub stamp-value : (c : Context) (v : List ℕ) → propertyValueOf c Scope.FreeBusy (plainLine (ascii "DTSTAMP") v) ≡ PropertyValue.Nothing
-unfolding propertyValueOf beforePeriods withPeriods propertyOf valueAs sameName upper
+unfolding propertyValueOf beforeItems withItems propertyOf valueAs sameName upper
 stamp-value c v = refl
 
 pub start-value : (c : Context) (t : ℕ) → t ≤ lastSecond
     → propertyValueOf c Scope.FreeBusy (plainLine (ascii "DTSTART") (utcText t)) ≡ PropertyValue.Start (utcTime t)
-unfolding propertyValueOf beforePeriods withPeriods propertyOf valueAs sameName upper unlessZoned hasParameter parametersNamed timeIn utcOnly startBy
-start-value c t h = ap (λ (r : TimeRead). withPeriods (utcText t) (startBy (utcOnly r))) (time-read c (ascii "DTSTART") t h)
+unfolding propertyValueOf beforeItems withItems propertyOf valueAs sameName upper unlessZoned hasParameter parametersNamed timeIn utcOnly startBy
+start-value c t h = ap (λ (r : TimeRead). withItems c (utcText t) (startBy (utcOnly r))) (time-read c (ascii "DTSTART") t h)
 
 pub end-value : (c : Context) (t : ℕ) → t ≤ lastSecond
     → propertyValueOf c Scope.FreeBusy (plainLine (ascii "DTEND") (utcText t)) ≡ PropertyValue.End (utcTime t)
-unfolding propertyValueOf beforePeriods withPeriods propertyOf valueAs sameName upper unlessZoned hasParameter parametersNamed timeIn utcOnly endBy
-end-value c t h = ap (λ (r : TimeRead). withPeriods (utcText t) (endBy (utcOnly r))) (time-read c (ascii "DTEND") t h)
+unfolding propertyValueOf beforeItems withItems propertyOf valueAs sameName upper unlessZoned hasParameter parametersNamed timeIn utcOnly endBy
+end-value c t h = ap (λ (r : TimeRead). withItems c (utcText t) (endBy (utcOnly r))) (time-read c (ascii "DTEND") t h)
 
 -- ---- a period
 
@@ -102,7 +102,7 @@ unfolding periodLine periodText
 value-read {t} g = periodItems-written (t .period .start) (t .period .end) (g .rising) (g .within-limits)
 
 period-value : (c : Context) {t : BusyPeriod} → GoodTyped t → propertyValueOf c Scope.FreeBusy (periodLine t) ≡ PropertyValue.HasPeriods (t .busy)
-unfolding propertyValueOf beforePeriods withPeriods propertyOf valueAs typeValue periodLine hasTwice hasList parametersNamed someList sameName upper allPeriods
+unfolding propertyValueOf beforeItems withItems propertyOf valueAs typeValue periodLine hasTwice hasList parametersNamed someList sameName upper allPeriods
 period-value c {t} g =
     ap (λ (ps : List PeriodRead). cond (allPeriods ps) (PropertyValue.HasPeriods (busyOf (periodLine t))) PropertyValue.Bad) (value-read g)
     ∙ ap PropertyValue.HasPeriods (busy-read t)
@@ -235,7 +235,7 @@ module _ (c : Context) {r : Report} (w : Writable r) where
   block-read = rw (block-properties r) lines-block
 
   block-unbroken : ruleFault c (blockComponent r ∷ []) ≡ RuleCheck.Good
-  unfolding ruleFault isBroken brokenOr
+  unfolding ruleFault firstFault breaksRule brokenOr
   block-unbroken = rw (block-scope r, block-read)
 
   block-entries : entriesOf c (blockComponent r ∷ []) ≡ block (reportBlock r) (reportPeriods r) ∷ []

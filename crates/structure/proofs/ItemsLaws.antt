@@ -84,6 +84,10 @@ module _ {s rows : List ℕ} {i k j m : ℕ} (h : ItemsAt s rows i k j m) where
   pub inner-less : {r : Item} {next row : ℕ} → r ≡ itemBy rows i k j m → r ≡ Item.Inner next row → j - next < j - i
   inner-less q e = let z = inner-at q e in omega (arith, z .onward, z .within)
 
+-- items end where they begin or later
+pub items-rise : {s rows : List ℕ} {i k j m : ℕ} → ItemsAt s rows i k j m → i ≤ j
+items-rise h = rows-lines (h .items)
+
 -- what a step may ask
 pub item-asked : {s rows : List ℕ} {i k j m : ℕ} → ItemsAt s rows i k j m → ((m ≤ 256) × (4 * m ≤ length rows)) × (i ≤ 65536)
 item-asked h = ((h .few, h .room), omega (arith, rows-lines (h .items), h .inside))

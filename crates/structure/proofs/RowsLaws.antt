@@ -290,6 +290,8 @@ pub record NextBelow (s rows : List ℕ) (k m : ℕ) : Type 0 where
   pub here : NextComponent s rows k m
   pub after : BelowAt s rows (getD rows (4 * k + 2) 0) m
   pub quiet : (p : ℕ) → k < p → p < getD rows (4 * k + 2) 0 → getD rows (4 * p + 3) 0 ≡ 0
+  -- the next one begins behind its END line
+  pub later : getD rows (4 * k + 2) 0 < m → getD rows (4 * k + 1) 0 < getD rows (4 * getD rows (4 * k + 2) 0) 0
 
 pub below-next : {s rows : List ℕ} {k m : ℕ} → BelowAt s rows k m → k < m → NextBelow s rows k m
 below-next {s} {rows} h l = go (h .components .items .items) (h .components .items .none-left) (h .components .items .few) (h .components .items .room) (h .components .items .inside) (h .nested) l
@@ -304,6 +306,9 @@ below-next {s} {rows} h l = go (h .components .items .items) (h .components .ite
           here = next-component q w a c r e f o d;
           after = rw (w .next) (record { components = record { line = stop + 1; stop = j; items = after-items q w a c r e f o d }; nested = parts .behind });
           quiet = λ p g y. deep-rows 3 (omega arith) a (parts .inner) p (omega arith) (omega (arith, w .next));
+          later = λ g.
+              let z : getD rows (4 * getD rows (4 * k + 2) 0) 0 ≡ getD rows (4 * next) 0 = ap (λ (x : ℕ). getD rows (4 * x) 0) (w .next) in
+              omega (arith, rows-begin r (omega (arith, w .next)), w .end, z);
         }
 
 -- ---- the file

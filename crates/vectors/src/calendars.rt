@@ -4,6 +4,7 @@ use crate::lines::decode;
 use crate::out::print;
 use crate::out::print_number;
 use calendar::Fault;
+use contents::walks;
 use values::times::Context;
 ghost use Prim.Native.Nat.{_≤_};
 ghost use lib.ListN.{length};
@@ -55,12 +56,26 @@ fn show_fault(f: Fault) {
 
 // Refusals 8 to 10 of a calendar that index and rows know. The pieces are not asked for.
 fn contents_fault(s: &[u8], index: &[u32], rows: &[u32], c: Context) -> Fault
+    requires { ⌜ length (now s) ≤ 65536 ⌝ }
     requires { ⌜ FileRows (now s) (now index) (now rows) ⌝ }
     requires { ⌜ ContextGood c ⌝ }
 {
     let mut column = [0u32; 1539];
     let mut entries = [0u64; 3072];
-    let read = contents::read_contents(&mut column, &mut entries, s, index, rows, c, 0, 1);
+    let mut exceptions = [0u32; 8193];
+    let mut links = [0u32; 2048];
+    let read = walks::read_components(
+        &mut column,
+        &mut entries,
+        &mut exceptions,
+        &mut links,
+        s,
+        index,
+        rows,
+        c,
+        0,
+        1,
+    );
     read.fault
 }
 

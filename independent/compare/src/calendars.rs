@@ -5,10 +5,11 @@ use crate::random::Random;
 
 /// 20991231T235959Z.
 pub const LAST_SECOND: i64 = 4_102_444_799;
-const DAY: i64 = 86_400;
+/// Seconds of a day.
+pub const DAY: i64 = 86_400;
 
 #[derive(Clone, Copy, PartialEq, Eq)]
-enum Kind {
+pub enum Kind {
     Utc,
     Floating,
     Date,
@@ -27,6 +28,8 @@ pub struct Maker<'r> {
     pub marks: Vec<i64>,
     /// DTSTART and DTEND of blocks that have both.
     pub spans: Vec<(i64, i64)>,
+    /// Starts and ends of instances that are taken away, and of those put in their places.
+    pub instances: Vec<(i64, i64)>,
     pub lines: Vec<Vec<u8>>,
 }
 
@@ -41,15 +44,16 @@ impl<'r> Maker<'r> {
         };
         let spread = random.number(&[30, 7_200, DAY, 10 * DAY, 10 * DAY, 90 * DAY, 700 * DAY, LAST_SECOND]);
         let faults = random.number(&[0, 0, 0, 0, 0, 0, 0, 4, 20, 120, 300]) as usize;
-        Maker { random, offset, focus, spread, faults, marks: Vec::new(), spans: Vec::new(), lines: Vec::new() }
+        let (marks, spans, instances, lines) = (Vec::new(), Vec::new(), Vec::new(), Vec::new());
+        Maker { random, offset, focus, spread, faults, marks, spans, instances, lines }
     }
 
-    fn fault(&mut self) -> bool {
+    pub fn fault(&mut self) -> bool {
         self.random.often(self.faults)
     }
 
     /// Adds a line, its letters at times in another case.
-    fn line(&mut self, text: &str) {
+    pub fn line(&mut self, text: &str) {
         let mut bytes = text.as_bytes().to_vec();
         match self.random.below(40) {
             0 => bytes.make_ascii_lowercase(),
@@ -69,7 +73,8 @@ impl<'r> Maker<'r> {
         self.header();
         for _ in 0..components {
             match self.random.below(20) {
-                0..=9 => self.event(),
+                0..=7 => self.event(),
+                8..=9 => self.series(),
                 10..=15 => self.block(),
                 16 => self.other(1),
                 17 => self.deep(),
@@ -80,7 +85,7 @@ impl<'r> Maker<'r> {
         self.line("END:VCALENDAR");
     }
 
-    fn header(&mut self) {
+    pub fn header(&mut self) {
         if self.random.often(700) {
             self.line("VERSION:2.0");
         }
@@ -118,7 +123,14 @@ impl<'r> Maker<'r> {
                 self.line(&format!("DTSTART:{}", written(Kind::Utc, start, self.offset)));
                 let duration = self.random.pick(&["PT1S", "PT1H", "P1D", "P1DT1S", "P3D", "PT23H59M59S"]);
                 self.line(&format!("DURATION:{duration}"));
-                self.line(&format!("RRULE:FREQ=DAILY;INTERVAL={step};COUNT={here}"));
+                let removed = if self.random.often(300) { self.random.between(1, 8) } else { 0 };
+                self.line(&format!("RRULE:FREQ=DAILY;INTERVAL={step};COUNT={}", here + removed));
+                for number in 0..removed {
+                    // From both ends, none twice.
+                    let number = if number % 2 == 0 { number / 2 } else { here + removed - 1 - number / 2 };
+                    let second = start + number * step * DAY;
+                    self.line(&format!("EXDATE:{}", written(Kind::Utc, second, self.offset)));
+                }
                 let status = self.random.pick(&["CONFIRMED", "TENTATIVE", "X"]);
                 self.line(&format!("STATUS:{status}"));
                 self.line("END:VEVENT");
@@ -150,7 +162,7 @@ impl<'r> Maker<'r> {
     }
 
     /// A second near the focus, within the limits and their offsets.
-    fn second(&mut self) -> i64 {
+    pub fn second(&mut self) -> i64 {
         let near = self.focus.saturating_add(self.random.between(-self.spread, self.spread));
         let second =
             if self.random.often(15) { self.random.number(&[0, 1, LAST_SECOND, LAST_SECOND - 1]) } else { near };
@@ -160,7 +172,7 @@ impl<'r> Maker<'r> {
         second
     }
 
-    fn kind(&mut self) -> Kind {
+    pub fn kind(&mut self) -> Kind {
         match self.random.below(10) {
             0..=4 => Kind::Utc,
             5..=7 => Kind::Floating,
@@ -169,7 +181,7 @@ impl<'r> Maker<'r> {
     }
 
     /// The second that a time of the kind stands for.
-    fn settled(&self, kind: Kind, second: i64) -> i64 {
+    pub fn settled(&self, kind: Kind, second: i64) -> i64 {
         match kind {
             Kind::Date => {
                 let day = (second + self.offset).div_euclid(DAY);
@@ -180,8 +192,8 @@ impl<'r> Maker<'r> {
         }
     }
 
-    /// The parameters of DTSTART and DTEND.
-    fn time_parameters(&mut self, kind: Kind) -> String {
+    /// The parameters of a line that is read as DTSTART is.
+    pub fn time_parameters(&mut self, kind: Kind) -> String {
         if self.fault() {
             let bad = [
                 ";TZID=Europe/Paris", ";tzid=\"a;b:c,d\"", ";VALUE=DATE;VALUE=DATE", ";VALUE=DATE,DATE", ";VALUE=",
@@ -388,7 +400,7 @@ impl<'r> Maker<'r> {
     }
 
     /// A VEVENT.
-    fn event(&mut self) {
+    pub fn event(&mut self) {
         let kind = self.kind();
         let wanted = self.second();
         let start = self.settled(kind, wanted);
@@ -439,17 +451,24 @@ impl<'r> Maker<'r> {
             let property = self.property();
             own.push(property);
         }
+        if self.random.often(400) {
+            let uid = if self.fault() { "shared".to_string() } else { self.uid() };
+            own.push(format!("UID:{uid}"));
+        }
         if self.fault() {
             let time = self.edgy_time();
             let surplus = [
                 "RDATE:20240311T080000Z", "EXDATE:", "EXRULE:FREQ=DAILY", "RECURRENCE-ID:20240311T080000Z",
-                "DTSTART:20240311T080000Z", "DTEND:20991231T235959Z", "DTEND;VALUE=DATE:20991231", "DURATION:PT1H",
-                "STATUS:CONFIRMED", "TRANSP:OPAQUE", "RRULE:FREQ=DAILY", "rdate;TZID=x:", "DTSTART;TZID=x:y",
-                "FREEBUSY:x",
+                "RECURRENCE-ID;RANGE=THISANDFUTURE:x", "EXDATE:20240311T080000Z", "EXDATE;VALUE=DATE:20240311",
+                "UID:another", "EXDATE:20240311T080000Z,", "EXDATE;TZID=x:y", "DTSTART:20240311T080000Z",
+                "DTEND:20991231T235959Z", "DTEND;VALUE=DATE:20991231", "DURATION:PT1H", "STATUS:CONFIRMED",
+                "TRANSP:OPAQUE", "RRULE:FREQ=DAILY", "rdate;TZID=x:", "DTSTART;TZID=x:y", "FREEBUSY:x",
             ];
-            let extra = match self.random.below(4) {
+            let extra = match self.random.below(6) {
                 0 => format!("DTSTART:{time}"),
                 1 => format!("DTEND:{time}"),
+                2 => format!("EXDATE:{time}"),
+                3 => format!("RECURRENCE-ID:{time}"),
                 _ => self.random.pick(&surplus).to_string(),
             };
             own.push(extra);
@@ -458,6 +477,11 @@ impl<'r> Maker<'r> {
             let again = own[self.random.below(own.len())].clone();
             own.push(again);
         }
+        self.put_event(own);
+    }
+
+    /// Adds a VEVENT of these lines in any order. The letters of a UID stay.
+    pub fn put_event(&mut self, mut own: Vec<String>) {
         self.random.shuffle(&mut own);
         let inner = self.random.often(200);
         let at = self.random.below(own.len() + 1);
@@ -466,13 +490,30 @@ impl<'r> Maker<'r> {
             if inner && number == at {
                 self.other(2);
             }
-            self.line(text);
+            match text.strip_prefix("UID") {
+                Some(rest) if self.random.often(20) => self.lines.push(format!("uId{rest}").into_bytes()),
+                Some(_) => self.lines.push(text.as_bytes().to_vec()),
+                None => self.line(text),
+            }
         }
         self.line("END:VEVENT");
     }
 
+    /// A UID that no event before has, but for the empty one.
+    pub fn uid(&mut self) -> String {
+        let number = self.lines.len();
+        match self.random.below(40) {
+            0 => String::new(),
+            1 => format!("{}{number}", "long-".repeat(self.random.below(150))),
+            2 => format!("{number} "),
+            3 => format!("\u{e9}-{number};x=\"y\",z:"),
+            4..=10 => format!("u{number}"),
+            _ => format!("visit-{number}@clinic.example"),
+        }
+    }
+
     /// A VFREEBUSY.
-    fn block(&mut self) {
+    pub fn block(&mut self) {
         let mut own = Vec::new();
         let (a, b) = (self.second(), self.second());
         if a != b || self.fault() {
@@ -505,9 +546,9 @@ impl<'r> Maker<'r> {
         if self.random.often(50) {
             let unread = self.random.pick(&[
                 "RDATE:x", "RRULE:x", "DURATION:x", "EXDATE:", "RECURRENCE-ID:", "STATUS:CANCELLED",
-                "TRANSP:TRANSPARENT",
+                "TRANSP:TRANSPARENT", "UID:shared", "UID:", "RECURRENCE-ID;RANGE=:x",
             ]);
-            own.push(unread.to_string());
+            own.extend(vec![unread.to_string(); 1 + self.random.below(2)]);
         }
         if self.fault() {
             let extra = [
@@ -611,7 +652,7 @@ impl<'r> Maker<'r> {
             if odd {
                 let text = self.random.pick(&[
                     "RDATE:x", "DTSTART:bad", "DTSTART;TZID=a:b", "RRULE:", "FREEBUSY:", "DURATION:-P1D",
-                    "TRIGGER:-PT15M",
+                    "TRIGGER:-PT15M", "EXDATE:", "EXDATE;TZID=a:b", "RECURRENCE-ID;RANGE=:x", "UID:inner",
                 ]);
                 self.line(text);
             } else {
@@ -638,10 +679,10 @@ impl<'r> Maker<'r> {
     }
 
     /// A line of a property that is not read.
-    fn property(&mut self) -> String {
+    pub fn property(&mut self) -> String {
         let parameters = if self.random.often(500) { self.parameters() } else { String::new() };
         let name = self.random.pick(&[
-            "SUMMARY", "ATTENDEE", "ATTENDEE", "DESCRIPTION", "UID", "LOCATION", "X-ROOM", "CATEGORIES", "DTSTAMP",
+            "SUMMARY", "ATTENDEE", "ATTENDEE", "DESCRIPTION", "X-UID", "LOCATION", "X-ROOM", "CATEGORIES", "DTSTAMP",
             "VCALENDAR",
         ]);
         let value = self.random.pick(&[
@@ -699,7 +740,7 @@ impl<'r> Maker<'r> {
 }
 
 /// A second as a time of that kind at that offset; any year from 0 to 9999 or so.
-fn written(kind: Kind, second: i64, offset: i64) -> String {
+pub fn written(kind: Kind, second: i64, offset: i64) -> String {
     let local = if kind == Kind::Utc { second } else { second + offset };
     let (mut days, clock) = (local.div_euclid(DAY), local.rem_euclid(DAY));
     let leap = |year: i64| year % 4 == 0 && (year % 100 != 0 || year % 400 == 0);

@@ -16,8 +16,8 @@ pub fn make(seed: u64, number: u64) -> Case {
     let mut offset = offset(random);
     let mut maker = Maker::new(random, offset);
     profile(&mut maker);
-    let Maker { mut lines, marks, spans, focus, .. } = maker;
-    let places = queries::Places { marks, spans, focus };
+    let Maker { mut lines, marks, spans, instances, focus, .. } = maker;
+    let places = queries::Places { marks, spans, instances, focus };
 
     if random.often(60) {
         damage::faults(random, &mut lines);
@@ -95,11 +95,15 @@ fn profile(maker: &mut Maker) {
         }
         15..=49 => maker.busy(),
         50..=169 => single(maker),
-        170..=830 => {
+        170..=369 => {
+            let count = 1 + maker.random.below(3);
+            maker.all_series(count);
+        }
+        370..=860 => {
             let count = 1 + maker.random.below(4);
             maker.calendar(count);
         }
-        831..=985 => {
+        861..=985 => {
             let count = 3 + maker.random.below(20);
             maker.calendar(count);
         }
@@ -127,7 +131,7 @@ fn single(maker: &mut Maker) {
     let start = if date { format!("DTSTART;VALUE=DATE:{time}") } else { format!("DTSTART:{time}") };
     let good =
         maker.random.pick(&["DTSTART:20240311T080000Z", "DTSTART:20240311T080000", "DTSTART;VALUE=DATE:20240311"]);
-    let form = maker.random.below(12);
+    let form = maker.random.below(15);
     let (name, own): (&str, Vec<String>) = match form {
         0 => ("VEVENT", vec![start]),
         1 => ("VEVENT", vec![good.into(), start.replace("DTSTART", "DTEND")]),
@@ -135,6 +139,8 @@ fn single(maker: &mut Maker) {
         3..=4 => ("VEVENT", vec![good.into(), format!("DURATION:{duration}")]),
         5..=7 => ("VEVENT", vec![good.into(), format!("RRULE:{rule}")]),
         8 => ("VEVENT", vec![good.into(), format!("RRULE:FREQ=DAILY;UNTIL={time}"), "DURATION:P1D".into()]),
+        12..=13 => ("VEVENT", vec![good.into(), start.replace("DTSTART", "EXDATE")]),
+        14 => ("VEVENT", vec![good.into(), start.replace("DTSTART", "RECURRENCE-ID"), "UID:u".into()]),
         9 => ("VFREEBUSY", vec![format!("FREEBUSY:{time}/{duration}")]),
         10 => ("VFREEBUSY", vec![format!("FREEBUSY:20240311T080000Z/{duration}")]),
         _ => ("VFREEBUSY", vec![start, "FREEBUSY:20240311T080000Z/PT1H".into()]),

@@ -15,6 +15,7 @@ mod growth;
 mod proved;
 mod queries;
 mod random;
+mod series;
 #[cfg(feature = "proved")]
 mod slow;
 mod table;

@@ -56,13 +56,17 @@ impl Query {
 pub struct Places {
     pub marks: Vec<i64>,
     pub spans: Vec<(i64, i64)>,
+    pub instances: Vec<(i64, i64)>,
     pub focus: i64,
 }
 
-/// A range, mostly within the limits, that often starts or ends at a mark, or stands just before
-/// or behind a span.
+/// A range, mostly within the limits, that often starts or ends at a mark, is about one instance,
+/// or stands just before or behind a span.
 pub fn range(random: &mut Random, places: &Places) -> (u64, u64) {
-    let Places { marks, spans, focus } = places;
+    let Places { marks, spans, instances, focus } = places;
+    if !instances.is_empty() && random.often(400) {
+        return about_instance(random, instances);
+    }
     if !spans.is_empty() && random.often(300) {
         let (first, last) = spans[random.below(spans.len())];
         let (step, length) = (random.number(&[-1, 0, 0, 1]), random.number(&[1, 2, 60, 3_600, 86_400]));
@@ -95,6 +99,20 @@ pub fn range(random: &mut Random, places: &Places) -> (u64, u64) {
         _ => (point(random), point(random)),
     };
     limited(a.min(b), a.max(b))
+}
+
+/// A range about one instance: just that, a second of it, or on to the next day or another one.
+fn about_instance(random: &mut Random, instances: &[(i64, i64)]) -> (u64, u64) {
+    let (first, last) = instances[random.below(instances.len())];
+    let (step, other) = (random.number(&[-1, 0, 0, 0, 0, 1]), instances[random.below(instances.len())]);
+    match random.below(10) {
+        0..=4 => limited(first, last + step),
+        5 => limited(first + step, last),
+        6 => limited(first, first + 1),
+        7 => limited(last - 1, last),
+        8 => limited(first + step, last + 86_400),
+        _ => limited(first.min(other.0), last.max(other.1)),
+    }
 }
 
 /// The range, or what is nearest to it within the limits and not empty.
@@ -130,7 +148,13 @@ pub fn edgy_range(random: &mut Random) -> (u64, u64) {
 
 /// A query for the calendar of those lines.
 pub fn make(random: &mut Random, lines: &[Vec<u8>], places: &Places) -> Vec<u8> {
-    let mut query = if random.often(450) { fitting(random, lines, places) } else { well_formed(random, lines, places) };
+    let mut query = if !places.instances.is_empty() && random.often(400) {
+        of_series(random, places)
+    } else if random.often(450) {
+        fitting(random, lines, places)
+    } else {
+        well_formed(random, lines, places)
+    };
     if random.often(90) {
         spoil(random, &mut query);
     }
@@ -154,6 +178,30 @@ pub fn make(random: &mut Random, lines: &[Vec<u8>], places: &Places) -> Vec<u8> 
         _ => {}
     }
     bytes
+}
+
+/// A query for events in a range: any, masters alone, overrides alone, or one of each.
+fn of_series(random: &mut Random, places: &Places) -> Query {
+    let texts: [&[u8]; 3] = [b"VCALENDAR", b"VEVENT", b"RECURRENCE-ID"];
+    let mut query = Query {
+        ranges: vec![about_instance(random, &places.instances), range(random, places)],
+        texts: texts.map(<[u8]>::to_vec).into(),
+        components: vec![[0, 0, 0, 0], [0, 1, 1, 0]],
+        properties: Vec::new(),
+        parameters: Vec::new(),
+    };
+    let (with, without) = ([1, 2, 0, 0, 0, 0], [1, 2, 0, 0, 0, 1]);
+    match random.below(5) {
+        0..=1 => {}
+        2 => query.properties.push(with),
+        3 => query.properties.push(without),
+        _ => {
+            let range = 1 + random.below(2) as u8;
+            query.components.push([0, 1, range, 0]);
+            query.properties.extend([with, [2, 2, 0, 0, 0, 1]]);
+        }
+    }
+    query
 }
 
 fn well_formed(random: &mut Random, lines: &[Vec<u8>], places: &Places) -> Query {

@@ -1,7 +1,7 @@
 //! Calendars and queries made to be slow, each with a name: many of what a call goes through,
 //! and texts that nearly stand where they are looked for.
 
-use crate::calendars::LAST_SECOND;
+use crate::calendars::{written, Kind, DAY, LAST_SECOND};
 use crate::case::Case;
 use crate::queries::Query;
 
@@ -33,6 +33,9 @@ pub fn inputs() -> Vec<(String, Case)> {
     inputs.parameters();
     inputs.components();
     inputs.events();
+    inputs.exceptions();
+    inputs.overrides();
+    inputs.uids();
     inputs.list
 }
 
@@ -43,17 +46,30 @@ struct Inputs {
 impl Inputs {
     /// A report over all the time that there is.
     fn report(&mut self, name: &str, calendar: Vec<u8>) {
-        self.add(format!("report, {name}"), calendar, None);
+        self.report_to(LAST_SECOND, name, calendar);
+    }
+
+    /// A report over the time before that second.
+    fn report_to(&mut self, end: i64, name: &str, calendar: Vec<u8>) {
+        self.add(format!("report, {name}"), calendar, None, end);
     }
 
     fn matching(&mut self, name: &str, calendar: &[u8], query: &Query) {
-        self.add(format!("match, {name}"), calendar.to_vec(), Some(query.written()));
+        self.add(format!("match, {name}"), calendar.to_vec(), Some(query.written()), LAST_SECOND);
     }
 
-    fn add(&mut self, name: String, calendar: Vec<u8>, query: Option<Vec<u8>>) {
-        let end = LAST_SECOND as u64;
-        self.list
-            .push((name, Case { calendar, query, start: 0, end, offset: 0, stamp: 0, work: LONGEST, out: 35_006 }));
+    /// As many tests as there can be of an event in a range, over ranges that start soon after 0
+    /// and end soon after that second.
+    fn ranges_to(&mut self, end: i64, name: &str, calendar: &[u8]) {
+        let mut query = query(&["VEVENT"]);
+        query.ranges = (0..8).map(|k| (k, end as u64 + 1 + k)).collect();
+        query.components.extend((1..COMPONENTS as u8).map(|test| [0, 1, 1 + test % 8, 0]));
+        self.matching(&format!("15 ranges, {name}"), calendar, &query);
+    }
+
+    fn add(&mut self, name: String, calendar: Vec<u8>, query: Option<Vec<u8>>, end: i64) {
+        let (end, work) = (end as u64, LONGEST);
+        self.list.push((name, Case { calendar, query, start: 0, end, offset: 0, stamp: 0, work, out: 35_006 }));
     }
 
     /// Events that repeat for 130 years and are not busy.
@@ -257,6 +273,124 @@ impl Inputs {
         let last = filled(["", &block("19700101T000000Z/P1W")], &block("20000101T000000Z/P1W"));
         self.matching("15 ranges that only the last block is in", &last, &blocks);
     }
+
+    /// A daily event from 1970 on with as many exceptions as there is room for, and events with
+    /// some each.
+    fn exceptions(&mut self) {
+        for (order, numbers) in orders(EXCEPTIONS) {
+            for (left, limit) in [("500 stand", ";COUNT=7500"), ("none stands", ";COUNT=7000"), ("endless", "")] {
+                let name = format!("7,000 exceptions, {order}, {left}");
+                let event = daily(&format!("{limit}\r\n{}", exceptions(&numbers)));
+                let last = EXCEPTIONS * DAY;
+                self.report(&name, calendar(&event));
+                self.report_to(last, &format!("{name}, all of the range"), calendar(&event));
+                self.ranges_to(last, &name, &calendar(&event));
+                self.ranges_to(last - DAY - 10, &format!("{name}, all of each range"), &calendar(&event));
+            }
+        }
+        let misses: Vec<i64> = (0..EXCEPTIONS).map(|k| 20_000 + k).collect();
+        let event = daily(&format!(";COUNT=500\r\n{}", exceptions(&misses)));
+        self.report("7,000 exceptions of no instance", calendar(&event));
+        self.ranges_to(DAY, "7,000 exceptions of no instance", &calendar(&event));
+        let hundred: Vec<i64> = (0..100).rev().collect();
+        let events = filled(NOTHING, &daily(&format!(";COUNT=105\r\n{}", exceptions(&hundred))));
+        self.report("events with 100 exceptions each", events.clone());
+        self.ranges_to(100 * DAY, "events with 100 exceptions each", &events);
+    }
+
+    /// A master with as many overrides as there can be, alone and with many exceptions, before
+    /// and behind them.
+    fn overrides(&mut self) {
+        let after = |number: i64| written(Kind::Date, number * DAY, 0);
+        for (order, numbers) in orders(OVERRIDES) {
+            let of = |number: &i64| {
+                let (id, start) = (after(*number), after(*number + 20_000));
+                let lines = format!("RECURRENCE-ID;VALUE=DATE:{id}\r\nDTSTART;VALUE=DATE:{start}\r\n");
+                format!("BEGIN:VEVENT\r\nUID:u\r\n{lines}END:VEVENT\r\n")
+            };
+            let overrides: String = numbers.iter().map(of).collect();
+            let others: Vec<i64> = (0..3_500).rev().map(|k| OVERRIDES + k).collect();
+            for (name, own) in [
+                ("", ";COUNT=500\r\nUID:u\r\n".to_string()),
+                (" and 3,500 exceptions", format!("\r\nUID:u\r\n{}", exceptions(&others))),
+            ] {
+                let last = DAY * if name.is_empty() { OVERRIDES } else { OVERRIDES + 3_500 };
+                for (place, events) in
+                    [("first", [daily(&own), overrides.clone()]), ("last", [overrides.clone(), daily(&own)])]
+                {
+                    let name = format!("{OVERRIDES} overrides{name}, {order}, the master {place}");
+                    let calendar = calendar(&events.concat());
+                    self.report(&name, calendar.clone());
+                    self.report_to(last, &format!("{name}, all of the range"), calendar.clone());
+                    self.ranges_to(last, &name, &calendar);
+                }
+            }
+        }
+    }
+
+    /// Many UIDs: of sound events, and of broken masters behind overrides, which are not asked
+    /// whether they fit.
+    fn uids(&mut self) {
+        let event = |uid: String| format!("{}UID:{uid}\r\n{}", EVENT[0], EVENT[1]);
+        for length in [40, 200] {
+            let same = "u".repeat(length - 4);
+            let last = |number: usize| event(format!("{same}{number:04}"));
+            let first = |number: usize| event(format!("{number:04}{same}"));
+            let falling = |number: usize| event(format!("{same}{:04}", 9_999 - number * 37 % 250));
+            let events: [(&str, &dyn Fn(usize) -> String); 3] =
+                [("at the end", &last), ("at the start", &first), ("at the end, mixed", &falling)];
+            for (place, event) in events {
+                let name = format!("250 UIDs of {length} bytes that differ {place}");
+                let events: String = (0..250).map(event).collect();
+                self.report(&name, calendar(&events));
+                self.ranges_to(10_957 * DAY, &name, &calendar(&events));
+            }
+        }
+        let moved = |uid: &str| {
+            let times = "RECURRENCE-ID:20000101T000000Z\r\nDTSTART:20000101T000000Z\r\n";
+            format!("BEGIN:VEVENT\r\nUID:{uid}\r\n{times}END:VEVENT\r\n")
+        };
+        let broken = |lines: &str| format!("BEGIN:VEVENT\r\n{lines}END:VEVENT\r\n");
+        let overrides: String = (0..120).map(|number| moved(&format!("v{number:03}"))).collect();
+        let named: String = (0..120).map(|number| format!("UID:v{number:03}\r\n")).collect();
+        let (room, one) = (LONGEST - overrides.len() - named.len() - 300, "UID:u000\r\n");
+        let many = one.repeat(room / one.len());
+        let different: String = (0..room / 11).map(|number| format!("UID:{number:05}\r\n")).collect();
+        for (name, lines) in [("equal UIDs", many), ("different UIDs", different)] {
+            let behind = [overrides.as_str(), &broken(&[lines.as_str(), &named].concat())].concat();
+            self.report(&format!("120 overrides before a broken master with {name}"), calendar(&behind));
+            let lost = [overrides.as_str(), &broken(&lines)].concat();
+            self.report(&format!("120 overrides without a master before one with {name}"), calendar(&lost));
+        }
+        let masters = broken("UID:a\r\n").replace("UID:a\r\n", &"UID:a\r\n".repeat(45)).repeat(125);
+        let behind = [overrides.as_str(), &masters, &broken(&named)].concat();
+        self.report("120 overrides before 126 broken masters", calendar(&behind));
+        self.report("9,000 empty UIDs in a broken master", filled(EVENT, "UID:\r\n"));
+    }
+}
+
+/// How many exceptions and how many overrides a calendar has room for.
+const EXCEPTIONS: i64 = 7_000;
+const OVERRIDES: i64 = 250;
+
+/// The numbers from 0 in three orders.
+fn orders(count: i64) -> [(&'static str, Vec<i64>); 3] {
+    let mixed = (0..count).map(|k| k * 4_999 % count).collect();
+    [("rising", (0..count).collect()), ("falling", (0..count).rev().collect()), ("mixed", mixed)]
+}
+
+/// A daily event of whole days from 1970 on, with what follows the frequency of its rule.
+fn daily(own: &str) -> String {
+    format!("BEGIN:VEVENT\r\nDTSTART;VALUE=DATE:19700101\r\nRRULE:FREQ=DAILY{own}END:VEVENT\r\n")
+}
+
+/// EXDATE lines with these days, counted from 1970, in lists as long as a line holds.
+fn exceptions(days: &[i64]) -> String {
+    let list = |days: &[i64]| {
+        let items: Vec<String> = days.iter().map(|day| written(Kind::Date, day * DAY, 0)).collect();
+        format!("EXDATE;VALUE=DATE:{}\r\n", items.join(","))
+    };
+    days.chunks(111).map(list).collect()
 }
 
 /// Components in one another, `inner` in the innermost and `behind` before the end of each.

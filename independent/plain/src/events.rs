@@ -1,13 +1,14 @@
-//! Events and free-busy blocks: reading them from their lines, the component rules,
-//! the instances of an event and the time range test.
+//! Events and free-busy blocks: reading them from their lines, the rules of a component by
+//! itself, the instances of an event and the time range test.
 
 use std::ops::Range;
 
 use crate::lines::Line;
 use crate::nesting::{children, own_lines, Component};
+use crate::overrides::Series;
 use crate::time::{Context, Kind, Time, DAY};
 use crate::values::{self, BusyType, Duration, Fault, Limit, Rule};
-use crate::Refusal;
+use crate::{Breach, Refusal};
 
 /// What a component means for time.
 #[derive(Clone, Debug)]
@@ -27,16 +28,18 @@ pub enum Ending {
     End(i64),
     /// By a stated duration.
     Duration(i64),
-    /// By nothing; the length is then the kind's.
-    Unstated(Kind),
+    /// By nothing; the length is then that of the start's kind.
+    Unstated,
 }
 
 /// A VEVENT that keeps the rules.
 #[derive(Clone, Debug)]
 pub struct Event {
-    start: i64,
+    start: Time,
     ending: Ending,
     rule: Rule,
+    /// The numbers of its instances that do not stand, rising, none twice.
+    removed: Vec<i64>,
     /// The type of its busy time, nothing if it is free.
     pub busy: Option<BusyType>,
 }
@@ -61,42 +64,91 @@ pub struct Block {
 }
 
 impl Event {
+    /// How its start is given.
+    pub fn kind(&self) -> Kind {
+        self.start.kind
+    }
+
     /// The length of every instance.
     pub fn length(&self) -> i64 {
         match self.ending {
-            Ending::End(end) => end - self.start,
+            Ending::End(end) => end - self.start.second,
             Ending::Duration(seconds) => seconds,
-            Ending::Unstated(Kind::Date) => DAY,
-            Ending::Unstated(_) => 0,
+            Ending::Unstated if self.start.kind == Kind::Date => DAY,
+            Ending::Unstated => 0,
         }
     }
 
-    /// The second at which instance `k` starts.
-    pub fn instance(&self, k: i64) -> i64 {
-        self.start + k * self.rule.step
+    /// The instances that stand and are in the range. Length 0 is tested as length 1:
+    /// start < s + 1 is start ≤ s.
+    pub fn instances_in(&self, range: &Range<i64>) -> Instances<'_> {
+        let first = self.first_from(range.start - self.length().max(1) + 1);
+        let behind = self.first_from(range.end).min(self.count()).max(first);
+        let place = |number: i64| self.removed.partition_point(|&r| r < number);
+        Instances { event: self, numbers: first..behind, removed: &self.removed[place(first)..place(behind)] }
     }
 
-    /// The numbers of the instances that are in the range. Length 0 is tested as length 1:
-    /// start < s + 1 is start ≤ s.
-    pub fn instances_in(&self, range: &Range<i64>) -> Range<i64> {
-        let first = self.first_from(range.start - self.length().max(1) + 1);
-        let behind = self.first_from(range.end);
-        let limit = match self.rule.limit {
+    /// The number of the instance that starts at that second, whether it stands or not.
+    pub fn number_at(&self, second: i64) -> Option<i64> {
+        let since = second - self.start.second;
+        let number = since / self.rule.step;
+        (since >= 0 && since % self.rule.step == 0 && number < self.count()).then_some(number)
+    }
+
+    /// Whether the instance of that number is taken away.
+    pub fn is_removed(&self, number: i64) -> bool {
+        self.removed.binary_search(&number).is_ok()
+    }
+
+    /// Takes away the instances that start at these seconds; at some there may be none.
+    pub fn remove(&mut self, seconds: impl Iterator<Item = i64>) {
+        let mut removed = std::mem::take(&mut self.removed);
+        removed.extend(seconds.filter_map(|second| self.number_at(second)));
+        removed.sort_unstable();
+        removed.dedup();
+        self.removed = removed;
+    }
+
+    /// How many instances there are, those taken away among them.
+    fn count(&self) -> i64 {
+        match self.rule.limit {
             Limit::Count(count) => count,
             Limit::Until(until) => self.first_from(until.second + 1),
-            Limit::Endless => behind,
-        };
-        first..behind.min(limit)
+            Limit::Endless => i64::MAX,
+        }
     }
 
     /// The number of the first instance, limits apart, that starts at `second` or later.
     fn first_from(&self, second: i64) -> i64 {
         let step = self.rule.step;
-        ((second - self.start).max(0) + step - 1) / step
+        ((second - self.start.second).max(0) + step - 1) / step
     }
 
     fn in_range(&self, range: &Range<i64>) -> bool {
-        !self.instances_in(range).is_empty()
+        self.instances_in(range).count() > 0
+    }
+}
+
+/// Instances of an event with numbers that follow each other, without those taken away.
+pub struct Instances<'e> {
+    event: &'e Event,
+    numbers: Range<i64>,
+    /// Which of the numbers are taken away.
+    removed: &'e [i64],
+}
+
+impl<'e> Instances<'e> {
+    /// How many there are, by arithmetic.
+    pub fn count(&self) -> usize {
+        (self.numbers.end - self.numbers.start) as usize - self.removed.len()
+    }
+
+    /// The seconds at which they start.
+    pub fn starts(self) -> impl Iterator<Item = i64> + 'e {
+        let Instances { event, numbers, removed } = self;
+        let mut removed = removed.iter().peekable();
+        let standing = numbers.filter(move |number| removed.next_if_eq(&number).is_none());
+        standing.map(|number| event.start.second + number * event.rule.step)
     }
 }
 
@@ -132,26 +184,33 @@ fn overlap(a: &Range<i64>, b: &Range<i64>) -> bool {
 /// Refusal 10 waits until all are read, and is then for the first that breaks a rule.
 pub fn read(text: &[u8], lines: &[Line], components: &[Component], context: &Context) -> Result<Vec<Meaning>, Refusal> {
     let mut meanings = vec![Meaning::Other; components.len()];
+    let mut series = Series::default();
     let mut broken = None;
     for number in children(components, 0) {
         let name = components[number].name(text, lines);
         let own = own_lines(lines, components, number);
-        let meaning = if name.eq_ignore_ascii_case(b"VEVENT") {
-            EventLines::read(text, own, context)?.event().map(Meaning::Event)
+        let kept = if name.eq_ignore_ascii_case(b"VEVENT") {
+            let read = EventLines::read(text, own, context)?;
+            read.uids().for_each(|uid| series.add(uid, read.recurrence.value, number));
+            read.event().map(|event| meanings[number] = Meaning::Event(event))
         } else if name.eq_ignore_ascii_case(b"VFREEBUSY") {
-            BlockLines::read(text, own, context)?.block().map(Meaning::Block)
+            let block = BlockLines::read(text, own, context)?.block();
+            block.map(|block| meanings[number] = Meaning::Block(block)).ok_or(Breach::Basic)
         } else {
             continue;
         };
-        match meaning {
-            Some(meaning) => meanings[number] = meaning,
-            None => broken = broken.or(Some(number)),
+        if let Err(breach) = kept {
+            broken = broken.or(Some((number, breach)));
         }
     }
-    match broken {
-        None => Ok(meanings),
-        Some(first) => Err(Refusal { number: 10, line: components[first].begin_line(lines).number() }),
+    series.sort();
+    let beside_others = series.first_breach(&meanings);
+    if let Some((first, breach)) = broken.into_iter().chain(beside_others).min_by_key(|&(number, _)| number) {
+        let line = components[first].begin_line(lines).number();
+        return Err(Refusal { number: 10, line, breach: Some(breach) });
     }
+    series.replace(&mut meanings);
+    Ok(meanings)
 }
 
 /// A property of which a component has at most one line.
@@ -160,7 +219,7 @@ struct Once<T> {
     surplus: bool,
 }
 
-impl<T> Once<T> {
+impl<T: Copy> Once<T> {
     fn new() -> Self {
         Once { value: None, surplus: false }
     }
@@ -170,7 +229,7 @@ impl<T> Once<T> {
     }
 
     /// The value if there is one; nothing at all if there are more.
-    fn at_most_one(self) -> Option<Option<T>> {
+    fn at_most_one(&self) -> Option<Option<T>> {
         (!self.surplus).then_some(self.value)
     }
 }
@@ -183,6 +242,10 @@ struct EventLines<'a> {
     rule: Once<Rule>,
     status: Once<&'a [u8]>,
     transparency: Once<&'a [u8]>,
+    uid: Option<&'a [u8]>,
+    further_uids: Vec<&'a [u8]>,
+    recurrence: Once<Time>,
+    exceptions: Vec<Time>,
 }
 
 impl<'a> EventLines<'a> {
@@ -194,6 +257,10 @@ impl<'a> EventLines<'a> {
             rule: Once::new(),
             status: Once::new(),
             transparency: Once::new(),
+            uid: None,
+            further_uids: Vec::new(),
+            recurrence: Once::new(),
+            exceptions: Vec::new(),
         };
         for stretch in own {
             for line in stretch {
@@ -212,14 +279,55 @@ impl<'a> EventLines<'a> {
             EventProperty::Rule => self.rule.put(values::rule(line.value(text), context)?),
             EventProperty::Status => self.status.put(line.value(text)),
             EventProperty::Transparency => self.transparency.put(line.value(text)),
+            EventProperty::Uid => self.further_uids.extend(self.uid.replace(line.value(text))),
+            EventProperty::Recurrence => self.recurrence.put(values::recurrence(text, line, context)?),
+            EventProperty::Exceptions => values::exceptions(text, line, context, |time| self.exceptions.push(time))?,
             EventProperty::Unsupported => return Err(Fault::Unsupported),
             EventProperty::Unread => {}
         }
         Ok(())
     }
 
-    /// The event, or nothing if a component rule is broken.
-    fn event(self) -> Option<Event> {
+    fn uids(&self) -> impl Iterator<Item = &'a [u8]> + '_ {
+        self.uid.iter().chain(&self.further_uids).copied()
+    }
+
+    /// The event without the instances that its exceptions take away, or the rule that is
+    /// broken. Rules beside other events are not asked here.
+    fn event(&self) -> Result<Event, Breach> {
+        let mut event = self.basic_event().ok_or(Breach::Basic)?;
+        if !self.further_uids.is_empty() {
+            return Err(Breach::TwoUids);
+        }
+        if self.recurrence.value.is_some() {
+            self.check_override()?;
+        }
+        if self.exceptions.iter().any(|exception| exception.kind != event.kind()) {
+            return Err(Breach::ExceptionKind);
+        }
+        if !self.exceptions.is_empty() {
+            event.remove(self.exceptions.iter().map(|exception| exception.second));
+        }
+        Ok(event)
+    }
+
+    /// The rules of an event with a RECURRENCE-ID.
+    fn check_override(&self) -> Result<(), Breach> {
+        if self.recurrence.surplus {
+            Err(Breach::TwoRecurrenceIds)
+        } else if self.uid.is_none() {
+            Err(Breach::NoUid)
+        } else if self.rule.value.is_some() {
+            Err(Breach::BesideRule)
+        } else if !self.exceptions.is_empty() {
+            Err(Breach::BesideExceptions)
+        } else {
+            Ok(())
+        }
+    }
+
+    /// The event with all its instances, or nothing if a rule of document 01 is broken.
+    fn basic_event(&self) -> Option<Event> {
         let start = self.start.at_most_one()??;
         let status = self.status.at_most_one()?;
         let transparency = self.transparency.at_most_one()?;
@@ -229,7 +337,7 @@ impl<'a> EventLines<'a> {
             (Some(_), None) => return None,
             (None, Some(duration)) if start.kind == Kind::Date && duration.timed => return None,
             (None, Some(duration)) => Ending::Duration(duration.seconds),
-            (None, None) => Ending::Unstated(start.kind),
+            (None, None) => Ending::Unstated,
         };
         let rule = match self.rule.at_most_one()? {
             None => Rule { step: DAY, limit: Limit::Count(1) },
@@ -240,7 +348,7 @@ impl<'a> EventLines<'a> {
                 return None;
             }
         }
-        Some(Event { start: start.second, ending, rule, busy: event_busy(status, transparency) })
+        Some(Event { start, ending, rule, removed: Vec::new(), busy: event_busy(status, transparency) })
     }
 }
 
@@ -264,6 +372,9 @@ enum EventProperty {
     Rule,
     Status,
     Transparency,
+    Uid,
+    Recurrence,
+    Exceptions,
     Unsupported,
     Unread,
 }
@@ -273,15 +384,17 @@ impl EventProperty {
     fn named(name: &[u8]) -> Self {
         let is = |word: &[u8]| name.eq_ignore_ascii_case(word);
         match name.len() {
+            3 if is(b"UID") => Self::Uid,
             5 if is(b"DTEND") => Self::End,
             5 if is(b"RRULE") => Self::Rule,
             5 if is(b"RDATE") => Self::Unsupported,
             6 if is(b"STATUS") => Self::Status,
             6 if is(b"TRANSP") => Self::Transparency,
-            6 if is(b"EXDATE") || is(b"EXRULE") => Self::Unsupported,
+            6 if is(b"EXDATE") => Self::Exceptions,
+            6 if is(b"EXRULE") => Self::Unsupported,
             7 if is(b"DTSTART") => Self::Start,
             8 if is(b"DURATION") => Self::Duration,
-            13 if is(b"RECURRENCE-ID") => Self::Unsupported,
+            13 if is(b"RECURRENCE-ID") => Self::Recurrence,
             _ => Self::Unread,
         }
     }

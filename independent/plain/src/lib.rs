@@ -1,6 +1,5 @@
-//! Answers the two questions of document 01, match and report, in plain Rust, and says the line
-//! of a refusal, as request R-1 asks. The stages run in the order of the table of refusals;
-//! each has its own module.
+//! Answers the two questions of document 01, match and report, with requests, in
+//! plain Rust. The stages run in the order of the table of refusals; each has its own module.
 
 #![forbid(unsafe_code)]
 #![warn(missing_docs)]
@@ -9,6 +8,7 @@ mod events;
 mod filter;
 mod lines;
 mod nesting;
+mod overrides;
 mod report;
 mod time;
 mod values;
@@ -39,13 +39,52 @@ pub struct Refusal {
     pub number: u8,
     /// The line that it is about, the first being 1; 0 for all but refusals 6 to 10.
     pub line: usize,
+    /// The rule that is broken, for refusal 10; of several, any.
+    pub breach: Option<Breach>,
 }
 
 impl Refusal {
     /// A refusal that is about no line.
     fn of(number: u8) -> Self {
-        Refusal { number, line: 0 }
+        Refusal::at(number, 0)
     }
+
+    /// A refusal about a line.
+    fn at(number: u8, line: usize) -> Self {
+        Refusal { number, line, breach: None }
+    }
+}
+
+/// The rules of a component, by how they are broken. An override is a VEVENT with a
+/// RECURRENCE-ID, its master the VEVENT without one that has its UID.
+#[derive(Clone, Copy, Debug, PartialEq, Eq)]
+pub enum Breach {
+    /// A rule of document 01.
+    Basic,
+    /// A VEVENT has two UIDs.
+    TwoUids,
+    /// An EXDATE is not of the kind of its event's start.
+    ExceptionKind,
+    /// Two masters have one UID.
+    SharedUid,
+    /// A VEVENT has two RECURRENCE-IDs.
+    TwoRecurrenceIds,
+    /// An override has no UID.
+    NoUid,
+    /// An override has an RRULE.
+    BesideRule,
+    /// An override has an EXDATE.
+    BesideExceptions,
+    /// Two overrides of one UID name one second.
+    SameSecond,
+    /// An override has no master.
+    NoMaster,
+    /// A RECURRENCE-ID is not of the kind of its master's start.
+    OverrideKind,
+    /// A RECURRENCE-ID names no instance.
+    NoInstance,
+    /// A RECURRENCE-ID names an instance that is excluded.
+    Excluded,
 }
 
 /// Does the calendar match the query? On refusals 1 to 5 `work` is unchanged,
@@ -108,8 +147,8 @@ fn unfolded<'a>(cal: &[u8], work: &'a mut [u8]) -> &'a [u8] {
 
 /// Refusals 6 and 7: the lines and the components that they make.
 fn structure(text: &[u8]) -> Result<(Vec<Line>, Vec<Component>), Refusal> {
-    let lines = lines::cut(text).map_err(|line| Refusal { number: 6, line })?;
-    let components = nesting::read(text, &lines).map_err(|line| Refusal { number: 7, line })?;
+    let lines = lines::cut(text).map_err(|line| Refusal::at(6, line))?;
+    let components = nesting::read(text, &lines).map_err(|line| Refusal::at(7, line))?;
     Ok((lines, components))
 }
 

@@ -51,12 +51,10 @@ pub fn pieces(meanings: &[Meaning], range: &Range<i64>) -> Option<Vec<Piece>> {
                     continue;
                 };
                 let instances = event.instances_in(range);
-                if instances.end - instances.start > (MOST_PIECES - pieces.len()) as i64 {
+                if instances.count() > MOST_PIECES - pieces.len() {
                     return None;
                 }
-                for start in instances.map(|k| event.instance(k)) {
-                    pieces.push(clipped(busy, start, start + length, range));
-                }
+                pieces.extend(instances.starts().map(|start| clipped(busy, start, start + length, range)));
             }
             Meaning::Block(block) => {
                 for period in &block.periods {

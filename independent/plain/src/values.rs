@@ -1,4 +1,4 @@
-//! Values besides times: DURATION, RRULE, FREEBUSY periods, and the parameters that are read.
+//! Values of lines: times by their parameters, lists of times, DURATION, RRULE, FREEBUSY periods.
 //! A reader gives the value, or a fault: 8 for an unsupported thing, 9 for a bad value.
 
 use crate::lines::{is_name, Line};
@@ -24,7 +24,7 @@ impl Fault {
             Fault::Unsupported => 8,
             Fault::BadValue => 9,
         };
-        Refusal { number, line: line.number() }
+        Refusal::at(number, line.number())
     }
 }
 
@@ -70,8 +70,26 @@ pub enum BusyType {
 
 /// Reads DTSTART or DTEND of an event.
 pub fn event_time(text: &[u8], line: &Line, context: &Context) -> Result<Time, Fault> {
-    let value = line.value(text);
-    let read = match time_form(text, line)? {
+    time(line.value(text), time_form(text, line)?, context)
+}
+
+/// Reads RECURRENCE-ID, which is like DTSTART but for RANGE.
+pub fn recurrence(text: &[u8], line: &Line, context: &Context) -> Result<Time, Fault> {
+    if has_parameter(text, line, b"RANGE") {
+        return Err(Fault::Unsupported);
+    }
+    event_time(text, line, context)
+}
+
+/// Reads EXDATE, a list of values like DTSTART's, and hands each to `take`.
+pub fn exceptions(text: &[u8], line: &Line, context: &Context, mut take: impl FnMut(Time)) -> Result<(), Fault> {
+    let form = time_form(text, line)?;
+    line.value(text).split(|&b| b == b',').try_for_each(|item| time(item, form, context).map(&mut take))
+}
+
+/// Reads a value of the form that the parameters ask for.
+fn time(value: &[u8], form: Kind, context: &Context) -> Result<Time, Fault> {
+    let read = match form {
         Kind::Date => context.date(value),
         _ => context.date_time(value),
     };
@@ -90,7 +108,7 @@ pub fn block_time(text: &[u8], line: &Line, context: &Context) -> Result<i64, Fa
 
 /// The form that the parameters ask for: `Date`, or else a DATE-TIME of either kind.
 fn time_form(text: &[u8], line: &Line) -> Result<Kind, Fault> {
-    if line.parameters(text).any(|(name, _)| name.eq_ignore_ascii_case(b"TZID")) {
+    if has_parameter(text, line, b"TZID") {
         return Err(Fault::Unsupported);
     }
     match single_parameter(text, line, b"VALUE")? {
@@ -99,6 +117,11 @@ fn time_form(text: &[u8], line: &Line) -> Result<Kind, Fault> {
         Some(word) if word.eq_ignore_ascii_case(b"DATE") => Ok(Kind::Date),
         Some(_) => Err(Fault::BadValue),
     }
+}
+
+/// Whether the line has a parameter of that name.
+fn has_parameter(text: &[u8], line: &Line, wanted: &[u8]) -> bool {
+    line.parameters(text).any(|(name, _)| name.eq_ignore_ascii_case(wanted))
 }
 
 /// The one value of a parameter that is read; twice or as a list is bad.

@@ -1,27 +1,16 @@
--- `collecting::collect_contents` meets its contract: the memory is as long as the stage asks, and places that are all 0 take nothing away.
+-- `collecting::collect_contents` meets its contract: each memory has room for an exception in every eight bytes of its calendars.
 use native.Mathlib.Omega.{arith}
 use borrow.Author.Needs.{needs}
-use Rattle.contents.proofs.Removed.{nothing-removed}
 use Rattle.collecting.proofs.collect_contents.Statement.{statement}
 use Rattle.collecting.proofs.collect_contents.Tie as tie
 
-slice-aggregate-collect-stored : tie.Need-slice-aggregate-collect-stored
-slice-aggregate-collect-stored c = search needs
+slice-aggregate-collect-excepted : tie.Need-slice-aggregate-collect-excepted
+slice-aggregate-collect-excepted c = search needs
 
-slice-aggregate-collect-stored-2 : tie.Need-slice-aggregate-collect-stored-2
-slice-aggregate-collect-stored-2 c = search needs
-
-slice-aggregate-collect-stored-3 : tie.Need-slice-aggregate-collect-stored-3
-slice-aggregate-collect-stored-3 c = search needs
-
-slice-aggregate-collect-stored-4 : tie.Need-slice-aggregate-collect-stored-4
-slice-aggregate-collect-stored-4 c = search needs
-
-collect-stored-requires : tie.Need-collect-stored-requires
-collect-stored-requires c κs =
-    let required = c .before .before .before .before .before .before .before .before .before .before .before .pre in
-    let rows = required .1 .1 .0 in
-    (required .0, (omega arith, (omega arith, (nothing-removed _ _ _ _ _ (rows .top .few), (required .1 .0, (rows, required .1 .1 .1))))))
+collect-excepted-requires : tie.Need-collect-excepted-requires
+collect-excepted-requires c κs =
+    let required = c .before .before .before .before .before .before .before .before .before .pre in
+    (required .0, ((omega (arith, c .before .before .before .if1 .taken), omega arith), required .1 .1))
 
 same-length : tie.Need-same-length
 same-length c = search needs
@@ -32,15 +21,34 @@ same-length-2 c = search needs
 returns : tie.Need-returns
 returns c = search needs
 
+slice-aggregate-collect-excepted-2 : tie.Need-slice-aggregate-collect-excepted-2
+slice-aggregate-collect-excepted-2 c = search needs
+
+collect-excepted-requires-2 : tie.Need-collect-excepted-requires-2
+collect-excepted-requires-2 c κs =
+    let required = c .before .before .before .before .before .before .before .before .before .pre in
+    (required .0, ((omega (arith, required .1 .0), omega arith), required .1 .1))
+
+same-length-3 : tie.Need-same-length-3
+same-length-3 c = search needs
+
+same-length-4 : tie.Need-same-length-4
+same-length-4 c = search needs
+
+returns-2 : tie.Need-returns-2
+returns-2 c = search needs
+
 pub collect-contents-spec : {M : Type 1} → statement M
 collect-contents-spec =
     tie.close
     (tie.spec
-    slice-aggregate-collect-stored
-    slice-aggregate-collect-stored-2
-    slice-aggregate-collect-stored-3
-    slice-aggregate-collect-stored-4
-    collect-stored-requires
+    slice-aggregate-collect-excepted
+    collect-excepted-requires
     same-length
     same-length-2
-    returns)
+    returns
+    slice-aggregate-collect-excepted-2
+    collect-excepted-requires-2
+    same-length-3
+    same-length-4
+    returns-2)

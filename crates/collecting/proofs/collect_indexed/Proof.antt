@@ -15,7 +15,7 @@ slice-aggregate-collect-structured c = search needs
 collect-structured-requires : tie.Need-collect-structured-requires
 collect-structured-requires c κs =
     let required = c .before .before .before .before .before .before .before .before .before .before .before .before .before .before .pre in
-    (required .0, (c .before .before .before .before .before .before .before .read-structure .ensures, (required .1 .1 .1 .0, required .1 .1 .1 .1)))
+    (required .0, (required .1 .1 .0, (c .before .before .before .before .before .before .before .read-structure .ensures, (required .1 .1 .1 .0, required .1 .1 .1 .1))))
 
 same-length : tie.Need-same-length
 same-length c = search needs

@@ -27,7 +27,7 @@ collect-structured-requires c κs =
     let required = c .before .before .before .before .before .before .before .before .before .before .before .before .before .before .before .pre in
     let find-structure = c .before .before .before .before .before .before .before .before .before .find-structure .ensures in
     let found-told = c .before .before .before .before .before .found .given .1 in
-    (required .0, (found-structure _ _ _ find-structure found-told, (required .1 .1 .0, required .1 .1 .1)))
+    (required .0, (required .1 .0, (found-structure _ _ _ find-structure found-told, (required .1 .1 .0, required .1 .1 .1))))
 
 enum-told : tie.Need-enum-told
 enum-told c = search needs

@@ -5,10 +5,11 @@ use borrow.Author.Needs.{needs}
 use Rattle.collecting.proofs.collect_stored.Statement.{statement}
 use Rattle.collecting.proofs.collect_stored.Tie as tie
 
-read-contents-requires : tie.Need-read-contents-requires
-read-contents-requires c κs =
-    let pre = c .before .before .before .before .before .before .before .before .before .before .before .pre in
-    (pre .1 .0, (pre .1 .1 .0, (pre .1 .1 .1 .1 .0, (pre .1 .1 .1 .1 .1 .0, pre .1 .1 .1 .1 .1 .1))))
+read-components-requires : tie.Need-read-components-requires
+read-components-requires c κs =
+    let required = c .before .before .before .before .before .before .before .before .before .before .before .before .before .pre in
+    let room = required .1 .1 .1 .1 .0 in
+    (required .1 .0, (required .1 .1 .0, (required .1 .1 .1 .0, ((room .0, omega (arith, room .1)), required .1 .1 .1 .1 .1))))
 
 enum-known-f : tie.Need-enum-known-f
 enum-known-f c = search needs
@@ -19,11 +20,13 @@ refused-requires c κs = search needs
 enum-told : tie.Need-enum-told
 enum-told c = search needs
 
-store-events-requires : tie.Need-store-events-requires
-store-events-requires c κs =
-    let pre = c .before .before .before .before .before .before .before .before .before .before .before .before .before .before .before .before .before .before .before .before .pre in
-    let room = stated-room (c .before .before .before .before .before .before .before .before .read-contents .ensures) (c .before .before .enum-told .given .1) (pre .1 .0) in
-    (room .0, (room .1, (pre .1 .1 .1 .1 .1 .0, (c .before .before .before .before .before .before .before .before .read-contents .ensures .entries (c .before .before .enum-told .given .1), (pre .1 .1 .1 .0, pre .1 .1 .1 .1 .1 .1)))))
+store-instances-requires : tie.Need-store-instances-requires
+store-instances-requires c κs =
+    let required = c .before .before .before .before .before .before .before .before .before .before .before .before .before .before .before .before .before .before .before .before .before .before .before .before .before .before .before .before .pre in
+    let told = c .before .before .before .before .before .before .before .before .before .before .before .before .before .before .read-components .ensures in
+    let none = c .before .before .before .before .enum-told .given .1 in
+    let room = stated-room told none (required .1 .0) in
+    (room .0, (room .1, (omega (arith, c .before .before .before .before .before .before .before .before .before .exceptions .given, required .1 .1 .1 .1 .0 .1), (required .1 .1 .1 .1 .1 .1 .0, (told .entries none, (told .removable none, required .1 .1 .1 .1 .1 .1 .1))))))
 
 refused-requires-2 : tie.Need-refused-requires-2
 refused-requires-2 c κs = search needs
@@ -34,23 +37,20 @@ same-length c = search needs
 same-length-2 : tie.Need-same-length-2
 same-length-2 c = search needs
 
-returns : tie.Need-returns
-returns c = contents-many (c .before .before .before .before .before .before .before .before .before .before .before .before .before .read-contents .ensures) (c .before .before .before .before .before .before .before .enum-told .given .1) (c .before .before .before .before .store-events .ensures) (c .before .if1 .taken) (c .refused2 .ensures)
-
-tables-of-requires : tie.Need-tables-of-requires
-tables-of-requires c κs =
-    let pre = c .before .before .before .before .before .before .before .before .before .before .before .before .before .before .before .before .before .before .before .before .before .before .before .before .before .before .before .pre in
-    let room = stated-room (c .before .before .before .before .before .before .before .before .before .before .before .before .before .before .before .read-contents .ensures) (c .before .before .before .before .before .before .before .before .before .enum-told .given .1) (pre .1 .0) in
-    (pre .0, (c .before .before .before .if1 .left, omega (arith, room .0, c .before .before .before .if1 .left)))
-
 same-length-3 : tie.Need-same-length-3
 same-length-3 c = search needs
 
 same-length-4 : tie.Need-same-length-4
 same-length-4 c = search needs
 
-returns-2 : tie.Need-returns-2
-returns-2 c = contents-refuse (c .before .before .before .before .before .before .before .before .read-contents .ensures) (c .before .before .f .given .1) (c .refused .ensures)
+returns : tie.Need-returns
+returns c = contents-many (c .before .before .before .before .before .before .before .before .before .before .before .before .before .before .before .before .before .before .before .read-components .ensures) (c .before .before .before .before .before .before .before .before .before .enum-told .given .1) (c .before .before .before .before .store-instances .ensures) (c .before .if1 .taken) (c .refused2 .ensures)
+
+tables-of-requires : tie.Need-tables-of-requires
+tables-of-requires c κs =
+    let required = c .before .before .before .before .before .before .before .before .before .before .before .before .before .before .before .before .before .before .before .before .before .before .before .before .before .before .before .before .before .before .before .before .before .before .before .pre in
+    let room = stated-room (c .before .before .before .before .before .before .before .before .before .before .before .before .before .before .before .before .before .before .before .before .before .read-components .ensures) (c .before .before .before .before .before .before .before .before .before .before .before .enum-told .given .1) (required .1 .0) in
+    (required .0, (c .before .before .before .if1 .left, omega (arith, room .0, c .before .before .before .if1 .left)))
 
 same-length-5 : tie.Need-same-length-5
 same-length-5 c = search needs
@@ -64,30 +64,57 @@ same-length-7 c = search needs
 same-length-8 : tie.Need-same-length-8
 same-length-8 c = search needs
 
+returns-2 : tie.Need-returns-2
+returns-2 c = contents-refuse (c .before .before .before .before .before .before .before .before .before .before .before .before .read-components .ensures) (c .before .before .f .given .1) (c .refused .ensures)
+
+same-length-9 : tie.Need-same-length-9
+same-length-9 c = search needs
+
+same-length-10 : tie.Need-same-length-10
+same-length-10 c = search needs
+
+same-length-11 : tie.Need-same-length-11
+same-length-11 c = search needs
+
+same-length-12 : tie.Need-same-length-12
+same-length-12 c = search needs
+
+same-length-13 : tie.Need-same-length-13
+same-length-13 c = search needs
+
+same-length-14 : tie.Need-same-length-14
+same-length-14 c = search needs
+
 returns-3 : tie.Need-returns-3
 returns-3 c =
-    let pre = c .before .before .before .before .before .before .before .before .before .before .before .before .before .before .before .before .before .before .before .before .before .before .before .before .before .before .before .before .before .before .before .before .pre in
-    contents-few (c .before .before .before .before .before .before .before .before .before .before .before .before .before .before .before .before .before .before .before .before .read-contents .ensures) (c .before .before .before .before .before .before .before .before .before .before .before .before .before .before .enum-told .given .1) (c .before .before .before .before .before .before .before .before .before .before .before .store-events .ensures) (c .before .before .before .before .before .before .before .before .if1 .left) (pre .1 .0) (pre .1 .1 .1 .1 .1 .1 .0) (c .before .before .before .before .tables-of .ensures)
+    let required = c .before .before .before .before .before .before .before .before .before .before .before .before .before .before .before .before .before .before .before .before .before .before .before .before .before .before .before .before .before .before .before .before .before .before .before .before .before .before .before .before .pre in
+    contents-few (c .before .before .before .before .before .before .before .before .before .before .before .before .before .before .before .before .before .before .before .before .before .before .before .before .before .before .read-components .ensures) (c .before .before .before .before .before .before .before .before .before .before .before .before .before .before .before .before .enum-told .given .1) (c .before .before .before .before .before .before .before .before .before .before .before .store-instances .ensures) (c .before .before .before .before .before .before .before .before .if1 .left) (required .1 .0) (required .1 .1 .1 .1 .1 .1 .1 .0) (c .before .before .before .before .tables-of .ensures)
 
 pub collect-stored-spec : {M : Type 1} → statement M
 collect-stored-spec =
     tie.close
     (tie.spec
-    read-contents-requires
+    read-components-requires
     enum-known-f
     refused-requires
     enum-told
-    store-events-requires
+    store-instances-requires
     refused-requires-2
     same-length
     same-length-2
-    returns
-    tables-of-requires
     same-length-3
     same-length-4
-    returns-2
+    returns
+    tables-of-requires
     same-length-5
     same-length-6
     same-length-7
     same-length-8
+    returns-2
+    same-length-9
+    same-length-10
+    same-length-11
+    same-length-12
+    same-length-13
+    same-length-14
     returns-3)

@@ -20,14 +20,14 @@ enum-told c = search needs
 collect-contents-requires : tie.Need-collect-contents-requires
 collect-contents-requires c κs =
     let required = c .before .before .before .before .before .before .before .before .before .before .pre in
-    (required .0, (required .1 .1 .0, (structure-known (required .1 .0) (c .before .before .before .before .structure-fault .ensures) (c .before .before .enum-told .given .1), required .1 .1 .1)))
+    (required .0, (required .1 .0, (required .1 .1 .1 .0, (structure-known (required .1 .1 .0) (c .before .before .before .before .structure-fault .ensures) (c .before .before .enum-told .given .1), required .1 .1 .1 .1))))
 
 returns : tie.Need-returns
 returns c =
     let called = c .before .before .before .before .before .before .before .before .before .before in
     let structure-fault = c .before .before .before .before .structure-fault .ensures in
     let k-told = c .before .before .k .given .1 in
-    structure-refuses (called .pre .1 .0) structure-fault _ _ _ k-told (c .refused .ensures)
+    structure-refuses (called .pre .1 .1 .0) structure-fault _ _ _ k-told (c .refused .ensures)
 
 same-length : tie.Need-same-length
 same-length c = search needs
@@ -41,7 +41,7 @@ returns-2 c =
     let structure-fault = c .before .before .before .before .before .before .before .before .before .structure-fault .ensures in
     let enum-told-told = c .before .before .before .before .before .before .before .enum-told .given .1 in
     let collect-contents = c .before .before .before .before .collect-contents .ensures in
-    structure-passes (called .pre .1 .0) structure-fault _ _ _ enum-told-told collect-contents
+    structure-passes (called .pre .1 .1 .0) structure-fault _ _ _ enum-told-told collect-contents
 
 pub collect-structured-spec : {M : Type 1} → statement M
 collect-structured-spec =

@@ -1,16 +1,15 @@
 -- `contents::read_block` meets its contract: as for an event, and its pieces are stored already.
 use Rattle.contents.specs.Contents.{entry-unsupported, entry-bad}
-use Rattle.contents.proofs.LinesLaws.{lines-of, lines-unsupported, lines-bad}
-use Rattle.contents.proofs.Contents.{block-fault, block-good, block-broken}
+use Rattle.contents.proofs.LinesLaws.{lines-of, lines-tie, lines-unsupported, lines-bad}
+use Rattle.contents.proofs.Contents.{lines-fault, block-good, block-broken}
 use native.Mathlib.Omega.{arith}
 use borrow.Author.Needs.{needs}
 use Rattle.contents.proofs.read_block.Statement.{statement}
 use Rattle.contents.proofs.read_block.Tie as tie
 
 read-lines-requires : tie.Need-read-lines-requires
-read-lines-requires c κs =
-    let pre = c .before .before .before .before .before .before .pre in
-    (pre .0, (pre .1 .0, (pre .1 .1 .1 .0, (pre .1 .1 .1 .1 .0, (pre .1 .1 .1 .1 .1 .0, pre .1 .1 .1 .1 .1 .1 .1 .1)))))
+read-lines-requires c κs = let pre = c .before .before .before .before .before .before .before .before .before .pre in
+    (pre .0, (pre .1 .0, (pre .1 .1 .1 .1 .1 .0, (pre .1 .1 .1 .1 .1 .1 .0, (pre .1 .1 .1 .1 .1 .1 .1 .0, (pre .1 .1 .1 .1 .1 .1 .1 .1 .1 .1, (pre .1 .1 .1 .1 .0 .long, (pre .1 .1 .1 .1 .0 .room, pre .1 .1 .1 .1 .0 .few))))))))
 
 enum-known-g : tie.Need-enum-known-g
 enum-known-g c = search needs
@@ -22,9 +21,8 @@ enum-known-x : tie.Need-enum-known-x
 enum-known-x c = search needs
 
 put-block-requires : tie.Need-put-block-requires
-put-block-requires c κs =
-    let pre = c .before .before .before .before .before .before .before .before .before .before .before .before .before .before .before .before .before .pre in
-    omega (arith, pre .1 .1 .1 .1 .1 .0 .few, pre .1 .1 .0)
+put-block-requires c κs = let pre = c .before .before .before .before .before .before .before .before .before .before .before .before .before .before .before .before .before .before .before .before .before .before .pre in
+    omega (arith, pre .1 .1 .1 .1 .1 .1 .1 .0 .few, pre .1 .1 .0)
 
 enum-told : tie.Need-enum-told
 enum-told c = search needs
@@ -41,43 +39,42 @@ same-length c = search needs
 same-length-2 : tie.Need-same-length-2
 same-length-2 c = search needs
 
-returns : tie.Need-returns
-returns c =
-    let pre = c .before .before .before .before .before .before .before .before .before .before .before .before .before .before .before .before .before .before .before .before .pre in
-    let read-lines = c .before .before .before .before .before .before .before .before .before .before .before .before .before .read-lines in
-    let g = c .before .before .before .before .before .before .before .before .before .g in
-    let block-by = c .before .before .before .before .before .before .before .block-by in
-    let x = c .before .before .before .before .before .x in
-    block-good _ _ (pre .1 .1 .1 .1 .1 .1 .0) (lines-of (read-lines .ensures) _ _ (g .given .1)) (block-by .ensures) _ (x .given .1)
-    (c .before .before .put-block .ensures)
-
 same-length-3 : tie.Need-same-length-3
 same-length-3 c = search needs
 
-returns-2 : tie.Need-returns-2
-returns-2 c =
-    let pre = c .before .before .before .before .before .before .before .before .before .before .before .before .before .before .before .pre in
-    let read-lines = c .before .before .before .before .before .before .before .before .read-lines in
-    let g = c .before .before .before .before .g in
-    block-broken _ _ (pre .1 .1 .1 .1 .1 .1 .0) (lines-of (read-lines .ensures) _ _ (g .given .1)) (c .before .before .block-by .ensures) _ _ _ _ (c .enum-told .given .1)
+returns : tie.Need-returns
+returns c = let pre = c .before .before .before .before .before .before .before .before .before .before .before .before .before .before .before .before .before .before .before .before .before .before .before .before .before .pre in
+    block-good _ _ _ _ (pre .1 .1 .1 .1 .1 .1 .1 .1 .0) (lines-of (c .before .before .before .before .before .before .before .before .before .before .before .before .before .before .before .read-lines .ensures) _ _ _ (c .before .before .before .before .before .before .before .before .before .g .given .1)) (lines-tie (c .before .before .before .before .before .before .before .before .before .before .before .before .before .before .before .read-lines .ensures) _ _ _ (c .before .before .before .before .before .before .before .before .before .g .given .1)) (c .before .before .before .before .before .before .before .block-by .ensures) _ (c .before .before .before .before .before .x .given .1) (c .before .before .put-block .ensures)
 
 same-length-4 : tie.Need-same-length-4
 same-length-4 c = search needs
 
-returns-3 : tie.Need-returns-3
-returns-3 c =
-    let pre = c .before .before .before .before .before .before .before .before .before .before .before .before .pre in
-    let read-lines = c .before .before .before .before .before .read-lines in
-    entry-unsupported (block-fault _ _ (pre .1 .1 .1 .1 .1 .1 .0) (lines-unsupported (read-lines .ensures) _ (c .before .i .given .1)))
-
 same-length-5 : tie.Need-same-length-5
 same-length-5 c = search needs
 
+returns-2 : tie.Need-returns-2
+returns-2 c = let pre = c .before .before .before .before .before .before .before .before .before .before .before .before .before .before .before .before .before .before .before .before .pre in
+    block-broken _ _ _ _ (pre .1 .1 .1 .1 .1 .1 .1 .1 .0) (lines-of (c .before .before .before .before .before .before .before .before .before .before .read-lines .ensures) _ _ _ (c .before .before .before .before .g .given .1)) (lines-tie (c .before .before .before .before .before .before .before .before .before .before .read-lines .ensures) _ _ _ (c .before .before .before .before .g .given .1)) (c .before .before .block-by .ensures) _ _ _ (c .enum-told .given .1)
+
+same-length-6 : tie.Need-same-length-6
+same-length-6 c = search needs
+
+same-length-7 : tie.Need-same-length-7
+same-length-7 c = search needs
+
+returns-3 : tie.Need-returns-3
+returns-3 c = let pre = c .before .before .before .before .before .before .before .before .before .before .before .before .before .before .before .before .before .pre in
+    entry-unsupported (lines-fault _ _ (pre .1 .1 .1 .1 .1 .1 .1 .1 .0) (lines-unsupported (c .before .before .before .before .before .before .before .read-lines .ensures) _ (c .before .i .given .1)))
+
+same-length-8 : tie.Need-same-length-8
+same-length-8 c = search needs
+
+same-length-9 : tie.Need-same-length-9
+same-length-9 c = search needs
+
 returns-4 : tie.Need-returns-4
-returns-4 c =
-    let pre = c .before .before .before .before .before .before .before .before .before .before .before .before .pre in
-    let read-lines = c .before .before .before .before .before .read-lines in
-    entry-bad (block-fault _ _ (pre .1 .1 .1 .1 .1 .1 .0) (lines-bad (read-lines .ensures) _ (c .before .i2 .given .1)))
+returns-4 c = let pre = c .before .before .before .before .before .before .before .before .before .before .before .before .before .before .before .before .before .pre in
+    entry-bad (lines-fault _ _ (pre .1 .1 .1 .1 .1 .1 .1 .1 .0) (lines-bad (c .before .before .before .before .before .before .before .read-lines .ensures) _ (c .before .i2 .given .1)))
 
 pub read-block-spec : {M : Type 1} → statement M
 read-block-spec =
@@ -93,10 +90,14 @@ read-block-spec =
     enum-known-i-2
     same-length
     same-length-2
-    returns
     same-length-3
-    returns-2
+    returns
     same-length-4
-    returns-3
     same-length-5
+    returns-2
+    same-length-6
+    same-length-7
+    returns-3
+    same-length-8
+    same-length-9
     returns-4)

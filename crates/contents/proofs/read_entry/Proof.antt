@@ -5,21 +5,16 @@ use Rattle.contents.proofs.read_entry.Statement.{statement}
 use Rattle.contents.proofs.read_entry.Tie as tie
 
 kind-at-requires : tie.Need-kind-at-requires
-kind-at-requires c κs = search needs
+kind-at-requires c κs = let pre = c .before .before .before .before .before .before .before .pre in
+    pre .1 .1 .1 .1 .1 .1 .1 .0 .room
 
 read-event-requires : tie.Need-read-event-requires
-read-event-requires c κs =
-    let event = c .before .before .match .keys1 in
-    let pre = c .before .before .before .before .before .before .before .before .before .pre in
-    let kind-at = c .before .before .before .kind-at in
-    (pre .0, (pre .1 .0, (pre .1 .1 .0, (pre .1 .1 .1 .0, (pre .1 .1 .1 .1 .0, (pre .1 .1 .1 .1 .1 .0, (row-event (pre .1 .1 .1 .1 .1 .0) (kind-at .ensures) event, pre .1 .1 .1 .1 .1 .1)))))))
+read-event-requires c κs = let pre = c .before .before .before .before .before .before .before .before .before .before .before .before .before .pre in
+    (pre .0, (pre .1 .0, (pre .1 .1 .0, (pre .1 .1 .1 .0, (pre .1 .1 .1 .1 .0, (pre .1 .1 .1 .1 .1 .0, (pre .1 .1 .1 .1 .1 .1 .0, (pre .1 .1 .1 .1 .1 .1 .1 .0, (row-event (pre .1 .1 .1 .1 .1 .1 .1 .0) (c .before .before .before .before .before .kind-at .ensures) (c .before .before .before .before .match .keys1), pre .1 .1 .1 .1 .1 .1 .1 .1)))))))))
 
 read-block-requires : tie.Need-read-block-requires
-read-block-requires c κs =
-    let block = c .before .before .match .keys2 in
-    let pre = c .before .before .before .before .before .before .before .before .before .pre in
-    let kind-at = c .before .before .before .kind-at in
-    (pre .0, (pre .1 .0, (pre .1 .1 .0, (pre .1 .1 .1 .0, (pre .1 .1 .1 .1 .0, (pre .1 .1 .1 .1 .1 .0, (row-block (pre .1 .1 .1 .1 .1 .0) (kind-at .ensures) block, pre .1 .1 .1 .1 .1 .1)))))))
+read-block-requires c κs = let pre = c .before .before .before .before .before .before .before .before .before .before .before .before .before .pre in
+    (pre .0, (pre .1 .0, (pre .1 .1 .0, (pre .1 .1 .1 .0, (pre .1 .1 .1 .1 .0, (pre .1 .1 .1 .1 .1 .0, (pre .1 .1 .1 .1 .1 .1 .0, (pre .1 .1 .1 .1 .1 .1 .1 .0, (row-block (pre .1 .1 .1 .1 .1 .1 .1 .0) (c .before .before .before .before .before .kind-at .ensures) (c .before .before .before .before .match .keys2), pre .1 .1 .1 .1 .1 .1 .1 .1)))))))))
 
 same-length : tie.Need-same-length
 same-length c = search needs
@@ -27,24 +22,33 @@ same-length c = search needs
 same-length-2 : tie.Need-same-length-2
 same-length-2 c = search needs
 
-returns : tie.Need-returns
-returns c = search needs
-
 same-length-3 : tie.Need-same-length-3
 same-length-3 c = search needs
 
 same-length-4 : tie.Need-same-length-4
 same-length-4 c = search needs
 
+returns : tie.Need-returns
+returns c = c .before .before .before .before .before .before .before .before .read-event .ensures
+
+same-length-5 : tie.Need-same-length-5
+same-length-5 c = search needs
+
+same-length-6 : tie.Need-same-length-6
+same-length-6 c = search needs
+
+same-length-7 : tie.Need-same-length-7
+same-length-7 c = search needs
+
+same-length-8 : tie.Need-same-length-8
+same-length-8 c = search needs
+
 returns-2 : tie.Need-returns-2
-returns-2 c = search needs
+returns-2 c = c .before .before .before .before .before .before .before .before .read-block .ensures
 
 returns-3 : tie.Need-returns-3
-returns-3 c =
-    let row = c .before .before .before .before .before .before .before .pre .1 .1 .1 .1 .1 .0 in
-    let kind = c .before .kind-at .ensures in
-    let other = c .match .rest in
-    other-good _ _ (row-other row kind (other .0 .1) (other .1)) _ _ _
+returns-3 c = let pre = c .before .before .before .before .before .before .before .before .before .pre in
+    other-good _ _ _ _ (row-other (pre .1 .1 .1 .1 .1 .1 .1 .0) (c .before .kind-at .ensures) (c .match .rest .0 .1) (c .match .rest .1)) _ _ (pre .1 .1 .1 .1 .1 .1 .1 .0) (pre .1 .1 .1 .1 .0)
 
 pub read-entry-spec : {M : Type 1} → statement M
 read-entry-spec =
@@ -55,8 +59,12 @@ read-entry-spec =
     read-block-requires
     same-length
     same-length-2
-    returns
     same-length-3
     same-length-4
+    returns
+    same-length-5
+    same-length-6
+    same-length-7
+    same-length-8
     returns-2
     returns-3)

@@ -1,11 +1,11 @@
 -- `property::is_zoned` meets its contract: a line without parameters has no TZID.
-use Rattle.property.proofs.Properties.{plain-unzoned}
+use Rattle.property.proofs.Properties.{plain-without}
 use borrow.Author.Needs.{needs}
 use Rattle.property.proofs.is_zoned.Statement.{statement}
 use Rattle.property.proofs.is_zoned.Tie as tie
 
 returns : tie.Need-returns
-returns c = plain-unzoned _ (c .before .before .pre (c .if1 .taken))
+returns c = plain-without _ (c .before .before .pre (c .if1 .taken)) _
 
 slice-aggregate-has-parameter : tie.Need-slice-aggregate-has-parameter
 slice-aggregate-has-parameter c = search needs

@@ -6,7 +6,7 @@ use Rattle.property.proofs.Properties.{unread-line}
 use native.Mathlib.Omega.{arith}
 use Rattle.line.specs.Reading.{lineOf}
 use Rattle.line.proofs.Reading.{name-take, name-fits, plain-at}
-use Rattle.property.specs.Properties.{propertyOf, beforePeriods}
+use Rattle.property.specs.Properties.{propertyOf, beforeItems}
 use borrow.Author.Needs.{needs}
 use Rattle.property.proofs.property_value.Statement.{statement}
 use Rattle.property.proofs.property_value.Tie as tie
@@ -42,7 +42,7 @@ returns c =
     (ap (propertyOf (args .scope)) (sym (name-take (now (args .line)) _ (pre .1))) ∙ sym (c .before .before .property-of .ensures) ∙ c .enum-told .given .1)
 
 returns-2 : tie.Need-returns-2
-unfolding beforePeriods lineOf
+unfolding beforeItems lineOf
 returns-2 c =
     let line = now (c .before .before .before .before .before .before .before .args .line) in
     let size = c .before .before .before .before .before .before .before .pre .1 in

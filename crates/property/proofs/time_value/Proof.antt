@@ -1,7 +1,7 @@
 -- `property::time_value` meets its contract: with TZID the line is unsupported; else its time is what the callees answer.
 use denote.Ref.{now}
-use Rattle.line.specs.Reading.{lineOf}
-use Rattle.values.specs.Times.{timeOf}
+use mathlib.Core.Path.{ap, _∙_}
+use Rattle.property.specs.Properties.{timeIn}
 use Rattle.property.proofs.Properties.{zoned, unzoned}
 use borrow.Author.Needs.{needs}
 use Rattle.property.proofs.time_value.Statement.{statement}
@@ -15,11 +15,8 @@ returns c =
     let args = c .before .before .before .before .args in
     zoned (now (args .line)) (args .start) (args .c) (args .scope) _ (c .before .is-zoned .ensures) (c .if1 .taken)
 
-form-in-requires : tie.Need-form-in-requires
-form-in-requires c κs = search needs
-
-read-time-requires : tie.Need-read-time-requires
-read-time-requires c κs = search needs
+time-on-requires : tie.Need-time-on-requires
+time-on-requires c κs = search needs
 
 time-in-requires : tie.Need-time-in-requires
 time-in-requires c κs = search needs
@@ -28,24 +25,15 @@ timed-requires : tie.Need-timed-requires
 timed-requires c κs = search needs
 
 returns-2 : tie.Need-returns-2
-unfolding timeOf lineOf
 returns-2 c =
-    let args = c .before .before .before .before .before .before .before .before .args in
-    let is-zoned = c .before .before .before .before .before .is-zoned in
-    let if1 = c .before .before .before .before .if1 in
-    let form-in = c .before .before .before .form-in in
-    let pre = c .before .before .before .before .before .before .before .before .pre in
+    let args = c .before .before .before .before .before .before .before .args in
+    let is-zoned = c .before .before .before .before .is-zoned in
+    let if1 = c .before .before .before .if1 in
+    let time-on = c .before .before .time-on in
     unzoned (now (args .line)) (args .start) (args .c) (args .scope) _ (is-zoned .ensures) (if1 .left)
-    (simp (c .before .time-in .ensures, c .before .before .read-time .ensures, form-in .ensures, pre .1 .0)) (c .timed .ensures)
+    (c .before .time-in .ensures ∙ ap (timeIn (args .scope)) (time-on .ensures)) (c .timed .ensures)
 
 pub time-value-spec : {M : Type 1} → statement M
 time-value-spec =
     tie.close
-    (tie.spec
-    is-zoned-requires
-    returns
-    form-in-requires
-    read-time-requires
-    time-in-requires
-    timed-requires
-    returns-2)
+    (tie.spec is-zoned-requires returns time-on-requires time-in-requires timed-requires returns-2)

@@ -52,6 +52,21 @@ same-name-requires c κs = search needs
 enum-told-7 : tie.Need-enum-told-7
 enum-told-7 c = search needs
 
+enum-told-8 : tie.Need-enum-told-8
+enum-told-8 c = search needs
+
+recurrence-value-requires : tie.Need-recurrence-value-requires
+recurrence-value-requires c κs = search needs
+
+enum-told-9 : tie.Need-enum-told-9
+enum-told-9 c = search needs
+
+exceptions-value-requires : tie.Need-exceptions-value-requires
+exceptions-value-requires c κs = search needs
+
+enum-told-10 : tie.Need-enum-told-10
+enum-told-10 c = search needs
+
 type-value-requires : tie.Need-type-value-requires
 type-value-requires c κs = search needs
 
@@ -87,12 +102,26 @@ returns-6 c = simp (c .same-name .ensures, c .before .before .before .before .be
 
 returns-7 : tie.Need-returns-7
 unfolding valueAs
-returns-7 c = simp (c .type-value .ensures, c .before .enum-told7 .given .1)
+returns-7 c = rw (c .enum-told7 .given .1)
 
 returns-8 : tie.Need-returns-8
 returns-8 c =
     let args = c .before .before .before .before .before .args in
-    let either = c .before .before .match .keys8 in
+    rw (c .before .enum-told8 .given .1) (c .recurrence-value .ensures (args .scope))
+
+returns-9 : tie.Need-returns-9
+returns-9 c =
+    let args = c .before .before .before .before .before .args in
+    rw (c .before .enum-told9 .given .1) (c .exceptions-value .ensures (args .c) (args .scope))
+
+returns-10 : tie.Need-returns-10
+unfolding valueAs
+returns-10 c = simp (c .type-value .ensures, c .before .enum-told10 .given .1)
+
+returns-11 : tie.Need-returns-11
+returns-11 c =
+    let args = c .before .before .before .before .before .args in
+    let either = c .before .before .match .keys11 in
     let property = ap (λ (b : Bool). cond b Property.Start Property.End) (c .before .is-start .ensures) ∙ start-or-end _ either in
     c .time-value .ensures ∙ ap (λ (p : Property). valueAs p (args .c) (args .scope) (lineOf (now (args .line)))) property
 
@@ -114,6 +143,11 @@ value-as-spec =
     slice-aggregate-same-name
     same-name-requires
     enum-told-7
+    enum-told-8
+    recurrence-value-requires
+    enum-told-9
+    exceptions-value-requires
+    enum-told-10
     type-value-requires
     is-start-requires
     time-value-requires
@@ -124,4 +158,7 @@ value-as-spec =
     returns-5
     returns-6
     returns-7
-    returns-8)
+    returns-8
+    returns-9
+    returns-10
+    returns-11)

@@ -5,7 +5,7 @@ use lib.ListN.{getD}
 use Rattle.values.specs.declared.times.Context.{Context}
 use Rattle.structure.proofs.RowsLaws.{NextBelow, file-next}
 use Rattle.contents.specs.EntryRows.{EntryRows}
-use Rattle.contents.specs.Removed.{RemovedRows}
+use Rattle.series.specs.Columns.{RemovedRows}
 use Rattle.contents.proofs.Removed.{StoringEvents, events-start, next-event, event-known, events-more, events-end}
 use native.Mathlib.Omega.{arith}
 use borrow.Author.Needs.{needs}

@@ -1,12 +1,17 @@
--- `contents::lines::read_lines` meets its contract: the lines that are left have the first fault and make the whole of what is said and stored.
+-- `contents::lines::read_lines` meets its contract: the lines that are left have the first fault and make the whole of what is said, told and stored.
 -- Each arm is what one kind of line adds.
 use Prim.Native.Nat.{_-_}
 use lib.ListN.{length}
 use Rattle.nesting.specs.Components.{propertiesIn}
 use Rattle.structure.specs.Rows.{componentBy}
-use Rattle.structure.proofs.ItemsLaws.{item-asked, inner-less}
-use Rattle.contents.proofs.LinesLaws.{ReadingLines, LineHere, nothing-said, line-entry, line-read}
+use Rattle.structure.proofs.ItemsLaws.{item-asked, inner-at, inner-less, no-item-at, items-rise}
+use Rattle.values.proofs.TimeLists.{times-read, times-unread}
+use Rattle.contents.specs.Lines.{good, unsupported, bad}
+use Rattle.contents.proofs.LinesStoring.{value-stored}
+use Rattle.contents.proofs.LinesLaws.{ReadingLines, LineHere, nothing-said, uid-said, recurrence-said, line-entry, line-read}
 use Rattle.contents.proofs.LinesLaws.{reading-start, reading-inner, reading-done, reading-unsupported, reading-bad, reading-plain, reading-periods, reading-bad-period}
+use Rattle.contents.proofs.LinesLaws.{reading-exceptions, reading-bad-time, plain-said, periods-said, exceptions-said}
+use Rattle.contents.proofs.IdentitiesLaws.{ReadingTies, ties-start, ties-inner, ties-untied, ties-uid, ties-recurrence, ties-room, ties-exceptions, ties-done}
 use Rattle.index.specs.Index.{Entry}
 use Rattle.index.proofs.Index.{entry-here, entry-name}
 use mathlib.Core.Path.{_≡_, sym, _∙_}
@@ -16,26 +21,30 @@ use Rattle.contents.proofs.lines.read_lines.Tie as tie
 use borrow.Author.Needs.{needs}
 
 abbrev Inv-loop : tie.InvT-loop
-Inv-loop column₀ first s index rows k scope c a b stop last n₀ g₀ i₀ row₀ column n g i row =
+Inv-loop column₀ first exceptions₀ held s index rows k scope c a b stop last n₀ g₀ y₀ i₀ row₀ column exceptions n g y i row =
     ReadingLines c scope s rows (propertiesIn (componentBy s rows k .items)) a b column₀ first column n g i row stop last
+    × ReadingTies c scope s index (propertiesIn (componentBy s rows k .items)) exceptions₀ held exceptions y i
 
 abbrev μ-loop : tie.MeasureT-loop
-μ-loop column₀ first s index rows k scope c a b stop last n₀ g₀ i₀ row₀ column n g i row = stop - i
+μ-loop column₀ first exceptions₀ held s index rows k scope c a b stop last n₀ g₀ y₀ i₀ row₀ column exceptions n g y i row = stop - i
 
 -- the call, and a turn of the loop, from the places below
 abbrev called : tie.At-loop Inv-loop μ-loop → tie.Start Inv-loop μ-loop
-called c = c .before .before .before .before .before .before .before .before .before
+called c = c .before .before .before .before .before .before .before .before .before .before .before
 
 abbrev turn : tie.After-enum-told Inv-loop μ-loop → tie.At-loop Inv-loop μ-loop
 turn c = c .before .before .before
 
--- the column keeps its length
+-- the columns keep their lengths
 same-room : (c : tie.At-loop Inv-loop μ-loop) → length (c .loop .column) ≡ length (called c .args .column .now)
-same-room c = c .loop .inv .still .long ∙ sym (called c .pre .0)
+same-room c = c .loop .inv .0 .still .long ∙ sym (called c .pre .0)
+
+same-held : (c : tie.At-loop Inv-loop μ-loop) → length (c .loop .exceptions) ≡ length (called c .args .exceptions .now)
+same-held c = c .loop .inv .1 .long
 
 -- the line of a property is known to the index
 known : (c : tie.After-enum-told Inv-loop μ-loop) → Entry (called (turn c) .args .s .now) (called (turn c) .args .index .now) (turn c .loop .i)
-known c = line-entry (turn c .loop .inv) (c .before .before .item-at .ensures) (c .enum-told .given .1) (called (turn c) .pre .1 .1 .1 .0)
+known c = line-entry (turn c .loop .inv .0) (c .before .before .item-at .ensures) (c .enum-told .given .1) (called (turn c) .pre .1 .1 .1 .0)
 
 -- its value is read, and each arm below begins with that
 abbrev Read : tie.After-property-value Inv-loop μ-loop → Type 0
@@ -43,49 +52,52 @@ Read c =
     let at = turn (c .before .before .before) in
     let given = called at .args in
     let lines = propertiesIn (componentBy (given .s .now) (given .rows .now) (given .k) .items) in
-    let stop = at .before .before .before .before .line-behind .result - 1 in
+    let stop = at .before .before .before .before .before .line-behind .result - 1 in
     LineHere (given .c) (given .scope) (given .s .now) (given .rows .now) lines (given .a) (given .b) (given .column .now) (given .first)
-    (at .loop .column) (at .loop .n) (at .loop .g) (at .loop .i) (at .loop .row) stop (at .before .before .before .next-row .result)
+    (at .loop .column) (at .loop .n) (at .loop .g) (at .loop .i) (at .loop .row) stop (at .before .before .before .before .next-row .result)
     (c .before .before .line-at .result .now) (c .property-value .result)
 
 value-read : (c : tie.After-property-value Inv-loop μ-loop) → Read c
 value-read c =
     let told = c .before .before .before in
-    line-read (turn told .loop .inv) (told .before .before .item-at .ensures) (told .enum-told .given .1) (c .before .before .line-at .ensures) (c .property-value .ensures)
+    line-read (turn told .loop .inv .0) (told .before .before .item-at .ensures) (told .enum-told .given .1) (c .before .before .line-at .ensures) (c .property-value .ensures)
 
 line-behind-requires : tie.Need-line-behind-requires Inv-loop μ-loop
-line-behind-requires c κs = c .before .before .before .before .pre .1 .1 .1 .1 .0 .room
+line-behind-requires c κs = c .before .before .before .before .before .pre .1 .1 .1 .1 .0 .room
 
 sub-stop : tie.Need-sub-stop Inv-loop μ-loop
-sub-stop c = omega (arith, c .line-behind .ensures, c .before .before .before .before .before .pre .1 .1 .1 .1 .0 .end)
+sub-stop c = omega (arith, c .line-behind .ensures, c .before .before .before .before .before .before .pre .1 .1 .1 .1 .0 .end)
 
 next-row-requires : tie.Need-next-row-requires Inv-loop μ-loop
-next-row-requires c κs = c .before .before .before .before .before .pre .1 .1 .1 .1 .0 .room
+next-row-requires c κs = c .before .before .before .before .before .before .pre .1 .1 .1 .1 .0 .room
 
 no-properties-requires : tie.Need-no-properties-requires Inv-loop μ-loop
 no-properties-requires c κs = search needs
 
+no-identity-requires : tie.Need-no-identity-requires Inv-loop μ-loop
+no-identity-requires c κs = search needs
+
 first-line-requires : tie.Need-first-line-requires Inv-loop μ-loop
-first-line-requires c κs = c .before .before .before .before .before .before .before .pre .1 .1 .1 .1 .0 .room
+first-line-requires c κs = c .before .before .before .before .before .before .before .before .before .pre .1 .1 .1 .1 .0 .room
 
 add-row : tie.Need-add-row Inv-loop μ-loop
-add-row c = omega (arith, c .before .before .before .before .before .before .before .before .pre .1 .1 .1 .1 .0 .few)
+add-row c = omega (arith, c .before .before .before .before .before .before .before .before .before .before .pre .1 .1 .1 .1 .0 .few)
 
 loop-holds : tie.Need-loop-holds Inv-loop μ-loop
 loop-holds c =
-    let pre = c .before .before .before .before .before .before .before .before .pre in
-    let line-behind = c .before .before .before .line-behind in
-    reading-start _ _ (pre .1 .1 .1 .1 .0) _ _ (pre .0) (pre .1 .0) _ _ _ (c .before .no-properties .ensures) (c .first-line .ensures) (line-behind .ensures)
-    (c .before .before .next-row .ensures)
+    let pre = c .before .before .before .before .before .before .before .before .before .before .pre in (
+      reading-start _ _ (pre .1 .1 .1 .1 .0) _ _ (pre .0) (pre .1 .0) _ _ _ (c .before .before .no-properties .ensures) (c .first-line .ensures) (c .before .before .before .before .line-behind .ensures) (c .before .before .before .next-row .ensures),
+      ties-start _ _ _ _ _ _ _ _ _ (c .before .no-identity .ensures) (c .first-line .ensures) (pre .1 .1 .1 .1 .1 .1 .1 .0) (pre .1 .1 .1 .1 .1 .1 .1 .1),
+    )
 
 item-at-requires : tie.Need-item-at-requires Inv-loop μ-loop
-item-at-requires c κs = item-asked (c .loop .inv .items)
+item-at-requires c κs = item-asked (c .loop .inv .0 .items)
 
 enum-told : tie.Need-enum-told Inv-loop μ-loop
 enum-told c = search needs
 
 add-next : tie.Need-add-next Inv-loop μ-loop
-add-next c = omega (arith, item-asked (c .before .before .before .loop .inv .items) .1)
+add-next c = omega (arith, item-asked (c .before .before .before .loop .inv .0 .items) .1)
 
 line-at-requires : tie.Need-line-at-requires Inv-loop μ-loop
 line-at-requires c κs = known c
@@ -105,7 +117,10 @@ loop-less : tie.Need-loop-less Inv-loop μ-loop
 loop-less c = omega (arith, value-read (c .before .before) .here .onward)
 
 loop-again : tie.Need-loop-again Inv-loop μ-loop
-loop-again c = reading-plain (value-read (c .before .before)) (c .enum-told2 .given .1) (nothing-said _) tt
+loop-again c =
+    let read = value-read (c .before .before) in
+    let said = plain-said read (c .enum-told2 .given .1) tt in
+    (reading-plain read (c .enum-told2 .given .1) (nothing-said _) tt, ties-untied (c .before .before .before .before .before .before .before .before .loop .inv .1) (read .here) said tt)
 
 enum-told-3 : tie.Need-enum-told-3 Inv-loop μ-loop
 enum-told-3 c = search needs
@@ -113,17 +128,23 @@ enum-told-3 c = search needs
 same-length : tie.Need-same-length Inv-loop μ-loop
 same-length c = same-room (c .before .before .before .before .before .before .before .before)
 
+same-length-2 : tie.Need-same-length-2 Inv-loop μ-loop
+same-length-2 c = same-held (c .before .before .before .before .before .before .before .before)
+
 returns : tie.Need-returns Inv-loop μ-loop
-returns c = reading-unsupported (value-read (c .before .before)) _ (c .enum-told3 .given .1)
+returns c = unsupported (reading-unsupported (value-read (c .before .before)) (c .enum-told3 .given .1))
 
 enum-told-4 : tie.Need-enum-told-4 Inv-loop μ-loop
 enum-told-4 c = search needs
 
-same-length-2 : tie.Need-same-length-2 Inv-loop μ-loop
-same-length-2 c = same-room (c .before .before .before .before .before .before .before .before)
+same-length-3 : tie.Need-same-length-3 Inv-loop μ-loop
+same-length-3 c = same-room (c .before .before .before .before .before .before .before .before)
+
+same-length-4 : tie.Need-same-length-4 Inv-loop μ-loop
+same-length-4 c = same-held (c .before .before .before .before .before .before .before .before)
 
 returns-2 : tie.Need-returns-2 Inv-loop μ-loop
-returns-2 c = reading-bad (value-read (c .before .before)) _ (c .enum-told4 .given .1)
+returns-2 c = bad (reading-bad (value-read (c .before .before)) (c .enum-told4 .given .1))
 
 enum-known-t : tie.Need-enum-known-t Inv-loop μ-loop
 enum-known-t c = search needs
@@ -135,7 +156,10 @@ loop-less-2 : tie.Need-loop-less-2 Inv-loop μ-loop
 loop-less-2 c = omega (arith, value-read (c .before .before .before .before) .here .onward)
 
 loop-again-2 : tie.Need-loop-again-2 Inv-loop μ-loop
-loop-again-2 c = reading-plain (value-read (c .before .before .before .before)) (c .before .before .t .given .1) (c .with-start .ensures) tt
+loop-again-2 c =
+    let read = value-read (c .before .before .before .before) in
+    let said = plain-said read (c .before .before .t .given .1) tt in
+    (reading-plain read (c .before .before .t .given .1) (c .with-start .ensures) tt, ties-untied (c .before .before .before .before .before .before .before .before .before .before .loop .inv .1) (read .here) said tt)
 
 enum-known-t-2 : tie.Need-enum-known-t-2 Inv-loop μ-loop
 enum-known-t-2 c = search needs
@@ -147,7 +171,10 @@ loop-less-3 : tie.Need-loop-less-3 Inv-loop μ-loop
 loop-less-3 c = omega (arith, value-read (c .before .before .before .before) .here .onward)
 
 loop-again-3 : tie.Need-loop-again-3 Inv-loop μ-loop
-loop-again-3 c = reading-plain (value-read (c .before .before .before .before)) (c .before .before .t2 .given .1) (c .with-end .ensures) tt
+loop-again-3 c =
+    let read = value-read (c .before .before .before .before) in
+    let said = plain-said read (c .before .before .t2 .given .1) tt in
+    (reading-plain read (c .before .before .t2 .given .1) (c .with-end .ensures) tt, ties-untied (c .before .before .before .before .before .before .before .before .before .before .loop .inv .1) (read .here) said tt)
 
 enum-known-d : tie.Need-enum-known-d Inv-loop μ-loop
 enum-known-d c = search needs
@@ -159,7 +186,10 @@ loop-less-4 : tie.Need-loop-less-4 Inv-loop μ-loop
 loop-less-4 c = omega (arith, value-read (c .before .before .before .before) .here .onward)
 
 loop-again-4 : tie.Need-loop-again-4 Inv-loop μ-loop
-loop-again-4 c = reading-plain (value-read (c .before .before .before .before)) (c .before .before .d .given .1) (c .with-lasts .ensures) tt
+loop-again-4 c =
+    let read = value-read (c .before .before .before .before) in
+    let said = plain-said read (c .before .before .d .given .1) tt in
+    (reading-plain read (c .before .before .d .given .1) (c .with-lasts .ensures) tt, ties-untied (c .before .before .before .before .before .before .before .before .before .before .loop .inv .1) (read .here) said tt)
 
 enum-known-r : tie.Need-enum-known-r Inv-loop μ-loop
 enum-known-r c = search needs
@@ -171,7 +201,10 @@ loop-less-5 : tie.Need-loop-less-5 Inv-loop μ-loop
 loop-less-5 c = omega (arith, value-read (c .before .before .before .before) .here .onward)
 
 loop-again-5 : tie.Need-loop-again-5 Inv-loop μ-loop
-loop-again-5 c = reading-plain (value-read (c .before .before .before .before)) (c .before .before .r .given .1) (c .with-repeats .ensures) tt
+loop-again-5 c =
+    let read = value-read (c .before .before .before .before) in
+    let said = plain-said read (c .before .before .r .given .1) tt in
+    (reading-plain read (c .before .before .r .given .1) (c .with-repeats .ensures) tt, ties-untied (c .before .before .before .before .before .before .before .before .before .before .loop .inv .1) (read .here) said tt)
 
 enum-known-x : tie.Need-enum-known-x Inv-loop μ-loop
 enum-known-x c = search needs
@@ -183,7 +216,10 @@ loop-less-6 : tie.Need-loop-less-6 Inv-loop μ-loop
 loop-less-6 c = omega (arith, value-read (c .before .before .before .before) .here .onward)
 
 loop-again-6 : tie.Need-loop-again-6 Inv-loop μ-loop
-loop-again-6 c = reading-plain (value-read (c .before .before .before .before)) (c .before .before .x .given .1) (c .with-status .ensures) tt
+loop-again-6 c =
+    let read = value-read (c .before .before .before .before) in
+    let said = plain-said read (c .before .before .x .given .1) tt in
+    (reading-plain read (c .before .before .x .given .1) (c .with-status .ensures) tt, ties-untied (c .before .before .before .before .before .before .before .before .before .before .loop .inv .1) (read .here) said tt)
 
 enum-known-x-2 : tie.Need-enum-known-x-2 Inv-loop μ-loop
 enum-known-x-2 c = search needs
@@ -195,60 +231,152 @@ loop-less-7 : tie.Need-loop-less-7 Inv-loop μ-loop
 loop-less-7 c = omega (arith, value-read (c .before .before .before .before) .here .onward)
 
 loop-again-7 : tie.Need-loop-again-7 Inv-loop μ-loop
-loop-again-7 c = reading-plain (value-read (c .before .before .before .before)) (c .before .before .x2 .given .1) (c .with-transparency .ensures) tt
-
-enum-known-busy : tie.Need-enum-known-busy Inv-loop μ-loop
-enum-known-busy c = search needs
-
-value-requires : tie.Need-value-requires Inv-loop μ-loop
-value-requires c κs = search needs
-
-store-value-requires : tie.Need-store-value-requires Inv-loop μ-loop
-store-value-requires c κs =
-    let at = c .before .before .before .before .before .before .before .before .before .before .before in
-    (at .loop .inv .still .long, (at .loop .inv .still .few, called at .pre .1 .1 .1 .1 .1))
-
-enum-known-m : tie.Need-enum-known-m Inv-loop μ-loop
-enum-known-m c = search needs
-
-loop-less-8 : tie.Need-loop-less-8 Inv-loop μ-loop
-loop-less-8 c = omega (arith, value-read (c .before .before .before .before .before .before .before .before .before .before .before) .here .onward)
-
-loop-again-8 : tie.Need-loop-again-8 Inv-loop μ-loop
-loop-again-8 c =
-    let stored = c .before .before .before .before .before in
-    let read = value-read (stored .before .before .before .before .before .before) in
-    reading-periods read (stored .before .before .before .before .busy .given .1) (stored .before .value .ensures) (stored .store-value .ensures) _ (c .before .m .given .1)
+loop-again-7 c =
+    let read = value-read (c .before .before .before .before) in
+    let said = plain-said read (c .before .before .x2 .given .1) tt in
+    (reading-plain read (c .before .before .x2 .given .1) (c .with-transparency .ensures) tt, ties-untied (c .before .before .before .before .before .before .before .before .before .before .loop .inv .1) (read .here) said tt)
 
 enum-told-5 : tie.Need-enum-told-5 Inv-loop μ-loop
 enum-told-5 c = search needs
 
-same-length-3 : tie.Need-same-length-3 Inv-loop μ-loop
-same-length-3 c = omega (arith, same-room (c .before .before .before .before .before .before .before .before .before .before .before .before .before .before .before .before))
+with-uid-requires : tie.Need-with-uid-requires Inv-loop μ-loop
+with-uid-requires c κs = search needs
 
-returns-3 : tie.Need-returns-3 Inv-loop μ-loop
-returns-3 c =
-    let stored = c .before .before .before .before in
-    let read = value-read (stored .before .before .before .before .before .before) in
-    reading-bad-period read (stored .before .before .before .before .busy .given .1) (stored .before .value .ensures) (stored .store-value .ensures) (c .enum-told5 .given .1)
+loop-less-8 : tie.Need-loop-less-8 Inv-loop μ-loop
+loop-less-8 c = omega (arith, value-read (c .before .before .before) .here .onward)
 
-enum-known-next : tie.Need-enum-known-next Inv-loop μ-loop
-enum-known-next c = search needs
+loop-again-8 : tie.Need-loop-again-8 Inv-loop μ-loop
+loop-again-8 c =
+    let read = value-read (c .before .before .before) in
+    let told = c .before .enum-told5 .given .1 in
+    (reading-plain read told (uid-said _) tt, ties-uid (c .before .before .before .before .before .before .before .before .before .loop .inv .1) (read .here) (plain-said read told tt) (c .with-uid .ensures))
+
+enum-known-t-3 : tie.Need-enum-known-t-3 Inv-loop μ-loop
+enum-known-t-3 c = search needs
+
+with-recurrence-requires : tie.Need-with-recurrence-requires Inv-loop μ-loop
+with-recurrence-requires c κs = search needs
 
 loop-less-9 : tie.Need-loop-less-9 Inv-loop μ-loop
-loop-less-9 c = inner-less (c .before .before .before .before .loop .inv .items) (c .before .before .before .item-at .ensures) (c .before .next .given .1)
+loop-less-9 c = omega (arith, value-read (c .before .before .before .before) .here .onward)
 
 loop-again-9 : tie.Need-loop-again-9 Inv-loop μ-loop
-loop-again-9 c = reading-inner (c .before .before .before .before .loop .inv) (c .before .before .before .item-at .ensures) (c .before .next .given .1)
+loop-again-9 c =
+    let read = value-read (c .before .before .before .before) in
+    let told = c .before .before .t3 .given .1 in
+    (reading-plain read told (recurrence-said _ _) tt, ties-recurrence (c .before .before .before .before .before .before .before .before .before .before .loop .inv .1) (read .here) (plain-said read told tt) (c .with-recurrence .ensures))
+
+enum-known-form : tie.Need-enum-known-form Inv-loop μ-loop
+enum-known-form c = search needs
+
+value-requires : tie.Need-value-requires Inv-loop μ-loop
+value-requires c κs = search needs
+
+store-times-requires : tie.Need-store-times-requires Inv-loop μ-loop
+store-times-requires c κs =
+    let read = value-read (c .before .before .before .before .before) in
+    let pre = c .before .before .before .before .before .before .before .before .before .before .before .before .before .before .before .before .before .before .before .before .before .before .pre in
+    (pre .1 .1 .0, ties-room (c .before .before .before .before .before .before .before .before .before .before .before .loop .inv .1) (read .here) (pre .1 .1 .1 .0) (read .line) (c .value .ensures) (pre .1 .1 .1 .1 .1 .1 .0))
+
+enum-known-m : tie.Need-enum-known-m Inv-loop μ-loop
+enum-known-m c = search needs
+
+with-exceptions-requires : tie.Need-with-exceptions-requires Inv-loop μ-loop
+with-exceptions-requires c κs = search needs
+
+loop-less-10 : tie.Need-loop-less-10 Inv-loop μ-loop
+loop-less-10 c = omega (arith, value-read (c .before .before .before .before .before .before .before .before .before .before .before .before) .here .onward)
+
+loop-again-10 : tie.Need-loop-again-10 Inv-loop μ-loop
+loop-again-10 c =
+    let called-pre = c .before .before .before .before .before .before .before .before .before .before .before .before .before .before .before .before .before .before .before .before .before .before .before .before .before .before .before .before .before .pre in
+    let read = value-read (c .before .before .before .before .before .before .before .before .before .before .before .before) in
+    let told = c .before .before .before .before .before .before .before .before .before .before .form .given .1 in
+    let value = c .before .before .before .before .before .before .before .value .ensures in
+    let stored = c .before .before .before .before .before .before .store-times .ensures in
+    let all = times-read stored _ _ (c .before .before .m .given .1) in (
+      reading-exceptions read told value all,
+      ties-exceptions (c .before .before .before .before .before .before .before .before .before .before .before .before .before .before .before .before .before .before .loop .inv .1) (read .here) (c .before .before .before .before .before .before .before .before .before .before .before .before .before .before .before .before .before .before .before .before .before .before .before .before .before .before .before .before .before .pre .1 .1 .1 .0) (read .line) value _ _ (called-pre .1 .1 .1 .1 .1 .1 .0) (exceptions-said read told value all) stored (c .before .before .m .given .1) (c .with-exceptions .ensures),
+    )
 
 enum-told-6 : tie.Need-enum-told-6 Inv-loop μ-loop
 enum-told-6 c = search needs
 
-same-length-4 : tie.Need-same-length-4 Inv-loop μ-loop
-same-length-4 c = same-room (c .before .before .before)
+same-length-5 : tie.Need-same-length-5 Inv-loop μ-loop
+same-length-5 c = omega (arith, same-room (c .before .before .before .before .before .before .before .before .before .before .before .before .before .before .before .before))
+
+same-length-6 : tie.Need-same-length-6 Inv-loop μ-loop
+same-length-6 c = omega (arith, same-held (c .before .before .before .before .before .before .before .before .before .before .before .before .before .before .before .before))
+
+returns-3 : tie.Need-returns-3 Inv-loop μ-loop
+returns-3 c = bad (reading-bad-time (value-read (c .before .before .before .before .before .before .before .before .before .before)) (c .before .before .before .before .before .before .before .before .form .given .1) (c .before .before .before .before .before .value .ensures) (times-unread (c .before .before .before .before .store-times .ensures) (c .enum-told6 .given .1)))
+
+enum-known-busy : tie.Need-enum-known-busy Inv-loop μ-loop
+enum-known-busy c = search needs
+
+value-requires-2 : tie.Need-value-requires-2 Inv-loop μ-loop
+value-requires-2 c κs = search needs
+
+store-value-requires : tie.Need-store-value-requires Inv-loop μ-loop
+store-value-requires c κs =
+    let at = c .before .before .before .before .before .before .before .before .before .before .before in
+    (at .loop .inv .0 .still .long, (at .loop .inv .0 .still .few, called at .pre .1 .1 .1 .1 .1 .0))
+
+enum-known-m-2 : tie.Need-enum-known-m-2 Inv-loop μ-loop
+enum-known-m-2 c = search needs
+
+loop-less-11 : tie.Need-loop-less-11 Inv-loop μ-loop
+loop-less-11 c = omega (arith, value-read (c .before .before .before .before .before .before .before .before .before .before .before) .here .onward)
+
+loop-again-11 : tie.Need-loop-again-11 Inv-loop μ-loop
+loop-again-11 c =
+    let read = value-read (c .before .before .before .before .before .before .before .before .before .before .before) in
+    let told = c .before .before .before .before .before .before .before .before .before .busy .given .1 in
+    let value = c .before .before .before .before .before .before .value2 .ensures in
+    let stored = c .before .before .before .before .before .store-value .ensures in
+    let (all, kept) = value-stored stored _ (c .before .m2 .given .1) in
+    (reading-periods read told value stored _ (c .before .m2 .given .1), ties-untied (c .before .before .before .before .before .before .before .before .before .before .before .before .before .before .before .before .before .loop .inv .1) (read .here) (periods-said read told value all) tt)
+
+enum-told-7 : tie.Need-enum-told-7 Inv-loop μ-loop
+enum-told-7 c = search needs
+
+same-length-7 : tie.Need-same-length-7 Inv-loop μ-loop
+same-length-7 c = omega (arith, same-room (c .before .before .before .before .before .before .before .before .before .before .before .before .before .before .before .before))
+
+same-length-8 : tie.Need-same-length-8 Inv-loop μ-loop
+same-length-8 c = omega (arith, same-held (c .before .before .before .before .before .before .before .before .before .before .before .before .before .before .before .before))
 
 returns-4 : tie.Need-returns-4 Inv-loop μ-loop
-returns-4 c = reading-done (c .before .before .before .loop .inv) (c .before .before .item-at .ensures) (c .enum-told6 .given .1)
+returns-4 c = bad (reading-bad-period (value-read (c .before .before .before .before .before .before .before .before .before .before)) (c .before .before .before .before .before .before .before .before .busy .given .1) (c .before .before .before .before .before .value2 .ensures) (c .before .before .before .before .store-value .ensures) (c .enum-told7 .given .1))
+
+enum-known-next : tie.Need-enum-known-next Inv-loop μ-loop
+enum-known-next c = search needs
+
+loop-less-12 : tie.Need-loop-less-12 Inv-loop μ-loop
+loop-less-12 c = inner-less (c .before .before .before .before .loop .inv .0 .items) (c .before .before .before .item-at .ensures) (c .before .next .given .1)
+
+loop-again-12 : tie.Need-loop-again-12 Inv-loop μ-loop
+loop-again-12 c =
+    let inv = c .before .before .before .before .loop .inv in (
+      reading-inner (inv .0) (c .before .before .before .item-at .ensures) (c .before .next .given .1),
+      ties-inner (inv .1) (inner-at (inv .0 .items) (c .before .before .before .item-at .ensures) (c .before .next .given .1)),
+    )
+
+enum-told-8 : tie.Need-enum-told-8 Inv-loop μ-loop
+enum-told-8 c = search needs
+
+same-length-9 : tie.Need-same-length-9 Inv-loop μ-loop
+same-length-9 c = same-room (c .before .before .before)
+
+same-length-10 : tie.Need-same-length-10 Inv-loop μ-loop
+same-length-10 c = same-held (c .before .before .before)
+
+returns-5 : tie.Need-returns-5 Inv-loop μ-loop
+returns-5 c =
+    let inv = c .before .before .before .loop .inv in
+    let item = c .before .before .item-at .ensures in
+    let done = c .enum-told8 .given .1 in
+    good (reading-done (inv .0) item done) (ties-done (inv .1) (no-item-at (inv .0 .items) item done) (omega (arith, items-rise (inv .0 .items), c .before .before .before .before .before .before .before .before .line-behind .ensures)))
 
 pub read-lines-spec : {M : Type 1} → statement M
 read-lines-spec =
@@ -260,6 +388,7 @@ read-lines-spec =
     sub-stop
     next-row-requires
     no-properties-requires
+    no-identity-requires
     first-line-requires
     add-row
     loop-holds
@@ -274,9 +403,11 @@ read-lines-spec =
     loop-again
     enum-told-3
     same-length
+    same-length-2
     returns
     enum-told-4
-    same-length-2
+    same-length-3
+    same-length-4
     returns-2
     enum-known-t
     with-start-requires
@@ -302,18 +433,39 @@ read-lines-spec =
     with-transparency-requires
     loop-less-7
     loop-again-7
-    enum-known-busy
-    value-requires
-    store-value-requires
-    enum-known-m
+    enum-told-5
+    with-uid-requires
     loop-less-8
     loop-again-8
-    enum-told-5
-    same-length-3
-    returns-3
-    enum-known-next
+    enum-known-t-3
+    with-recurrence-requires
     loop-less-9
     loop-again-9
+    enum-known-form
+    value-requires
+    store-times-requires
+    enum-known-m
+    with-exceptions-requires
+    loop-less-10
+    loop-again-10
     enum-told-6
-    same-length-4
-    returns-4)
+    same-length-5
+    same-length-6
+    returns-3
+    enum-known-busy
+    value-requires-2
+    store-value-requires
+    enum-known-m-2
+    loop-less-11
+    loop-again-11
+    enum-told-7
+    same-length-7
+    same-length-8
+    returns-4
+    enum-known-next
+    loop-less-12
+    loop-again-12
+    enum-told-8
+    same-length-9
+    same-length-10
+    returns-5)

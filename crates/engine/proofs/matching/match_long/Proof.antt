@@ -27,7 +27,7 @@ match-structured-requires c κs =
     let find-structure = c .before .before .before .before .before .before .before .find-structure .ensures in
     let found-told = c .before .before .before .found .given .1 in
     let called = c .before .before .before .before .before .before .before .before .before .before .before .before in
-    (found-structure _ _ _ find-structure found-told, called .pre .1)
+    (called .pre .0, (found-structure _ _ _ find-structure found-told, called .pre .1))
 
 enum-told : tie.Need-enum-told
 enum-told c = search needs

@@ -17,10 +17,10 @@ enum-told c = search needs
 match-contents-requires : tie.Need-match-contents-requires
 match-contents-requires c κs =
     let required = c .before .before .before .before .before .before .before .pre in
-    (structure-known (required .0) (c .before .before .structure-fault .ensures) (c .enum-told .given .1), required .1)
+    (required .0, (structure-known (required .1 .0) (c .before .before .structure-fault .ensures) (c .enum-told .given .1), required .1 .1))
 
 returns : tie.Need-returns
-returns c = structure-refusal-told (c .before .before .before .before .before .before .before .before .pre .0) (c .before .before .before .structure-fault .ensures) _ _ _ (c .before .k .given .1)
+returns c = structure-refusal-told (c .before .before .before .before .before .before .before .before .pre .1 .0) (c .before .before .before .structure-fault .ensures) _ _ _ (c .before .k .given .1)
 
 returns-2 : tie.Need-returns-2
 returns-2 c =
@@ -28,7 +28,7 @@ returns-2 c =
     let structure-fault = c .before .before .before .structure-fault .ensures in
     let enum-told-told = c .before .enum-told .given .1 in
     let match-contents = c .match-contents .ensures in
-    structure-passes (called .pre .0) structure-fault _ _ _ _ enum-told-told match-contents
+    structure-passes (called .pre .1 .0) structure-fault _ _ _ _ enum-told-told match-contents
 
 pub match-structured-spec : {M : Type 1} → statement M
 match-structured-spec =

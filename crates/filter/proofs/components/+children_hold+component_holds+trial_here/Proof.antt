@@ -15,7 +15,7 @@ use Rattle.filter.proofs.Tests.{Beside, beside-start, beside-here, besi
 use Rattle.filter.proofs.RangesLaws.{row-number, row-small, beside-file, inner-among}
 use Rattle.nesting.specs.Files.{treeIn}
 use Rattle.filter.specs.Tests.{wholeOf}
-use Rattle.contents.proofs.instances.gone_at.Reads as gone-at-reads
+use Rattle.series.proofs.columns.gone_at.Reads as gone-at-reads
 use Rattle.filter.proofs.TrialsLaws.{trial-by-part, tried-found, tried-more, tried-end, here-not, here-childless, here-tried, here-found, here-passed}
 use Rattle.filter.proofs.components.children_hold.Reads as children-hold
 use Rattle.filter.proofs.components.children_hold.Kinds as children-hold-kinds
@@ -297,14 +297,14 @@ component-holds-search-less t c =
 component-holds-search-again : (t : ℕ) → component-holds-lts.Need-search-again (component-holds-claims t) (component-holds-at t) component-holds.Post Inv-tried μ-tried Inv-search μ-search
 component-holds-search-again t c =
     let h = c .before .before .before .before .before .before .before .before .before .before .before .before .before .before .before .before .before .before .before .before .pre in
-    let trial = trial-by-part (h .1 .1 .1 .1 .1 .1 .0) (row-number (h .1 .1 .1 .1 .1 .0) (beside-file (c .before .before .before .before .before .before .before .before .search .inv) (c .before .before .before .before .before .before .before .if2 .left) (h .1 .1 .1 .1 .1 .1 .1 .within))) (c .before .before .before .before .before .gone-at .ensures) (c .before .before .before .before .before .before .trial-here .ensures) in
+    let trial = trial-by-part (h .1 .1 .1 .1 .1 .1 .0) ((beside-file (c .before .before .before .before .before .before .before .before .search .inv) (c .before .before .before .before .before .before .before .if2 .left) (h .1 .1 .1 .1 .1 .1 .1 .within)) .row) (row-number (h .1 .1 .1 .1 .1 .0) (beside-file (c .before .before .before .before .before .before .before .before .search .inv) (c .before .before .before .before .before .before .before .if2 .left) (h .1 .1 .1 .1 .1 .1 .1 .within))) (c .before .before .before .before .before .gone-at .ensures) (c .before .before .before .before .before .before .trial-here .ensures) in
     beside-next (c .before .before .before .before .before .before .before .before .search .inv) (c .before .before .before .before .before .before .before .if2 .left) (c .next-row .ensures)
     (here-passed _ _ _ _ _ trial (tried-end _ _ _ (trial .small) (c .before .before .before .loop .inv) (c .before .before .goes-on .ensures) (c .before .if3 .left)))
 
 component-holds-returns-3 : (t : ℕ) → component-holds-lts.Need-returns-3 (component-holds-claims t) (component-holds-at t) component-holds.Post Inv-tried μ-tried Inv-search μ-search
 component-holds-returns-3 t c =
     let h = c .before .before .before .before .before .before .before .before .before .before .before .before .before .before .before .before .before .before .before .before .before .pre in
-    let trial = trial-by-part (h .1 .1 .1 .1 .1 .1 .0) (row-number (h .1 .1 .1 .1 .1 .0) (beside-file (c .before .before .before .before .before .before .before .before .before .search .inv) (c .before .before .before .before .before .before .before .before .if2 .left) (h .1 .1 .1 .1 .1 .1 .1 .within))) (c .before .before .before .before .before .before .gone-at .ensures) (c .before .before .before .before .before .before .before .trial-here .ensures) in
+    let trial = trial-by-part (h .1 .1 .1 .1 .1 .1 .0) ((beside-file (c .before .before .before .before .before .before .before .before .before .search .inv) (c .before .before .before .before .before .before .before .before .if2 .left) (h .1 .1 .1 .1 .1 .1 .1 .within)) .row) (row-number (h .1 .1 .1 .1 .1 .0) (beside-file (c .before .before .before .before .before .before .before .before .before .search .inv) (c .before .before .before .before .before .before .before .before .if2 .left) (h .1 .1 .1 .1 .1 .1 .1 .within))) (c .before .before .before .before .before .before .gone-at .ensures) (c .before .before .before .before .before .before .before .trial-here .ensures) in
     test-there _ _ _ _ _ (c .before .before .before .before .before .before .before .before .before .before .before .before .before .component-at .ensures) (c .before .before .before .before .before .before .before .before .before .before .if1 .left)
     (beside-found (c .before .before .before .before .before .before .before .before .before .search .inv) (c .before .before .before .before .before .before .before .before .if2 .left)
     (here-found _ _ _ _ _ trial (tried-found _ _ _ (trial .small) (c .before .passes .ensures) (c .if4 .taken))))

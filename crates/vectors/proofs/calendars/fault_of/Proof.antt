@@ -37,11 +37,11 @@ slice-aggregate-contents-fault-2 c = search needs
 
 contents-fault-requires : tie.Need-contents-fault-requires
 contents-fault-requires c κs =
-    let room = c .before .before .before .before .before .before .before .before .before .before .before .pre .1 in
+    let required = c .before .before .before .before .before .before .before .before .before .before .before .pre in
     let read = c .before .before .before .before .before .before .before .read-structure .ensures in
     let tested = c .before .before .before .before .structure-fault .ensures in
     let good = c .before .before .enum-told .given .1 in
-    (structure-known read tested good, room)
+    (required .0, (structure-known read tested good, required .1))
 
 returns : tie.Need-returns
 returns c = search needs

@@ -1,0 +1,10 @@
+pub mod UidLaws
+pub mod MasterLaws
+pub mod PrintLaws
+pub mod BesideLaws
+pub mod PassLaws
+pub mod MovedLaws
+pub mod RemovedLaws
+pub mod PartLaws
+pub mod CountingLaws
+pub mod ColumnsLaws

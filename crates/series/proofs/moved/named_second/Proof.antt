@@ -1,0 +1,55 @@
+-- `series::moved::named_second` meets its contract: an event has one RECURRENCE-ID at most, and its UID tells.
+use Rattle.series.proofs.MovedLaws.{named-nothing, named-not, named-one, named-unlike, named-never}
+use mathlib.Core.Path.{sym, _∙_}
+use borrow.Author.Needs.{needs}
+use Rattle.series.proofs.moved.named_second.Statement.{statement}
+use Rattle.series.proofs.moved.named_second.Tie as tie
+
+kind-at-requires : tie.Need-kind-at-requires
+kind-at-requires c κs = c .before .before .before .before .before .pre .0 .row-room
+
+returns : tie.Need-returns
+returns c = named-nothing _ _ _ _ _ (c .before .kind-at .ensures) (c .if1 .taken)
+
+link-at-requires : tie.Need-link-at-requires
+link-at-requires c κs = c .before .before .before .before .before .before .before .pre .0 .link-room
+
+enum-told : tie.Need-enum-told
+enum-told c = search needs
+
+enum-known-recurrence : tie.Need-enum-known-recurrence
+enum-known-recurrence c = search needs
+
+has-uid-requires : tie.Need-has-uid-requires
+has-uid-requires c κs = c .before .before .before .before .before .before .before .before .before .before .before .pre .0 .uids (sym (c .before .before .before .before .before .kind-at .ensures) ∙ c .before .before .before .before .if1 .left)
+
+returns-2 : tie.Need-returns-2
+returns-2 c = named-one (c .before .before .before .before .before .before .before .before .before .before .before .before .before .pre .0) (c .before .before .before .before .before .link-at .ensures) (sym (c .before .before .before .before .before .before .before .kind-at .ensures) ∙ c .before .before .before .before .before .before .if1 .left) _ (c .before .before .before .recurrence .given .1) (c .before .has-uid .ensures) (c .if2 .taken)
+
+enum-told-2 : tie.Need-enum-told-2
+enum-told-2 c = search needs
+
+returns-3 : tie.Need-returns-3
+returns-3 c = named-not (c .before .before .before .before .before .before .before .before .before .before .pre .0) (c .before .before .link-at .ensures) (sym (c .before .before .before .before .kind-at .ensures) ∙ c .before .before .before .if1 .left) _ (c .enum-told .given .1)
+
+returns-4 : tie.Need-returns-4
+returns-4 c = named-unlike (c .before .before .before .before .before .before .before .before .before .before .before .before .before .pre .0) (c .before .before .before .before .before .link-at .ensures) (sym (c .before .before .before .before .before .before .before .kind-at .ensures) ∙ c .before .before .before .before .before .before .if1 .left) _ (c .before .before .before .recurrence .given .1) (c .before .has-uid .ensures) (c .if2 .left)
+
+returns-5 : tie.Need-returns-5
+returns-5 c = named-never (c .before .before .before .before .before .before .before .before .before .before .pre .0) (c .before .before .link-at .ensures) (sym (c .before .before .before .before .kind-at .ensures) ∙ c .before .before .before .if1 .left) _ (c .enum-told2 .given .1) (c .before .before .before .before .before .before .before .before .before .before .pre .1)
+
+pub named-second-spec : {M : Type 1} → statement M
+named-second-spec =
+    tie.close
+    (tie.spec
+    kind-at-requires
+    returns
+    link-at-requires
+    enum-told
+    enum-known-recurrence
+    has-uid-requires
+    returns-2
+    enum-told-2
+    returns-3
+    returns-4
+    returns-5)

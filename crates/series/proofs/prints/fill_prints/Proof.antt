@@ -1,0 +1,61 @@
+-- `series::prints::fill_prints` meets its contract: the fingerprints of the rows before row k stand.
+use Prim.Native.Nat.{_-_}
+use mathlib.Core.Path.{sym, _∙_}
+use Rattle.series.proofs.PrintLaws.{Printing, printing-start, printing-more, printing-end}
+use native.Mathlib.Omega.{arith}
+use borrow.Author.Needs.{needs}
+use Rattle.series.proofs.prints.fill_prints.Statement.{statement}
+use Rattle.series.proofs.prints.fill_prints.Tie as tie
+
+abbrev Inv-loop : tie.InvT-loop
+Inv-loop prints₀ s index rows links m c k₀ prints k = Printing c s rows m prints k
+
+abbrev μ-loop : tie.MeasureT-loop
+μ-loop prints₀ s index rows links m c k₀ prints k = m - k
+
+loop-holds : tie.Need-loop-holds Inv-loop μ-loop
+loop-holds c = printing-start _ _ _ _ (c .before .before .before .before .before .pre .1)
+
+row-print-requires : tie.Need-row-print-requires Inv-loop μ-loop
+row-print-requires c κs = c .before .before .before .before .before .before .before .pre .0 .each _ (c .loop-test .taken)
+
+add-prints : tie.Need-add-prints Inv-loop μ-loop
+add-prints c = omega (arith, c .before .before .loop .inv .so-far .room, c .before .before .before .before .before .before .before .before .pre .0 .few)
+
+mul-prints : tie.Need-mul-prints Inv-loop μ-loop
+mul-prints c = omega (arith, c .before .before .loop .inv .so-far .room, c .before .before .before .before .before .before .before .before .pre .0 .few)
+
+slice-write-prints : tie.Need-slice-write-prints Inv-loop μ-loop
+slice-write-prints c = omega (arith, c .before .before .loop .inv .so-far .room, c .before .before .before .before .before .before .before .before .pre .0 .few)
+
+add-k : tie.Need-add-k Inv-loop μ-loop
+add-k c = omega arith
+
+loop-less : tie.Need-loop-less Inv-loop μ-loop
+loop-less c = omega arith
+
+loop-again : tie.Need-loop-again Inv-loop μ-loop
+loop-again c = printing-more (c .before .before .loop .inv) (c .before .before .before .before .before .before .before .before .pre .0 .few) (c .before .loop-test .taken) (c .row-print .ensures)
+
+same-length : tie.Need-same-length Inv-loop μ-loop
+same-length c = c .before .loop .inv .so-far .room ∙ sym (c .before .before .before .before .before .before .before .pre .1)
+
+returns : tie.Need-returns Inv-loop μ-loop
+returns c = printing-end (c .before .loop .inv) (c .loop-test .left)
+
+pub fill-prints-spec : {M : Type 1} → statement M
+fill-prints-spec =
+    tie.close
+    (tie.spec
+    Inv-loop
+    μ-loop
+    loop-holds
+    row-print-requires
+    add-prints
+    mul-prints
+    slice-write-prints
+    add-k
+    loop-less
+    loop-again
+    same-length
+    returns)

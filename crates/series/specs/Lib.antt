@@ -1,0 +1,10 @@
+pub mod Identities
+pub mod LinkRows
+pub mod Uids
+pub mod VEventRows
+pub mod Prints
+pub mod Beside
+pub mod Stopping
+pub mod Moved
+pub mod Removed
+pub mod Columns
