@@ -384,7 +384,7 @@ module _ {c : Context} {s index rows entries links exceptions : List ℕ} {m k :
   fewer-tied = record { few = omega (arith, h .there, g .tied .few); each = λ j i. g .tied .each j (omega (arith, h .there)) }
 
   -- a master whose fingerprint is new
-  pub beside-new : {n : ℕ} {prints : List ℕ} {r : Bool} → l .uid ≡ UidGiven.One n → Printed c s rows prints m → Unshared prints k (l .recurrence) r → r ≡ true
+  pub beside-new : {n : ℕ} {prints marks : List ℕ} {r : Bool} → l .uid ≡ UidGiven.One n → Printed c s rows prints marks m → Unshared prints k (l .recurrence) r → r ≡ true
       → false ≡ breaksBeside (vEventsBefore c s rows k) (vEventsBefore c s rows m) (vEventOf c x)
   beside-new {n} e z w t =
       let u = valueOf (lineBytes s (n - 1)) in

@@ -1,5 +1,5 @@
 -- Laws of the fingerprints of UIDs: they are filled in row by row, and a row whose fingerprint is new has a UID that no master before it has.
-use Prim.Native.Nat.{ℕ, zero, suc, _+_, _*_, _-_, _≤_, _<_}
+use Prim.Native.Nat.{ℕ, zero, suc, _+_, _*_, _-_, _%_, _≤_, _<_}
 use mathlib.Core.Path.{_≡_, refl, sym, ap, subst, _∙_}
 use mathlib.Core.Bool.{Bool, true, false, _||_, _&&_}
 use mathlib.Core.List.{List, [], _∷_, _++_, List·Memᴰ, List·Memᴰ·head, List·Memᴰ·tail, List·Memᴰ·not-nil}
@@ -27,7 +27,7 @@ use Rattle.identities.specs.declared.RecurrenceGiven.{RecurrenceGiven}
 use Rattle.identities.specs.declared.rows.Link.{Link}
 use Rattle.series.specs.Identities.{UidTies}
 use Rattle.series.specs.VEventRows.{vEventsAt, vEventsFrom, vEventsBefore, isMasterOf, RowTied, Tied, OneAt, OneEach}
-use Rattle.series.specs.Prints.{printOf, PrintIs, Printed, Compared, Unshared}
+use Rattle.series.specs.Prints.{printOf, PrintIs, Printed, Compared, Unshared, Markable}
 use Rattle.series.proofs.UidLaws.{some-append}
 use Rattle.series.proofs.MasterLaws.{row-is, row-none}
 
@@ -70,32 +70,103 @@ module _ {c : Context} {s index rows links : List ℕ} {k : ℕ} (g : RowTied c 
 
 -- ---- row by row
 
-pub record Printing (c : Context) (s rows : List ℕ) (m : ℕ) (prints : List ℕ) (k : ℕ) : Type 0 where
+-- the rows before row k stand, and each has its fingerprint noted
+pub record Printing (c : Context) (s rows : List ℕ) (m : ℕ) (prints marks notes : List ℕ) (k : ℕ) : Type 0 where
   pub within : k ≤ m
-  pub so-far : Printed c s rows prints k
+  pub note-room : length notes ≡ 1024
+  pub so-far : Printed c s rows prints marks k
+  pub noted : (j : ℕ) → j < k → getD notes (getD prints (64 + j) 0 % 1024) 0 ≡ 0 → ⊥
 
-pub printing-start : (c : Context) (s rows : List ℕ) (m : ℕ) {prints : List ℕ} → length prints ≡ 320 → Printing c s rows m prints 0
-printing-start c s rows m e = record { within = omega arith; so-far = record { room = e; each = λ k l. absurd (omega (arith, l)) } }
-
-pub printing-more : {c : Context} {s rows : List ℕ} {m : ℕ} {prints : List ℕ} {k r : ℕ} → Printing c s rows m prints k → m ≤ 256 → k < m → PrintIs c s rows k r
-    → Printing c s rows m (set prints (64 + k) r) (k + 1)
-printing-more {c} {s} {rows} {m} {prints} {k} {r} g f l h =
+pub printing-start : (c : Context) (s rows : List ℕ) (m : ℕ) {prints marks notes : List ℕ} → length prints ≡ 320 → length marks ≡ 256 → length notes ≡ 1024
+    → Printing c s rows m prints marks notes 0
+printing-start c s rows m e f g =
     record {
       within = omega arith;
-      so-far = record { room = length-set prints (64 + k) r ∙ g .so-far .room; each = λ j i. go j (eqb j k) refl i };
+      note-room = g;
+      so-far = record { room = e; mark-room = f; each = λ k l. absurd (omega (arith, l)); new = λ k l. absurd (omega (arith, l)) };
+      noted = λ k l. absurd (omega (arith, l));
     }
-  where
-    go : (j : ℕ) (t : Bool) → eqb j k ≡ t → j < k + 1 → PrintIs c s rows j (getD (set prints (64 + k) r) (64 + j) 0)
-    go j true q i =
-        let z : j ≡ k = eqb-true j k q in
-        subst (λ (y : ℕ). PrintIs c s rows y (getD (set prints (64 + k) r) (64 + y) 0)) (sym z)
-        (subst (PrintIs c s rows k) (sym (getD-set-same prints (64 + k) r 0 (omega (arith, g .so-far .room)))) h)
-    go j false q i =
-        let n : j ≡ k → ⊥ = eqb-false j k q in
-        subst (PrintIs c s rows j) (sym (getD-set-other prints (64 + k) (64 + j) r 0 (λ w. n (omega (arith, w))))) (g .so-far .each j (omega (arith, n)))
 
-pub printing-end : {c : Context} {s rows : List ℕ} {m : ℕ} {prints : List ℕ} {k : ℕ} → Printing c s rows m prints k → m ≤ k → Printed c s rows prints m
-printing-end g l = record { room = g .so-far .room; each = λ j i. g .so-far .each j (omega (arith, l, i)) }
+module _ {c : Context} {s rows : List ℕ} {m : ℕ} {prints marks notes : List ℕ} {k r : ℕ} (g : Printing c s rows m prints marks notes k) (f : m ≤ 256) (l : k < m) (h : PrintIs c s rows k r)
+    {p : ℕ} (q : p ≡ r % 1024) (w : p < 1024) where
+  abbrev prints′ : List ℕ
+  prints′ = set prints (64 + k) r
+
+  abbrev marks′ : List ℕ
+  marks′ = set marks k (getD notes p 0)
+
+  abbrev notes′ : List ℕ
+  notes′ = set notes p 1
+
+  print-here : getD prints′ (64 + k) 0 ≡ r
+  print-here = getD-set-same prints (64 + k) r 0 (omega (arith, g .so-far .room))
+
+  print-kept : (j : ℕ) → j < k → getD prints′ (64 + j) 0 ≡ getD prints (64 + j) 0
+  print-kept j i = getD-set-other prints (64 + k) (64 + j) r 0 (λ z. omega (arith, z, i))
+
+  note-kept : (i : ℕ) → getD notes′ i 0 ≡ 0 → getD notes i 0 ≡ 0
+  note-kept i z = go (eqb i p) refl
+    where
+      go : (t : Bool) → eqb i p ≡ t → getD notes i 0 ≡ 0
+      go true y =
+          let e : i ≡ p = eqb-true i p y in
+          absurd (omega (arith, subst (λ (x : ℕ). getD notes′ x 0 ≡ 0) e z, getD-set-same notes p 1 0 (omega (arith, g .note-room, w))))
+      go false y = sym (getD-set-other notes p i 1 0 (eqb-false i p y)) ∙ z
+
+  -- equal fingerprints are noted at one place
+  mark-new : getD notes p 0 ≡ 0 → (j : ℕ) → j < k → getD prints (64 + j) 0 ≡ r → ⊥
+  mark-new z j i y = g .noted j i (ap (λ (x : ℕ). getD notes (x % 1024) 0) y ∙ ap (λ (x : ℕ). getD notes x 0) (sym q) ∙ z)
+
+  pub printing-more : Printing c s rows m prints′ marks′ notes′ (k + 1)
+  printing-more =
+      record {
+        within = omega arith;
+        note-room = length-set notes p 1 ∙ g .note-room;
+        so-far =
+            record {
+              room = length-set prints (64 + k) r ∙ g .so-far .room;
+              mark-room = length-set marks k (getD notes p 0) ∙ g .so-far .mark-room;
+              each = λ j i. each j (eqb j k) refl i;
+              new = λ j i. new j (eqb j k) refl i;
+            };
+        noted = λ j i. noted j (eqb j k) refl i;
+      }
+    where
+      each : (j : ℕ) (t : Bool) → eqb j k ≡ t → j < k + 1 → PrintIs c s rows j (getD prints′ (64 + j) 0)
+      each j true y i = subst (λ (x : ℕ). PrintIs c s rows x (getD prints′ (64 + x) 0)) (sym (eqb-true j k y)) (subst (PrintIs c s rows k) (sym print-here) h)
+      each j false y i =
+          let n : j ≡ k → ⊥ = eqb-false j k y in
+          let d : j < k = omega (arith, n) in
+          subst (PrintIs c s rows j) (sym (print-kept j d)) (g .so-far .each j d)
+
+      new : (j : ℕ) (t : Bool) → eqb j k ≡ t → j < k + 1 → getD marks′ j 0 ≡ 0 → (a : ℕ) → a < j → getD prints′ (64 + a) 0 ≡ getD prints′ (64 + j) 0 → ⊥
+      new j true y i z a b e =
+          let x : j ≡ k = eqb-true j k y in
+          let z′ : getD notes p 0 ≡ 0 = sym (getD-set-same marks k (getD notes p 0) 0 (omega (arith, g .so-far .mark-room))) ∙ subst (λ (v : ℕ). getD marks′ v 0 ≡ 0) x z in
+          let d : a < k = omega (arith, x) in
+          mark-new z′ a d (sym (print-kept a d) ∙ e ∙ ap (λ (v : ℕ). getD prints′ (64 + v) 0) x ∙ print-here)
+      new j false y i z a b e =
+          let n : j ≡ k → ⊥ = eqb-false j k y in
+          let d : j < k = omega (arith, n) in
+          g .so-far .new j d (sym (getD-set-other marks k j (getD notes p 0) 0 n) ∙ z) a b (sym (print-kept a (omega arith)) ∙ e ∙ print-kept j d)
+
+      noted : (j : ℕ) (t : Bool) → eqb j k ≡ t → j < k + 1 → getD notes′ (getD prints′ (64 + j) 0 % 1024) 0 ≡ 0 → ⊥
+      noted j true y i z =
+          let x : j ≡ k = eqb-true j k y in
+          let e : getD notes′ p 0 ≡ 0 = ap (λ (v : ℕ). getD notes′ v 0) q ∙ ap (λ (v : ℕ). getD notes′ (v % 1024) 0) (sym print-here) ∙ subst (λ (v : ℕ). getD notes′ (getD prints′ (64 + v) 0 % 1024) 0 ≡ 0) x z in
+          omega (arith, e, getD-set-same notes p 1 0 (omega (arith, g .note-room, w)))
+      noted j false y i z =
+          let n : j ≡ k → ⊥ = eqb-false j k y in
+          let d : j < k = omega (arith, n) in
+          g .noted j d (note-kept (getD prints (64 + j) 0 % 1024) (ap (λ (v : ℕ). getD notes′ (v % 1024) 0) (sym (print-kept j d)) ∙ z))
+
+pub printing-end : {c : Context} {s rows : List ℕ} {m : ℕ} {prints marks notes : List ℕ} {k : ℕ} → Printing c s rows m prints marks notes k → m ≤ k → Printed c s rows prints marks m
+printing-end g l = record {
+  room = g .so-far .room;
+  mark-room = g .so-far .mark-room;
+  each = λ j i. g .so-far .each j (omega (arith, l, i));
+  new = λ j i. g .so-far .new j (omega (arith, l, i));
+}
 
 -- ---- a fingerprint that is new
 
@@ -115,7 +186,7 @@ none-passes c s rows f (suc n) k h =
         ap (some f) (row-is c s rows k e) ∙ ap (λ (t : Bool). t || false) (h k (omega arith) (omega arith) e)
     go false q = ap (some f) (row-none c s rows k (eqb-false _ 1 q))
 
-module _ {c : Context} {s index rows links prints : List ℕ} {k : ℕ} {u : List ℕ} (g : Tied c s index rows links k) (o : OneEach rows links k) (h : Compared c s rows prints k u) where
+module _ {c : Context} {s index rows links prints marks : List ℕ} {k : ℕ} {u : List ℕ} (g : Tied c s index rows links k) (o : OneEach rows links k) (h : Compared c s rows prints marks k u) where
   -- a row before that has the UID has the fingerprint
   print-before : (j : ℕ) → j < k → getD rows (4 * j + 3) 0 ≡ 1 → List·Memᴰ u (identityOf c (componentBy s rows j) .uids) → getD prints (64 + j) 0 ≡ getD prints (64 + k) 0
   print-before j l e i = go (linkAt links j .uid) refl
@@ -148,9 +219,18 @@ module _ {c : Context} {s index rows links prints : List ℕ} {k : ℕ} {u : Lis
       (λ j a b d. not-so _ (λ t. w j (omega arith) (print-before j (omega arith) d (uid-iff u (vEventOf c (componentBy s rows j)) .0 (and-right (isMaster (vEventOf c (componentBy s rows j))) _ t))))))
 
 -- the rows up to one of them
-pub compared : {c : Context} {s rows prints : List ℕ} {m k : ℕ} {u : List ℕ} → Printed c s rows prints m → m ≤ 256 → k < m → getD rows (4 * k + 3) 0 ≡ 1
-    → identityOf c (componentBy s rows k) .uids ≡ u ∷ [] → Compared c s rows prints k u
-compared g f l e p = record { few = omega arith; printed = record { room = g .room; each = λ j i. g .each j (omega (arith, l)) }; is-event = e; uid = p }
+pub compared : {c : Context} {s rows prints marks : List ℕ} {m k : ℕ} {u : List ℕ} → Printed c s rows prints marks m → m ≤ 256 → k < m → getD rows (4 * k + 3) 0 ≡ 1
+    → identityOf c (componentBy s rows k) .uids ≡ u ∷ [] → Compared c s rows prints marks k u
+compared g f l e p =
+    record {
+      few = omega arith;
+      printed = record { room = g .room; mark-room = g .mark-room; each = λ j i. g .each j (omega (arith, l)); new = λ j i. g .new j (omega (arith, l)) };
+      is-event = e;
+      uid = p;
+    }
+
+pub markable : {c : Context} {s rows prints marks : List ℕ} {m k : ℕ} → Printed c s rows prints marks m → m ≤ 256 → k < m → Markable prints marks k
+markable g f l = record { few = omega arith; room = g .room; mark-room = g .mark-room; new = g .new _ l }
 
 -- what a search of the column tells of a row
 pub unshared-new : {prints : List ℕ} {k x : ℕ} {y : RecurrenceGiven} {r : Bool} → y ≡ RecurrenceGiven.None → x ≡ getD prints (64 + k) 0 → NewAmong prints k x r → Unshared prints k y r
@@ -158,3 +238,6 @@ unshared-new e q w = record { is-master = λ _. e; is-new = λ t j l z. w .yes t
 
 pub unshared-no : (prints : List ℕ) (k : ℕ) (y : RecurrenceGiven) → Unshared prints k y false
 unshared-no prints k y = record { is-master = λ t. clash t refl; is-new = λ t. clash t refl }
+
+pub unshared-marked : {prints marks : List ℕ} {k : ℕ} {y : RecurrenceGiven} → Markable prints marks k → y ≡ RecurrenceGiven.None → getD marks k 0 ≡ 0 → Unshared prints k y true
+unshared-marked g e z = record { is-master = λ _. e; is-new = λ _. g .new z }

@@ -9,8 +9,7 @@ use values::times::Context;
 use values::times::Time;
 ghost use mathlib.Core.Path.{_≡_};
 ghost use mathlib.Core.List.{[], _∷_};
-ghost use Prim.Native.Nat.{_≤_, _<_};
-ghost use lib.ListN.{length};
+ghost use Prim.Native.Nat.{_≤_};
 ghost use Rattle.seconds.specs.Seconds.{among};
 ghost use Rattle.time.specs.Limits.{lastSecond};
 ghost use Rattle.structure.specs.Rows.{componentBy};
@@ -22,7 +21,7 @@ ghost use Rattle.calendar.specs.Identities.{identityOf};
 ghost use Rattle.calendar.specs.Meaning.{vEventOf};
 ghost use Rattle.identities.specs.LinkRows.{linkAt};
 ghost use Rattle.series.specs.VEventRows.{vEventsBefore, isMasterOf, Tied};
-ghost use Rattle.series.specs.Prints.{Printed, Unshared};
+ghost use Rattle.series.specs.Prints.{Printed, Unshared, Markable};
 ghost use Rattle.series.specs.Beside.{excludedAt, misfits, MasterKnown, Linked, Unbroken};
 
 // Is x one of the seconds? They need not be in order.
@@ -113,12 +112,15 @@ fn has_master(
 }
 
 // Is row k that of a master whose UID no row before it has? Fingerprints tell of most, without a look at the bytes.
-fn is_unshared(prints: &[u16], k: usize, recurrence: RecurrenceGiven) -> bool
-    requires { ⌜ (length (now prints) ≡ 320) × (k < 256) ⌝ }
+fn is_unshared(prints: &[u16], marks: &[u8], k: usize, recurrence: RecurrenceGiven) -> bool
+    requires { ⌜ Markable (now prints) (now marks) k ⌝ }
     ensures { λ r. ⌜ Unshared (now (prints .entry)) k recurrence r ⌝ }
 {
     match recurrence {
         RecurrenceGiven::None => {
+            if marks[k] == 0 {
+                return true;
+            }
             let print = prints[64 + k];
             fingerprints::is_new(prints, k, print)
         }
@@ -169,11 +171,12 @@ pub fn breaks_beside(
     links: &[u32],
     exceptions: &[u32],
     prints: &[u16],
+    marks: &[u8],
     k: usize,
     m: usize,
     c: Context,
 ) -> bool
-    requires { ⌜ Printed c (now s) (now rows) (now prints) m ⌝ }
+    requires { ⌜ Printed c (now s) (now rows) (now prints) (now marks) m ⌝ }
     requires { ⌜ Linked c (now s) (now index) (now rows) (now entries) (now links) (now exceptions) m ⌝ }
     requires { ⌜ Unbroken (now rows) (now links) k m ⌝ }
     ensures { λ r. ⌜ r ≡ breaksBeside (vEventsBefore c (now (s .entry)) (now (rows .entry)) k) (vEventsBefore c (now (s .entry)) (now (rows .entry)) m) (vEventOf c (componentBy (now (s .entry)) (now (rows .entry)) k)) ⌝ }
@@ -184,7 +187,7 @@ pub fn breaks_beside(
         UidGiven::None => false,
         UidGiven::One(n) => {
             let recurrence = link.recurrence;
-            if is_unshared(prints, k, recurrence) {
+            if is_unshared(prints, marks, k, recurrence) {
                 return false;
             }
             let u = uids::uid_at(s, index, n);

@@ -34,11 +34,12 @@ fn row_breaks(
     links: &[u32],
     exceptions: &[u32],
     prints: &[u16],
+    marks: &[u8],
     k: usize,
     m: usize,
     c: Context,
 ) -> bool
-    requires { ⌜ Printed c (now s) (now rows) (now prints) m ⌝ }
+    requires { ⌜ Printed c (now s) (now rows) (now prints) (now marks) m ⌝ }
     requires { ⌜ Linked c (now s) (now index) (now rows) (now entries) (now links) (now exceptions) m ⌝ }
     requires { ⌜ Reached c (now s) (now rows) (now links) k m ⌝ }
     ensures { λ r. ⌜ r ≡ brokenBeside c (vEventsBefore c (now (s .entry)) (now (rows .entry)) k) (vEventsBefore c (now (s .entry)) (now (rows .entry)) m) (componentScope (componentBy (now (s .entry)) (now (rows .entry)) k)) (componentBy (now (s .entry)) (now (rows .entry)) k) ⌝ }
@@ -46,7 +47,19 @@ fn row_breaks(
     if rows::kind_at(rows, k) != 1 {
         return false;
     }
-    beside::breaks_beside(s, index, rows, entries, links, exceptions, prints, k, m, c)
+    beside::breaks_beside(
+        s,
+        index,
+        rows,
+        entries,
+        links,
+        exceptions,
+        prints,
+        marks,
+        k,
+        m,
+        c,
+    )
 }
 
 // The first component that breaks a rule, where `alone` is the first that does so by itself, and these are the fingerprints of UIDs.
@@ -58,6 +71,7 @@ fn first_fault(
     links: &[u32],
     exceptions: &[u32],
     prints: &[u16],
+    marks: &[u8],
     m: usize,
     c: Context,
     alone: RuleCheck,
@@ -65,7 +79,7 @@ fn first_fault(
     requires { ⌜ FileRows (now s) (now index) (now rows) ⌝ }
     requires { ⌜ m ≡ getD (now rows) 2 0 ⌝ }
     requires { ⌜ Linked c (now s) (now index) (now rows) (now entries) (now links) (now exceptions) m ⌝ }
-    requires { ⌜ Printed c (now s) (now rows) (now prints) m ⌝ }
+    requires { ⌜ Printed c (now s) (now rows) (now prints) (now marks) m ⌝ }
     requires { ⌜ alone ≡ aloneFault c (componentsOf (now s)) ⌝ }
     ensures { λ r. ⌜ r ≡ ruleFault c (componentsOf (now (s .entry))) ⌝ }
 {
@@ -76,7 +90,19 @@ fn first_fault(
         if stop <= line {
             return alone;
         }
-        if row_breaks(s, index, rows, entries, links, exceptions, prints, k, m, c) {
+        if row_breaks(
+            s,
+            index,
+            rows,
+            entries,
+            links,
+            exceptions,
+            prints,
+            marks,
+            k,
+            m,
+            c,
+        ) {
             return RuleCheck::Broken(line);
         }
         k = rows::next_row(rows, k);
@@ -103,7 +129,19 @@ pub fn rule_fault(
 {
     let m = rows::next_row(rows, 0);
     let mut prints = [0u16; 320];
-    prints::fill_prints(&mut prints, s, index, rows, links, m, c);
+    let mut marks = [0u8; 256];
+    let mut notes = [0u8; 1024];
+    prints::fill_prints(
+        &mut prints,
+        &mut marks,
+        &mut notes,
+        s,
+        index,
+        rows,
+        links,
+        m,
+        c,
+    );
     first_fault(
         s,
         index,
@@ -112,6 +150,7 @@ pub fn rule_fault(
         links,
         exceptions,
         &prints,
+        &marks,
         m,
         c,
         alone,

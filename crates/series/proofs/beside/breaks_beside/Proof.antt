@@ -1,4 +1,5 @@
 -- `series::beside::breaks_beside` meets its contract: without a UID nothing ties it to others, and neither does one that is new.
+use Rattle.series.proofs.PrintLaws.{markable}
 use Rattle.series.proofs.BesideLaws.{beside-none, beside-new, beside-there, beside-uid, beside-several}
 use native.Mathlib.Omega.{arith}
 use borrow.Author.Needs.{needs}
@@ -6,7 +7,7 @@ use Rattle.series.proofs.beside.breaks_beside.Statement.{statement}
 use Rattle.series.proofs.beside.breaks_beside.Tie as tie
 
 link-at-requires : tie.Need-link-at-requires
-link-at-requires c κs = c .before .before .before .before .before .before .before .pre .1 .0 .tied .each _ (c .before .before .before .before .before .before .before .pre .1 .1 .there) .link-room
+link-at-requires c κs = c .before .before .before .before .before .before .before .before .pre .1 .0 .tied .each _ (c .before .before .before .before .before .before .before .before .pre .1 .1 .there) .link-room
 
 enum-told : tie.Need-enum-told
 enum-told c = search needs
@@ -15,32 +16,32 @@ enum-known-uid : tie.Need-enum-known-uid
 enum-known-uid c = search needs
 
 is-unshared-requires : tie.Need-is-unshared-requires
-is-unshared-requires c κs = (c .before .before .before .before .before .before .before .before .before .before .before .pre .0 .room, omega (arith, c .before .before .before .before .before .before .before .before .before .before .before .pre .1 .0 .tied .few, c .before .before .before .before .before .before .before .before .before .before .before .pre .1 .1 .there))
+is-unshared-requires c κs = markable (c .before .before .before .before .before .before .before .before .before .before .before .before .pre .0) (c .before .before .before .before .before .before .before .before .before .before .before .before .pre .1 .0 .tied .few) (c .before .before .before .before .before .before .before .before .before .before .before .before .pre .1 .1 .there)
 
 returns : tie.Need-returns
-returns c = beside-new (c .before .before .before .before .before .before .before .before .before .before .before .before .before .pre .1 .0) (c .before .before .before .before .before .before .before .before .before .before .before .before .before .pre .1 .1) (c .before .before .before .before .before .link-at .ensures) (c .before .before .before .uid .given .1) (c .before .before .before .before .before .before .before .before .before .before .before .before .before .pre .0) (c .before .is-unshared .ensures) (c .if1 .taken)
+returns c = beside-new (c .before .before .before .before .before .before .before .before .before .before .before .before .before .before .pre .1 .0) (c .before .before .before .before .before .before .before .before .before .before .before .before .before .before .pre .1 .1) (c .before .before .before .before .before .link-at .ensures) (c .before .before .before .uid .given .1) (c .before .before .before .before .before .before .before .before .before .before .before .before .before .before .pre .0) (c .before .is-unshared .ensures) (c .if1 .taken)
 
 uid-at-requires : tie.Need-uid-at-requires
 uid-at-requires c κs =
-    let pre = c .before .before .before .before .before .before .before .before .before .before .before .before .before .pre in
-    (pre .1 .0 .tied .each _ (pre .1 .1 .there) .uids (pre .1 .1 .is-event) .indexed, beside-there (c .before .before .before .before .before .before .before .before .before .before .before .before .before .pre .1 .0) (c .before .before .before .before .before .before .before .before .before .before .before .before .before .pre .1 .1) (c .before .before .before .before .before .link-at .ensures) (c .before .before .before .uid .given .1))
+    let pre = c .before .before .before .before .before .before .before .before .before .before .before .before .before .before .pre in
+    (pre .1 .0 .tied .each _ (pre .1 .1 .there) .uids (pre .1 .1 .is-event) .indexed, beside-there (c .before .before .before .before .before .before .before .before .before .before .before .before .before .before .pre .1 .0) (c .before .before .before .before .before .before .before .before .before .before .before .before .before .before .pre .1 .1) (c .before .before .before .before .before .link-at .ensures) (c .before .before .before .uid .given .1))
 
 breaks-by-uid-requires : tie.Need-breaks-by-uid-requires
 breaks-by-uid-requires c κs =
-    let pre = c .before .before .before .before .before .before .before .before .before .before .before .before .before .before .pre in
-    (pre .1 .0, (pre .1 .1, beside-uid (c .before .before .before .before .before .before .before .before .before .before .before .before .before .before .pre .1 .0) (c .before .before .before .before .before .before .before .before .before .before .before .before .before .before .pre .1 .1) (c .before .before .before .before .before .before .link-at .ensures) (c .before .before .before .before .uid .given .1) (c .uid-at .ensures)))
+    let pre = c .before .before .before .before .before .before .before .before .before .before .before .before .before .before .before .pre in
+    (pre .1 .0, (pre .1 .1, beside-uid (c .before .before .before .before .before .before .before .before .before .before .before .before .before .before .before .pre .1 .0) (c .before .before .before .before .before .before .before .before .before .before .before .before .before .before .before .pre .1 .1) (c .before .before .before .before .before .before .link-at .ensures) (c .before .before .before .before .uid .given .1) (c .uid-at .ensures)))
 
 enum-told-2 : tie.Need-enum-told-2
 enum-told-2 c = search needs
 
 returns-2 : tie.Need-returns-2
-returns-2 c = beside-none (c .before .before .before .before .before .before .before .before .before .before .pre .1 .0) (c .before .before .before .before .before .before .before .before .before .before .pre .1 .1) (c .before .before .link-at .ensures) (c .enum-told .given .1)
+returns-2 c = beside-none (c .before .before .before .before .before .before .before .before .before .before .before .pre .1 .0) (c .before .before .before .before .before .before .before .before .before .before .before .pre .1 .1) (c .before .before .link-at .ensures) (c .enum-told .given .1)
 
 returns-3 : tie.Need-returns-3
 returns-3 c = c .breaks-by-uid .ensures
 
 returns-4 : tie.Need-returns-4
-returns-4 c = beside-several (c .before .before .before .before .before .before .before .before .before .before .pre .1 .0) (c .before .before .before .before .before .before .before .before .before .before .pre .1 .1) (c .before .before .link-at .ensures) (c .enum-told2 .given .1)
+returns-4 c = beside-several (c .before .before .before .before .before .before .before .before .before .before .before .pre .1 .0) (c .before .before .before .before .before .before .before .before .before .before .before .pre .1 .1) (c .before .before .link-at .ensures) (c .enum-told2 .given .1)
 
 pub breaks-beside-spec : {M : Type 1} → statement M
 breaks-beside-spec =

@@ -7,16 +7,16 @@ use Rattle.series.proofs.passes.first_fault.Statement.{statement}
 use Rattle.series.proofs.passes.first_fault.Tie as tie
 
 abbrev Inv-loop : tie.InvT-loop
-Inv-loop s index rows entries links exceptions prints m c alone stop k₀ k = Checking c s rows links m alone k
+Inv-loop s index rows entries links exceptions prints marks m c alone stop k₀ k = Checking c s rows links m alone k
 
 abbrev μ-loop : tie.MeasureT-loop
-μ-loop s index rows entries links exceptions prints m c alone stop k₀ k = m - k
+μ-loop s index rows entries links exceptions prints marks m c alone stop k₀ k = m - k
 
 stop-line-requires : tie.Need-stop-line-requires Inv-loop μ-loop
 stop-line-requires c κs = omega arith
 
 loop-holds : tie.Need-loop-holds Inv-loop μ-loop
-loop-holds c = checking-start _ _ (c .before .before .before .before .before .before .before .before .pre .0) (c .before .before .before .before .before .before .before .before .pre .1 .0) (c .before .before .before .before .before .before .before .before .pre .1 .1 .1 .1)
+loop-holds c = checking-start _ _ (c .before .before .before .before .before .before .before .before .before .pre .0) (c .before .before .before .before .before .before .before .before .before .pre .1 .0) (c .before .before .before .before .before .before .before .before .before .pre .1 .1 .1 .1)
 
 first-line-requires : tie.Need-first-line-requires Inv-loop μ-loop
 first-line-requires c κs = next-here (c .before .loop .inv) (c .loop-test .taken) .here .row .room
@@ -25,7 +25,7 @@ returns : tie.Need-returns Inv-loop μ-loop
 returns c = checking-stopped (c .before .before .before .loop .inv) (c .before .before .loop-test .taken) (c .before .first-line .ensures) (c .before .before .before .before .stop-line .ensures) (c .if1 .taken)
 
 row-breaks-requires : tie.Need-row-breaks-requires Inv-loop μ-loop
-row-breaks-requires c κs = (c .before .before .before .before .before .before .before .before .before .before .before .before .pre .1 .1 .1 .0, (c .before .before .before .before .before .before .before .before .before .before .before .before .pre .1 .1 .0, checking-reached (c .before .before .before .loop .inv) (c .before .before .loop-test .taken) (c .before .first-line .ensures) (c .before .before .before .before .stop-line .ensures) (c .if1 .left)))
+row-breaks-requires c κs = (c .before .before .before .before .before .before .before .before .before .before .before .before .before .pre .1 .1 .1 .0, (c .before .before .before .before .before .before .before .before .before .before .before .before .before .pre .1 .1 .0, checking-reached (c .before .before .before .loop .inv) (c .before .before .loop-test .taken) (c .before .first-line .ensures) (c .before .before .before .before .stop-line .ensures) (c .if1 .left)))
 
 returns-2 : tie.Need-returns-2 Inv-loop μ-loop
 returns-2 c = checking-broken (c .before .before .before .before .before .loop .inv) (c .before .before .before .before .loop-test .taken) (c .before .before .before .first-line .ensures) (c .before .before .before .before .before .before .stop-line .ensures) (c .before .row-breaks .ensures) (c .if2 .taken)
@@ -37,7 +37,7 @@ loop-less : tie.Need-loop-less Inv-loop μ-loop
 loop-less c = let z = next-here (c .before .before .before .before .before .before .loop .inv) (c .before .before .before .before .before .loop-test .taken) .here in omega (arith, z .onward, z .within, c .next-row .ensures)
 
 loop-again : tie.Need-loop-again Inv-loop μ-loop
-loop-again c = checking-more (c .before .before .before .before .before .before .loop .inv) (c .before .before .before .before .before .loop-test .taken) (c .before .before .before .before .first-line .ensures) (c .before .before .before .before .before .before .before .stop-line .ensures) (c .before .before .row-breaks .ensures) (c .before .before .before .before .before .before .before .before .before .before .before .before .before .before .before .pre .1 .1 .0) (c .before .before .before .if1 .left) (c .before .if2 .left) (c .next-row .ensures)
+loop-again c = checking-more (c .before .before .before .before .before .before .loop .inv) (c .before .before .before .before .before .loop-test .taken) (c .before .before .before .before .first-line .ensures) (c .before .before .before .before .before .before .before .stop-line .ensures) (c .before .before .row-breaks .ensures) (c .before .before .before .before .before .before .before .before .before .before .before .before .before .before .before .before .pre .1 .1 .0) (c .before .before .before .if1 .left) (c .before .if2 .left) (c .next-row .ensures)
 
 returns-3 : tie.Need-returns-3 Inv-loop μ-loop
 returns-3 c = checking-end (c .before .loop .inv) (c .loop-test .left)

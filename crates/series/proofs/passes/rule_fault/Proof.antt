@@ -12,16 +12,26 @@ next-row-requires c κs = file-next (c .before .before .before .before .before .
 slice-aggregate-fill-prints : tie.Need-slice-aggregate-fill-prints
 slice-aggregate-fill-prints c = search needs
 
+slice-aggregate-fill-prints-2 : tie.Need-slice-aggregate-fill-prints-2
+slice-aggregate-fill-prints-2 c = search needs
+
+slice-aggregate-fill-prints-3 : tie.Need-slice-aggregate-fill-prints-3
+slice-aggregate-fill-prints-3 c = search needs
+
 fill-prints-requires : tie.Need-fill-prints-requires
-fill-prints-requires c κs = (linked-at (c .before .before .before .before .before .before .before .before .pre .1 .0) (c .before .before .before .before .before .before .before .before .pre .0) (c .before .before .before .before .before .before .before .before .pre .1 .1 .0) (c .before .next-row .ensures) .tied, omega arith)
+fill-prints-requires c κs =
+    (linked-at (c .before .before .before .before .before .before .before .before .before .before .pre .1 .0) (c .before .before .before .before .before .before .before .before .before .before .pre .0) (c .before .before .before .before .before .before .before .before .before .before .pre .1 .1 .0) (c .before .before .before .next-row .ensures) .tied, (omega arith, omega arith, omega arith))
 
 slice-aggregate-first-fault : tie.Need-slice-aggregate-first-fault
 slice-aggregate-first-fault c = search needs
 
+slice-aggregate-first-fault-2 : tie.Need-slice-aggregate-first-fault-2
+slice-aggregate-first-fault-2 c = search needs
+
 first-fault-requires : tie.Need-first-fault-requires
 first-fault-requires c κs =
-    let pre = c .before .before .before .before .before .before .before .before .before .before .before .pre in
-    (pre .0, (c .before .before .before .before .next-row .ensures, (linked-at (pre .1 .0) (pre .0) (pre .1 .1 .0) (c .before .before .before .before .next-row .ensures), (c .before .before .fill-prints .ensures, pre .1 .1 .1))))
+    let pre = c .before .before .before .before .before .before .before .before .before .before .before .before .before .before .before .before .pre in
+    (pre .0, (c .before .before .before .before .before .before .before .before .before .next-row .ensures, (linked-at (pre .1 .0) (pre .0) (pre .1 .1 .0) (c .before .before .before .before .before .before .before .before .before .next-row .ensures), (c .before .before .before .before .before .fill-prints .ensures, pre .1 .1 .1))))
 
 returns : tie.Need-returns
 returns c = c .first-fault .ensures
@@ -32,7 +42,10 @@ rule-fault-spec =
     (tie.spec
     next-row-requires
     slice-aggregate-fill-prints
+    slice-aggregate-fill-prints-2
+    slice-aggregate-fill-prints-3
     fill-prints-requires
     slice-aggregate-first-fault
+    slice-aggregate-first-fault-2
     first-fault-requires
     returns)
