@@ -22,11 +22,15 @@ enum-told c = search needs
 
 store-instances-requires : tie.Need-store-instances-requires
 store-instances-requires c κs =
-    let required = c .before .before .before .before .before .before .before .before .before .before .before .before .before .before .before .before .before .before .before .before .before .before .before .before .before .before .before .before .pre in
-    let told = c .before .before .before .before .before .before .before .before .before .before .before .before .before .before .read-components .ensures in
-    let none = c .before .before .before .before .enum-told .given .1 in
+    let required2 = c .before .before .before .before .before .before .before .before .before .before .before .before .before .before .before .before .before .before .before .before .before .before .before .before .before .before .before .before .pre in
+    let read-components-told = c .before .before .before .before .before .before .before .before .before .before .before .before .before .before .read-components in
+    let exceptions-told = c .before .before .before .before .before .before .before .before .before .exceptions in
+    let enum-told-told = c .before .before .before .before .enum-told in
+    let required = required2 in
+    let told = read-components-told .ensures in
+    let none = enum-told-told .given .1 in
     let room = stated-room told none (required .1 .0) in
-    (room .0, (room .1, (omega (arith, c .before .before .before .before .before .before .before .before .before .exceptions .given, required .1 .1 .1 .1 .0 .1), (required .1 .1 .1 .1 .1 .1 .0, (told .entries none, (told .removable none, required .1 .1 .1 .1 .1 .1 .1))))))
+    (room .0, (room .1, (omega (arith, exceptions-told .given, required .1 .1 .1 .1 .0 .1), (required .1 .1 .1 .1 .1 .1 .0, (told .entries none, (told .removable none, required .1 .1 .1 .1 .1 .1 .1))))))
 
 refused-requires-2 : tie.Need-refused-requires-2
 refused-requires-2 c κs = search needs
@@ -44,13 +48,21 @@ same-length-4 : tie.Need-same-length-4
 same-length-4 c = search needs
 
 returns : tie.Need-returns
-returns c = contents-many (c .before .before .before .before .before .before .before .before .before .before .before .before .before .before .before .before .before .before .before .read-components .ensures) (c .before .before .before .before .before .before .before .before .before .enum-told .given .1) (c .before .before .before .before .store-instances .ensures) (c .before .if1 .taken) (c .refused2 .ensures)
+returns c =
+    let read-components-told = c .before .before .before .before .before .before .before .before .before .before .before .before .before .before .before .before .before .before .before .read-components in
+    let enum-told-told = c .before .before .before .before .before .before .before .before .before .enum-told in
+    let store-instances-told = c .before .before .before .before .store-instances in
+    contents-many (read-components-told .ensures) (enum-told-told .given .1) (store-instances-told .ensures) (c .before .if1 .taken) (c .refused2 .ensures)
 
 tables-of-requires : tie.Need-tables-of-requires
 tables-of-requires c κs =
-    let required = c .before .before .before .before .before .before .before .before .before .before .before .before .before .before .before .before .before .before .before .before .before .before .before .before .before .before .before .before .before .before .before .before .before .before .before .pre in
-    let room = stated-room (c .before .before .before .before .before .before .before .before .before .before .before .before .before .before .before .before .before .before .before .before .before .read-components .ensures) (c .before .before .before .before .before .before .before .before .before .before .before .enum-told .given .1) (required .1 .0) in
-    (required .0, (c .before .before .before .if1 .left, omega (arith, room .0, c .before .before .before .if1 .left)))
+    let required2 = c .before .before .before .before .before .before .before .before .before .before .before .before .before .before .before .before .before .before .before .before .before .before .before .before .before .before .before .before .before .before .before .before .before .before .before .pre in
+    let read-components-told = c .before .before .before .before .before .before .before .before .before .before .before .before .before .before .before .before .before .before .before .before .before .read-components in
+    let enum-told-told = c .before .before .before .before .before .before .before .before .before .before .before .enum-told in
+    let first-if = c .before .before .before .if1 in
+    let required = required2 in
+    let room = stated-room (read-components-told .ensures) (enum-told-told .given .1) (required .1 .0) in
+    (required .0, (first-if .left, omega (arith, room .0, first-if .left)))
 
 same-length-5 : tie.Need-same-length-5
 same-length-5 c = search needs
@@ -87,8 +99,14 @@ same-length-14 c = search needs
 
 returns-3 : tie.Need-returns-3
 returns-3 c =
-    let required = c .before .before .before .before .before .before .before .before .before .before .before .before .before .before .before .before .before .before .before .before .before .before .before .before .before .before .before .before .before .before .before .before .before .before .before .before .before .before .before .before .pre in
-    contents-few (c .before .before .before .before .before .before .before .before .before .before .before .before .before .before .before .before .before .before .before .before .before .before .before .before .before .before .read-components .ensures) (c .before .before .before .before .before .before .before .before .before .before .before .before .before .before .before .before .enum-told .given .1) (c .before .before .before .before .before .before .before .before .before .before .before .store-instances .ensures) (c .before .before .before .before .before .before .before .before .if1 .left) (required .1 .0) (required .1 .1 .1 .1 .1 .1 .1 .0) (c .before .before .before .before .tables-of .ensures)
+    let required2 = c .before .before .before .before .before .before .before .before .before .before .before .before .before .before .before .before .before .before .before .before .before .before .before .before .before .before .before .before .before .before .before .before .before .before .before .before .before .before .before .before .pre in
+    let read-components-told = c .before .before .before .before .before .before .before .before .before .before .before .before .before .before .before .before .before .before .before .before .before .before .before .before .before .before .read-components in
+    let enum-told-told = c .before .before .before .before .before .before .before .before .before .before .before .before .before .before .before .before .enum-told in
+    let store-instances-told = c .before .before .before .before .before .before .before .before .before .before .before .store-instances in
+    let first-if = c .before .before .before .before .before .before .before .before .if1 in
+    let tables-of-told = c .before .before .before .before .tables-of in
+    let required = required2 in
+    contents-few (read-components-told .ensures) (enum-told-told .given .1) (store-instances-told .ensures) (first-if .left) (required .1 .0) (required .1 .1 .1 .1 .1 .1 .1 .0) (tables-of-told .ensures)
 
 pub collect-stored-spec : {M : Type 1} → statement M
 collect-stored-spec =

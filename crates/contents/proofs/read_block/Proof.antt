@@ -43,8 +43,14 @@ same-length-3 : tie.Need-same-length-3
 same-length-3 c = search needs
 
 returns : tie.Need-returns
-returns c = let pre = c .before .before .before .before .before .before .before .before .before .before .before .before .before .before .before .before .before .before .before .before .before .before .before .before .before .pre in
-    block-good _ _ _ _ (pre .1 .1 .1 .1 .1 .1 .1 .1 .0) (lines-of (c .before .before .before .before .before .before .before .before .before .before .before .before .before .before .before .read-lines .ensures) _ _ _ (c .before .before .before .before .before .before .before .before .before .g .given .1)) (lines-tie (c .before .before .before .before .before .before .before .before .before .before .before .before .before .before .before .read-lines .ensures) _ _ _ (c .before .before .before .before .before .before .before .before .before .g .given .1)) (c .before .before .before .before .before .before .before .block-by .ensures) _ (c .before .before .before .before .before .x .given .1) (c .before .before .put-block .ensures)
+returns c =
+    let required = c .before .before .before .before .before .before .before .before .before .before .before .before .before .before .before .before .before .before .before .before .before .before .before .before .before .pre in
+    let read-lines-told = c .before .before .before .before .before .before .before .before .before .before .before .before .before .before .before .read-lines in
+    let g-told = c .before .before .before .before .before .before .before .before .before .g in
+    let block-by-told = c .before .before .before .before .before .before .before .block-by in
+    let x-told = c .before .before .before .before .before .x in
+    let pre = required in
+    block-good _ _ _ _ (pre .1 .1 .1 .1 .1 .1 .1 .1 .0) (lines-of (read-lines-told .ensures) _ _ _ (g-told .given .1)) (lines-tie (read-lines-told .ensures) _ _ _ (g-told .given .1)) (block-by-told .ensures) _ (x-told .given .1) (c .before .before .put-block .ensures)
 
 same-length-4 : tie.Need-same-length-4
 same-length-4 c = search needs
@@ -53,8 +59,12 @@ same-length-5 : tie.Need-same-length-5
 same-length-5 c = search needs
 
 returns-2 : tie.Need-returns-2
-returns-2 c = let pre = c .before .before .before .before .before .before .before .before .before .before .before .before .before .before .before .before .before .before .before .before .pre in
-    block-broken _ _ _ _ (pre .1 .1 .1 .1 .1 .1 .1 .1 .0) (lines-of (c .before .before .before .before .before .before .before .before .before .before .read-lines .ensures) _ _ _ (c .before .before .before .before .g .given .1)) (lines-tie (c .before .before .before .before .before .before .before .before .before .before .read-lines .ensures) _ _ _ (c .before .before .before .before .g .given .1)) (c .before .before .block-by .ensures) _ _ _ (c .enum-told .given .1)
+returns-2 c =
+    let required = c .before .before .before .before .before .before .before .before .before .before .before .before .before .before .before .before .before .before .before .before .pre in
+    let read-lines-told = c .before .before .before .before .before .before .before .before .before .before .read-lines in
+    let g-told = c .before .before .before .before .g in
+    let pre = required in
+    block-broken _ _ _ _ (pre .1 .1 .1 .1 .1 .1 .1 .1 .0) (lines-of (read-lines-told .ensures) _ _ _ (g-told .given .1)) (lines-tie (read-lines-told .ensures) _ _ _ (g-told .given .1)) (c .before .before .block-by .ensures) _ _ _ (c .enum-told .given .1)
 
 same-length-6 : tie.Need-same-length-6
 same-length-6 c = search needs

@@ -26,86 +26,150 @@ loop-holds c = let pre = c .before .before .before .before .before .before .befo
     (contents-start _ _ _ (pre .1 .1 .1 .1 .1 .0) (pre .0) (pre .1 .0) (pre .1 .1 .0) (pre .1 .1 .1 .0) (c .next-row .ensures), refl)
 
 read-entry-requires : tie.Need-read-entry-requires Inv-loop μ-loop
-read-entry-requires c κs = let pre = c .before .before .before .before .before .before .before .before .before .before .before .before .before .before .pre in
-    ((c .before .before .before .before .before .loop .inv .0) .long, ((c .before .before .before .before .before .loop .inv .0) .few, ((c .before .before .before .before .before .loop .inv .0) .size, ((c .before .before .before .before .before .loop .inv .0) .link-size, ((c .before .before .before .before .before .loop .inv .0) .room (c .before .before .before .before .loop-test .taken), (pre .1 .1 .1 .1 .0, (pre .1 .1 .1 .1 .1 .0 .indexed, (here (c .before .before .before .before .before .loop .inv .0) (c .before .before .before .before .loop-test .taken) .here .row, pre .1 .1 .1 .1 .1 .1))))))))
+read-entry-requires c κs =
+    let required = c .before .before .before .before .before .before .before .before .before .before .before .before .before .before .pre in
+    let turn = c .before .before .before .before .before .loop in
+    let test = c .before .before .before .before .loop-test in
+    let pre = required in
+    ((turn .inv .0) .long, ((turn .inv .0) .few, ((turn .inv .0) .size, ((turn .inv .0) .link-size, ((turn .inv .0) .room (test .taken), (pre .1 .1 .1 .1 .0, (pre .1 .1 .1 .1 .1 .0 .indexed, (here (turn .inv .0) (test .taken) .here .row, pre .1 .1 .1 .1 .1 .1))))))))
 
 enum-known-count : tie.Need-enum-known-count Inv-loop μ-loop
 enum-known-count c = search needs
 
 next-row-requires-2 : tie.Need-next-row-requires-2 Inv-loop μ-loop
-next-row-requires-2 c κs = (here (c .before .before .before .before .before .before .before .before .before .before .before .before .before .before .before .before .before .loop .inv .0) (c .before .before .before .before .before .before .before .before .before .before .before .before .before .before .before .before .loop-test .taken)) .here .row .room
+next-row-requires-2 c κs =
+    let turn = c .before .before .before .before .before .before .before .before .before .before .before .before .before .before .before .before .before .loop in
+    let test = c .before .before .before .before .before .before .before .before .before .before .before .before .before .before .before .before .loop-test in
+    (here (turn .inv .0) (test .taken)) .here .row .room
 
 loop-less : tie.Need-loop-less Inv-loop μ-loop
-loop-less c = let z = (here (c .before .before .before .before .before .before .before .before .before .before .before .before .before .before .before .before .before .before .loop .inv .0) (c .before .before .before .before .before .before .before .before .before .before .before .before .before .before .before .before .before .loop-test .taken)) .here in
+loop-less c =
+    let turn = c .before .before .before .before .before .before .before .before .before .before .before .before .before .before .before .before .before .before .loop in
+    let test = c .before .before .before .before .before .before .before .before .before .before .before .before .before .before .before .before .before .loop-test in
+    let z = (here (turn .inv .0) (test .taken)) .here in
     omega (arith, z .onward, z .within, c .next-row2 .ensures)
 
 loop-again : tie.Need-loop-again Inv-loop μ-loop
-loop-again c = (contents-good (c .before .before .before .before .before .before .before .before .before .before .before .before .before .before .before .before .before .before .loop .inv .0) (c .before .before .before .before .before .before .before .before .before .before .before .before .before .before .before .before .before .loop-test .taken) _ (c .before .before .before .before .before .before .before .before .before .before .before .before .read-entry .ensures) (omega arith) (omega arith) (omega arith) _ _ (c .before .before .count .given .1) (c .next-row2 .ensures), omega (arith, c .before .before .before .before .before .before .before .before .before .before .before .before .before .before .before .before .before .before .loop .inv .1))
+loop-again c =
+    let turn = c .before .before .before .before .before .before .before .before .before .before .before .before .before .before .before .before .before .before .loop in
+    let test = c .before .before .before .before .before .before .before .before .before .before .before .before .before .before .before .before .before .loop-test in
+    let read-entry-told = c .before .before .before .before .before .before .before .before .before .before .before .before .read-entry in
+    (contents-good (turn .inv .0) (test .taken) _ (read-entry-told .ensures) (omega arith) (omega arith) (omega arith) _ _ (c .before .before .count .given .1) (c .next-row2 .ensures), omega (arith, turn .inv .1))
 
 enum-known-more : tie.Need-enum-known-more Inv-loop μ-loop
 enum-known-more c = search needs
 
 first-line-requires : tie.Need-first-line-requires Inv-loop μ-loop
-first-line-requires c κs = (here (c .before .before .before .before .before .before .before .before .before .before .before .before .before .before .before .before .before .loop .inv .0) (c .before .before .before .before .before .before .before .before .before .before .before .before .before .before .before .before .loop-test .taken)) .here .row .room
+first-line-requires c κs =
+    let turn = c .before .before .before .before .before .before .before .before .before .before .before .before .before .before .before .before .before .loop in
+    let test = c .before .before .before .before .before .before .before .before .before .before .before .before .before .before .before .before .loop-test in
+    (here (turn .inv .0) (test .taken)) .here .row .room
 
 broken-else-requires : tie.Need-broken-else-requires Inv-loop μ-loop
 broken-else-requires c κs = search needs
 
 next-row-requires-3 : tie.Need-next-row-requires-3 Inv-loop μ-loop
-next-row-requires-3 c κs = (here (c .before .before .before .before .before .before .before .before .before .before .before .before .before .before .before .before .before .before .before .loop .inv .0) (c .before .before .before .before .before .before .before .before .before .before .before .before .before .before .before .before .before .before .loop-test .taken)) .here .row .room
+next-row-requires-3 c κs =
+    let turn = c .before .before .before .before .before .before .before .before .before .before .before .before .before .before .before .before .before .before .before .loop in
+    let test = c .before .before .before .before .before .before .before .before .before .before .before .before .before .before .before .before .before .before .loop-test in
+    (here (turn .inv .0) (test .taken)) .here .row .room
 
 loop-less-2 : tie.Need-loop-less-2 Inv-loop μ-loop
-loop-less-2 c = let z = (here (c .before .before .before .before .before .before .before .before .before .before .before .before .before .before .before .before .before .before .before .before .loop .inv .0) (c .before .before .before .before .before .before .before .before .before .before .before .before .before .before .before .before .before .before .before .loop-test .taken)) .here in
+loop-less-2 c =
+    let turn = c .before .before .before .before .before .before .before .before .before .before .before .before .before .before .before .before .before .before .before .before .loop in
+    let test = c .before .before .before .before .before .before .before .before .before .before .before .before .before .before .before .before .before .before .before .loop-test in
+    let z = (here (turn .inv .0) (test .taken)) .here in
     omega (arith, z .onward, z .within, c .next-row3 .ensures)
 
 loop-again-2 : tie.Need-loop-again-2 Inv-loop μ-loop
-loop-again-2 c = (contents-broken (c .before .before .before .before .before .before .before .before .before .before .before .before .before .before .before .before .before .before .before .before .loop .inv .0) (c .before .before .before .before .before .before .before .before .before .before .before .before .before .before .before .before .before .before .before .loop-test .taken) _ (c .before .before .before .before .before .before .before .before .before .before .before .before .before .before .read-entry .ensures) (omega arith) (omega arith) (omega arith) _ (c .before .before .before .before .more .given .1) (c .next-row3 .ensures) (c .before .before .first-line .ensures) (c .before .broken-else .ensures), omega (arith, c .before .before .before .before .before .before .before .before .before .before .before .before .before .before .before .before .before .before .before .before .loop .inv .1))
+loop-again-2 c =
+    let turn = c .before .before .before .before .before .before .before .before .before .before .before .before .before .before .before .before .before .before .before .before .loop in
+    let test = c .before .before .before .before .before .before .before .before .before .before .before .before .before .before .before .before .before .before .before .loop-test in
+    let read-entry-told = c .before .before .before .before .before .before .before .before .before .before .before .before .before .before .read-entry in
+    let more-told = c .before .before .before .before .more in
+    (contents-broken (turn .inv .0) (test .taken) _ (read-entry-told .ensures) (omega arith) (omega arith) (omega arith) _ (more-told .given .1) (c .next-row3 .ensures) (c .before .before .first-line .ensures) (c .before .broken-else .ensures), omega (arith, turn .inv .1))
 
 enum-known-i : tie.Need-enum-known-i Inv-loop μ-loop
 enum-known-i c = search needs
 
 same-length : tie.Need-same-length Inv-loop μ-loop
-same-length c = let pre = c .before .before .before .before .before .before .before .before .before .before .before .before .before .before .before .before .before .before .before .before .before .before .before .before .before .before .pre in
-    omega (arith, c .before .before .before .before .before .before .before .before .before .before .before .before .before .before .before .before .before .loop .inv .0 .long, pre .0)
+same-length c =
+    let required = c .before .before .before .before .before .before .before .before .before .before .before .before .before .before .before .before .before .before .before .before .before .before .before .before .before .before .pre in
+    let turn = c .before .before .before .before .before .before .before .before .before .before .before .before .before .before .before .before .before .loop in
+    let pre = required in
+    omega (arith, turn .inv .0 .long, pre .0)
 
 same-length-2 : tie.Need-same-length-2 Inv-loop μ-loop
-same-length-2 c = let pre = c .before .before .before .before .before .before .before .before .before .before .before .before .before .before .before .before .before .before .before .before .before .before .before .before .before .before .pre in
-    omega (arith, c .before .before .before .before .before .before .before .before .before .before .before .before .before .before .before .before .before .loop .inv .0 .size, pre .1 .0)
+same-length-2 c =
+    let required = c .before .before .before .before .before .before .before .before .before .before .before .before .before .before .before .before .before .before .before .before .before .before .before .before .before .before .pre in
+    let turn = c .before .before .before .before .before .before .before .before .before .before .before .before .before .before .before .before .before .loop in
+    let pre = required in
+    omega (arith, turn .inv .0 .size, pre .1 .0)
 
 same-length-3 : tie.Need-same-length-3 Inv-loop μ-loop
-same-length-3 c = let pre = c .before .before .before .before .before .before .before .before .before .before .before .before .before .before .before .before .before .before .before .before .before .before .before .before .before .before .pre in
-    omega (arith, c .before .before .before .before .before .before .before .before .before .before .before .before .before .before .before .before .before .loop .inv .1)
+same-length-3 c =
+    let required = c .before .before .before .before .before .before .before .before .before .before .before .before .before .before .before .before .before .before .before .before .before .before .before .before .before .before .pre in
+    let turn = c .before .before .before .before .before .before .before .before .before .before .before .before .before .before .before .before .before .loop in
+    let pre = required in
+    omega (arith, turn .inv .1)
 
 same-length-4 : tie.Need-same-length-4 Inv-loop μ-loop
-same-length-4 c = let pre = c .before .before .before .before .before .before .before .before .before .before .before .before .before .before .before .before .before .before .before .before .before .before .before .before .before .before .pre in
-    omega (arith, c .before .before .before .before .before .before .before .before .before .before .before .before .before .before .before .before .before .loop .inv .0 .link-size, pre .1 .1 .0)
+same-length-4 c =
+    let required = c .before .before .before .before .before .before .before .before .before .before .before .before .before .before .before .before .before .before .before .before .before .before .before .before .before .before .pre in
+    let turn = c .before .before .before .before .before .before .before .before .before .before .before .before .before .before .before .before .before .loop in
+    let pre = required in
+    omega (arith, turn .inv .0 .link-size, pre .1 .1 .0)
 
 returns : tie.Need-returns Inv-loop μ-loop
-returns c = let pre = c .before .before .before .before .before .before .before .before .before .before .before .before .before .before .before .before .before .before .before .before .before .before .before .before .before .before .pre in
-    fault-told (pre .1 .1 .1 .1 .1 .0) (c .before .before .before .before .before .before .before .before .before .before .before .before .before .before .before .before .before .before .next-row .ensures) (ValueCheck.Unsupported _) refl (contents-unsupported (c .before .before .before .before .before .before .before .before .before .before .before .before .before .before .before .before .before .loop .inv .0) (c .before .before .before .before .before .before .before .before .before .before .before .before .before .before .before .before .loop-test .taken) _ (c .before .before .before .before .before .before .before .before .before .before .before .read-entry .ensures) (omega arith) (omega arith) (omega arith) _ (c .before .i .given .1)) refl
+returns c =
+    let required = c .before .before .before .before .before .before .before .before .before .before .before .before .before .before .before .before .before .before .before .before .before .before .before .before .before .before .pre in
+    let next-row-told = c .before .before .before .before .before .before .before .before .before .before .before .before .before .before .before .before .before .before .next-row in
+    let turn = c .before .before .before .before .before .before .before .before .before .before .before .before .before .before .before .before .before .loop in
+    let test = c .before .before .before .before .before .before .before .before .before .before .before .before .before .before .before .before .loop-test in
+    let read-entry-told = c .before .before .before .before .before .before .before .before .before .before .before .read-entry in
+    let pre = required in
+    fault-told (pre .1 .1 .1 .1 .1 .0) (next-row-told .ensures) (ValueCheck.Unsupported _) refl (contents-unsupported (turn .inv .0) (test .taken) _ (read-entry-told .ensures) (omega arith) (omega arith) (omega arith) _ (c .before .i .given .1)) refl
 
 enum-known-i-2 : tie.Need-enum-known-i-2 Inv-loop μ-loop
 enum-known-i-2 c = search needs
 
 same-length-5 : tie.Need-same-length-5 Inv-loop μ-loop
-same-length-5 c = let pre = c .before .before .before .before .before .before .before .before .before .before .before .before .before .before .before .before .before .before .before .before .before .before .before .before .before .before .pre in
-    omega (arith, c .before .before .before .before .before .before .before .before .before .before .before .before .before .before .before .before .before .loop .inv .0 .long, pre .0)
+same-length-5 c =
+    let required = c .before .before .before .before .before .before .before .before .before .before .before .before .before .before .before .before .before .before .before .before .before .before .before .before .before .before .pre in
+    let turn = c .before .before .before .before .before .before .before .before .before .before .before .before .before .before .before .before .before .loop in
+    let pre = required in
+    omega (arith, turn .inv .0 .long, pre .0)
 
 same-length-6 : tie.Need-same-length-6 Inv-loop μ-loop
-same-length-6 c = let pre = c .before .before .before .before .before .before .before .before .before .before .before .before .before .before .before .before .before .before .before .before .before .before .before .before .before .before .pre in
-    omega (arith, c .before .before .before .before .before .before .before .before .before .before .before .before .before .before .before .before .before .loop .inv .0 .size, pre .1 .0)
+same-length-6 c =
+    let required = c .before .before .before .before .before .before .before .before .before .before .before .before .before .before .before .before .before .before .before .before .before .before .before .before .before .before .pre in
+    let turn = c .before .before .before .before .before .before .before .before .before .before .before .before .before .before .before .before .before .loop in
+    let pre = required in
+    omega (arith, turn .inv .0 .size, pre .1 .0)
 
 same-length-7 : tie.Need-same-length-7 Inv-loop μ-loop
-same-length-7 c = let pre = c .before .before .before .before .before .before .before .before .before .before .before .before .before .before .before .before .before .before .before .before .before .before .before .before .before .before .pre in
-    omega (arith, c .before .before .before .before .before .before .before .before .before .before .before .before .before .before .before .before .before .loop .inv .1)
+same-length-7 c =
+    let required = c .before .before .before .before .before .before .before .before .before .before .before .before .before .before .before .before .before .before .before .before .before .before .before .before .before .before .pre in
+    let turn = c .before .before .before .before .before .before .before .before .before .before .before .before .before .before .before .before .before .loop in
+    let pre = required in
+    omega (arith, turn .inv .1)
 
 same-length-8 : tie.Need-same-length-8 Inv-loop μ-loop
-same-length-8 c = let pre = c .before .before .before .before .before .before .before .before .before .before .before .before .before .before .before .before .before .before .before .before .before .before .before .before .before .before .pre in
-    omega (arith, c .before .before .before .before .before .before .before .before .before .before .before .before .before .before .before .before .before .loop .inv .0 .link-size, pre .1 .1 .0)
+same-length-8 c =
+    let required = c .before .before .before .before .before .before .before .before .before .before .before .before .before .before .before .before .before .before .before .before .before .before .before .before .before .before .pre in
+    let turn = c .before .before .before .before .before .before .before .before .before .before .before .before .before .before .before .before .before .loop in
+    let pre = required in
+    omega (arith, turn .inv .0 .link-size, pre .1 .1 .0)
 
 returns-2 : tie.Need-returns-2 Inv-loop μ-loop
-returns-2 c = let pre = c .before .before .before .before .before .before .before .before .before .before .before .before .before .before .before .before .before .before .before .before .before .before .before .before .before .before .pre in
-    fault-told (pre .1 .1 .1 .1 .1 .0) (c .before .before .before .before .before .before .before .before .before .before .before .before .before .before .before .before .before .before .next-row .ensures) (ValueCheck.Bad _) refl (contents-bad (c .before .before .before .before .before .before .before .before .before .before .before .before .before .before .before .before .before .loop .inv .0) (c .before .before .before .before .before .before .before .before .before .before .before .before .before .before .before .before .loop-test .taken) _ (c .before .before .before .before .before .before .before .before .before .before .before .read-entry .ensures) (omega arith) (omega arith) (omega arith) _ (c .before .i2 .given .1)) refl
+returns-2 c =
+    let required = c .before .before .before .before .before .before .before .before .before .before .before .before .before .before .before .before .before .before .before .before .before .before .before .before .before .before .pre in
+    let next-row-told = c .before .before .before .before .before .before .before .before .before .before .before .before .before .before .before .before .before .before .next-row in
+    let turn = c .before .before .before .before .before .before .before .before .before .before .before .before .before .before .before .before .before .loop in
+    let test = c .before .before .before .before .before .before .before .before .before .before .before .before .before .before .before .before .loop-test in
+    let read-entry-told = c .before .before .before .before .before .before .before .before .before .before .before .read-entry in
+    let pre = required in
+    fault-told (pre .1 .1 .1 .1 .1 .0) (next-row-told .ensures) (ValueCheck.Bad _) refl (contents-bad (turn .inv .0) (test .taken) _ (read-entry-told .ensures) (omega arith) (omega arith) (omega arith) _ (c .before .i2 .given .1)) refl
 
 same-length-9 : tie.Need-same-length-9 Inv-loop μ-loop
 same-length-9 c = let pre = c .before .before .before .before .before .before .before .before .before .before .pre in

@@ -9,12 +9,20 @@ kind-at-requires c κs = let pre = c .before .before .before .before .before .be
     pre .1 .1 .1 .1 .1 .1 .1 .0 .room
 
 read-event-requires : tie.Need-read-event-requires
-read-event-requires c κs = let pre = c .before .before .before .before .before .before .before .before .before .before .before .before .before .pre in
-    (pre .0, (pre .1 .0, (pre .1 .1 .0, (pre .1 .1 .1 .0, (pre .1 .1 .1 .1 .0, (pre .1 .1 .1 .1 .1 .0, (pre .1 .1 .1 .1 .1 .1 .0, (pre .1 .1 .1 .1 .1 .1 .1 .0, (row-event (pre .1 .1 .1 .1 .1 .1 .1 .0) (c .before .before .before .before .before .kind-at .ensures) (c .before .before .before .before .match .keys1), pre .1 .1 .1 .1 .1 .1 .1 .1)))))))))
+read-event-requires c κs =
+    let required = c .before .before .before .before .before .before .before .before .before .before .before .before .before .pre in
+    let kind-at-told = c .before .before .before .before .before .kind-at in
+    let match-told = c .before .before .before .before .match in
+    let pre = required in
+    (pre .0, (pre .1 .0, (pre .1 .1 .0, (pre .1 .1 .1 .0, (pre .1 .1 .1 .1 .0, (pre .1 .1 .1 .1 .1 .0, (pre .1 .1 .1 .1 .1 .1 .0, (pre .1 .1 .1 .1 .1 .1 .1 .0, (row-event (pre .1 .1 .1 .1 .1 .1 .1 .0) (kind-at-told .ensures) (match-told .keys1), pre .1 .1 .1 .1 .1 .1 .1 .1)))))))))
 
 read-block-requires : tie.Need-read-block-requires
-read-block-requires c κs = let pre = c .before .before .before .before .before .before .before .before .before .before .before .before .before .pre in
-    (pre .0, (pre .1 .0, (pre .1 .1 .0, (pre .1 .1 .1 .0, (pre .1 .1 .1 .1 .0, (pre .1 .1 .1 .1 .1 .0, (pre .1 .1 .1 .1 .1 .1 .0, (pre .1 .1 .1 .1 .1 .1 .1 .0, (row-block (pre .1 .1 .1 .1 .1 .1 .1 .0) (c .before .before .before .before .before .kind-at .ensures) (c .before .before .before .before .match .keys2), pre .1 .1 .1 .1 .1 .1 .1 .1)))))))))
+read-block-requires c κs =
+    let required = c .before .before .before .before .before .before .before .before .before .before .before .before .before .pre in
+    let kind-at-told = c .before .before .before .before .before .kind-at in
+    let match-told = c .before .before .before .before .match in
+    let pre = required in
+    (pre .0, (pre .1 .0, (pre .1 .1 .0, (pre .1 .1 .1 .0, (pre .1 .1 .1 .1 .0, (pre .1 .1 .1 .1 .1 .0, (pre .1 .1 .1 .1 .1 .1 .0, (pre .1 .1 .1 .1 .1 .1 .1 .0, (row-block (pre .1 .1 .1 .1 .1 .1 .1 .0) (kind-at-told .ensures) (match-told .keys2), pre .1 .1 .1 .1 .1 .1 .1 .1)))))))))
 
 same-length : tie.Need-same-length
 same-length c = search needs

@@ -23,16 +23,24 @@ enum-known-e : tie.Need-enum-known-e
 enum-known-e c = search needs
 
 enter-event-requires : tie.Need-enter-event-requires
-enter-event-requires c κs = let pre = c .before .before .before .before .before .before .before .before .before .before .before .before .before .before .before .before .before .before .before .before .before .before .before .pre in
-    (omega (arith, pre .1 .1 .1 .1 .1 .1 .1 .0 .few, pre .1 .1 .0), (omega (arith, pre .1 .1 .1 .1 .1 .1 .1 .0 .few, pre .1 .1 .1 .0), identity-fits _ (pre .1 .1 .1 .1 .1 .1 .1 .1 .0) (lines-tie (c .before .before .before .before .before .before .before .before .before .before .before .before .before .read-lines .ensures) _ _ _ (c .before .before .before .before .before .before .before .g .given .1)) refl (pre .1 .1 .1 .1 .0 .short) (pre .1 .1 .1 .1 .0 .few)))
+enter-event-requires c κs =
+    let required = c .before .before .before .before .before .before .before .before .before .before .before .before .before .before .before .before .before .before .before .before .before .before .before .pre in
+    let read-lines-told = c .before .before .before .before .before .before .before .before .before .before .before .before .before .read-lines in
+    let g-told = c .before .before .before .before .before .before .before .g in
+    let pre = required in
+    (omega (arith, pre .1 .1 .1 .1 .1 .1 .1 .0 .few, pre .1 .1 .0), (omega (arith, pre .1 .1 .1 .1 .1 .1 .1 .0 .few, pre .1 .1 .1 .0), identity-fits _ (pre .1 .1 .1 .1 .1 .1 .1 .1 .0) (lines-tie (read-lines-told .ensures) _ _ _ (g-told .given .1)) refl (pre .1 .1 .1 .1 .0 .short) (pre .1 .1 .1 .1 .0 .few)))
 
 enum-told : tie.Need-enum-told
 enum-told c = search needs
 
 put-identity-requires : tie.Need-put-identity-requires
 unfolding IdentitySmall
-put-identity-requires c κs = let pre = c .before .before .before .before .before .before .before .before .before .before .before .before .before .before .before .before .before .before .before .before .before .pre in
-    (omega (arith, pre .1 .1 .1 .1 .1 .1 .1 .0 .few, pre .1 .1 .1 .0), identity-fits _ (pre .1 .1 .1 .1 .1 .1 .1 .1 .0) (lines-tie (c .before .before .before .before .before .before .before .before .before .before .before .read-lines .ensures) _ _ _ (c .before .before .before .before .before .g .given .1)) refl (pre .1 .1 .1 .1 .0 .short) (pre .1 .1 .1 .1 .0 .few) true)
+put-identity-requires c κs =
+    let required = c .before .before .before .before .before .before .before .before .before .before .before .before .before .before .before .before .before .before .before .before .before .pre in
+    let read-lines-told = c .before .before .before .before .before .before .before .before .before .before .before .read-lines in
+    let g-told = c .before .before .before .before .before .g in
+    let pre = required in
+    (omega (arith, pre .1 .1 .1 .1 .1 .1 .1 .0 .few, pre .1 .1 .1 .0), identity-fits _ (pre .1 .1 .1 .1 .1 .1 .1 .1 .0) (lines-tie (read-lines-told .ensures) _ _ _ (g-told .given .1)) refl (pre .1 .1 .1 .1 .0 .short) (pre .1 .1 .1 .1 .0 .few) true)
 
 enum-known-i : tie.Need-enum-known-i
 enum-known-i c = search needs
@@ -53,8 +61,15 @@ same-length-4 : tie.Need-same-length-4
 same-length-4 c = search needs
 
 returns : tie.Need-returns
-returns c = let pre = c .before .before .before .before .before .before .before .before .before .before .before .before .before .before .before .before .before .before .before .before .before .before .before .before .before .before .before .before .pre in
-    event-entered _ _ _ _ (pre .1 .1 .1 .1 .1 .1 .1 .1 .0) (lines-of (c .before .before .before .before .before .before .before .before .before .before .before .before .before .before .before .before .before .before .read-lines .ensures) _ _ _ (c .before .before .before .before .before .before .before .before .before .before .before .before .g .given .1)) (lines-tie (c .before .before .before .before .before .before .before .before .before .before .before .before .before .before .before .before .before .before .read-lines .ensures) _ _ _ (c .before .before .before .before .before .before .before .before .before .before .before .before .g .given .1)) (c .before .before .before .before .before .before .before .before .before .before .event-by .ensures) _ (c .before .before .before .before .before .before .before .before .e .given .1) (c .before .before .before .before .enter-event .ensures)
+returns c =
+    let required = c .before .before .before .before .before .before .before .before .before .before .before .before .before .before .before .before .before .before .before .before .before .before .before .before .before .before .before .before .pre in
+    let read-lines-told = c .before .before .before .before .before .before .before .before .before .before .before .before .before .before .before .before .before .before .read-lines in
+    let g-told = c .before .before .before .before .before .before .before .before .before .before .before .before .g in
+    let event-by-told = c .before .before .before .before .before .before .before .before .before .before .event-by in
+    let e-told = c .before .before .before .before .before .before .before .before .e in
+    let enter-event-told = c .before .before .before .before .enter-event in
+    let pre = required in
+    event-entered _ _ _ _ (pre .1 .1 .1 .1 .1 .1 .1 .1 .0) (lines-of (read-lines-told .ensures) _ _ _ (g-told .given .1)) (lines-tie (read-lines-told .ensures) _ _ _ (g-told .given .1)) (event-by-told .ensures) _ (e-told .given .1) (enter-event-told .ensures)
 
 same-length-5 : tie.Need-same-length-5
 same-length-5 c = search needs
@@ -66,8 +81,15 @@ same-length-7 : tie.Need-same-length-7
 same-length-7 c = search needs
 
 returns-2 : tie.Need-returns-2
-returns-2 c = let pre = c .before .before .before .before .before .before .before .before .before .before .before .before .before .before .before .before .before .before .before .before .before .before .before .before .pre in
-    event-broken _ _ _ _ (pre .1 .1 .1 .1 .1 .1 .1 .1 .0) (lines-of (c .before .before .before .before .before .before .before .before .before .before .before .before .before .before .read-lines .ensures) _ _ _ (c .before .before .before .before .before .before .before .before .g .given .1)) (lines-tie (c .before .before .before .before .before .before .before .before .before .before .before .before .before .before .read-lines .ensures) _ _ _ (c .before .before .before .before .before .before .before .before .g .given .1)) (c .before .before .before .before .before .before .event-by .ensures) _ (c .before .before .before .before .enum-told .given .1) (c .before .before .put-identity .ensures)
+returns-2 c =
+    let required = c .before .before .before .before .before .before .before .before .before .before .before .before .before .before .before .before .before .before .before .before .before .before .before .before .pre in
+    let read-lines-told = c .before .before .before .before .before .before .before .before .before .before .before .before .before .before .read-lines in
+    let g-told = c .before .before .before .before .before .before .before .before .g in
+    let event-by-told = c .before .before .before .before .before .before .event-by in
+    let enum-told-told = c .before .before .before .before .enum-told in
+    let put-identity-told = c .before .before .put-identity in
+    let pre = required in
+    event-broken _ _ _ _ (pre .1 .1 .1 .1 .1 .1 .1 .1 .0) (lines-of (read-lines-told .ensures) _ _ _ (g-told .given .1)) (lines-tie (read-lines-told .ensures) _ _ _ (g-told .given .1)) (event-by-told .ensures) _ (enum-told-told .given .1) (put-identity-told .ensures)
 
 same-length-8 : tie.Need-same-length-8
 same-length-8 c = search needs

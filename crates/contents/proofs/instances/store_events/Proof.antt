@@ -53,7 +53,11 @@ loop-less c = let z = row-here (c .before .before .before .before .before) .here
 
 loop-again : tie.Need-loop-again Inv-loop μ-loop
 loop-again c =
-    λ x h z. events-more (c .before .before .before .before .before .before .loop .inv x h z) h z (c .before .before .before .before .before .before .before .next-row .ensures) (c .before .before .before .before .before .loop-test .taken) (c .before .before .before .store-row .ensures) (c .next-row2 .ensures)
+    let next-row-told = c .before .before .before .before .before .before .before .next-row in
+    let turn = c .before .before .before .before .before .before .loop in
+    let test = c .before .before .before .before .before .loop-test in
+    let store-row-told = c .before .before .before .store-row in
+    λ x h z. events-more (turn .inv x h z) h z (next-row-told .ensures) (test .taken) (store-row-told .ensures) (c .next-row2 .ensures)
 
 same-length : tie.Need-same-length Inv-loop μ-loop
 same-length c = omega (arith, stored (c .before) .still .long, c .before .before .before .before .before .before .before .before .before .before .pre .0)

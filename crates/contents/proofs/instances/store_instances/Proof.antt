@@ -21,9 +21,13 @@ slice-aggregate-store-events-2 c = search needs
 
 store-events-requires : tie.Need-store-events-requires
 store-events-requires c κs =
-    let required = c .before .before .before .before .before .before .before .before .before .before .before .before .before .pre in
-    let h = removable-at (c .before .before .before .before .before .next-row .ensures) (required .1 .1 .1 .1 .1 .0) in
-    (required .0, (required .1 .0, (required .1 .1 .1 .0, (required .1 .1 .1 .1 .0, (removed-at (c .before .before .before .before .before .next-row .ensures) (nothing-removed h (c .before .before .before .before .is-nothing-taken .ensures (c .before .before .before .if1 .taken)) _), required .1 .1 .1 .1 .1 .1)))))
+    let required2 = c .before .before .before .before .before .before .before .before .before .before .before .before .before .pre in
+    let next-row-told = c .before .before .before .before .before .next-row in
+    let is-nothing-taken-told = c .before .before .before .before .is-nothing-taken in
+    let first-if = c .before .before .before .if1 in
+    let required = required2 in
+    let h = removable-at (next-row-told .ensures) (required .1 .1 .1 .1 .1 .0) in
+    (required .0, (required .1 .0, (required .1 .1 .1 .0, (required .1 .1 .1 .1 .0, (removed-at (next-row-told .ensures) (nothing-removed h (is-nothing-taken-told .ensures (first-if .taken)) _), required .1 .1 .1 .1 .1 .1)))))
 
 same-length : tie.Need-same-length
 same-length c = search needs

@@ -6,7 +6,9 @@ use Rattle.contents.proofs.instances.store_left.Statement.{statement}
 use Rattle.contents.proofs.instances.store_left.Tie as tie
 
 next-row-requires : tie.Need-next-row-requires
-next-row-requires c κs = omega (arith, c .before .before .before .before .before .before .before .before .before .before .pre .1 .1 .1 .1 .1 .0 .row-room, c .before .before .before .before .before .before .before .before .before .before .pre .1 .1 .1 .0 .some)
+next-row-requires c κs =
+    let required = c .before .before .before .before .before .before .before .before .before .before .pre in
+    omega (arith, required .1 .1 .1 .1 .1 .0 .row-room, required .1 .1 .1 .0 .some)
 
 fill-removed-requires : tie.Need-fill-removed-requires
 fill-removed-requires c κs =
@@ -16,8 +18,11 @@ fill-removed-requires c κs =
 
 store-events-requires : tie.Need-store-events-requires
 store-events-requires c κs =
-    let required = c .before .before .before .before .before .before .before .before .before .before .before .before .before .before .before .before .before .before .before .before .before .before .before .before .pre in
-    (required .0, (required .1 .0, (required .1 .1 .1 .0, (required .1 .1 .1 .1 .0, (removed-at (c .before .before .before .before .before .before .before .before .before .before .before .before .before .next-row .ensures) (c .before .before .before .before .before .before .before .before .before .fill-removed .ensures), required .1 .1 .1 .1 .1 .1)))))
+    let required2 = c .before .before .before .before .before .before .before .before .before .before .before .before .before .before .before .before .before .before .before .before .before .before .before .before .pre in
+    let next-row-told = c .before .before .before .before .before .before .before .before .before .before .before .before .before .next-row in
+    let fill-removed-told = c .before .before .before .before .before .before .before .before .before .fill-removed in
+    let required = required2 in
+    (required .0, (required .1 .0, (required .1 .1 .1 .0, (required .1 .1 .1 .1 .0, (removed-at (next-row-told .ensures) (fill-removed-told .ensures), required .1 .1 .1 .1 .1 .1)))))
 
 same-length : tie.Need-same-length
 same-length c = search needs

@@ -20,15 +20,24 @@ gone-at-requires c κs = search needs
 
 store-event-requires : tie.Need-store-event-requires
 store-event-requires c κs =
-    let pre = c .before .before .before .before .before .before .before .before .before .before .pre in
+    let required = c .before .before .before .before .before .before .before .before .before .before .pre in
+    let kind-at-told = c .before .before .before .before .kind-at in
+    let first-if = c .before .before .before .if1 in
+    let pre = required in
     let row = pre .1 .1 .0 in
-    (pre .0, (pre .1 .0, (subst EventSmall (sym (c .before .before .event-at .ensures)) (row .event-small (sym (c .before .before .before .before .kind-at .ensures) ∙ c .before .before .before .if1 .taken)), (subst Ordered (sym (c .gone-at .ensures)) (row .part .ordered), pre .1 .1 .1))))
+    (pre .0, (pre .1 .0, (subst EventSmall (sym (c .before .before .event-at .ensures)) (row .event-small (sym (kind-at-told .ensures) ∙ first-if .taken)), (subst Ordered (sym (c .gone-at .ensures)) (row .part .ordered), pre .1 .1 .1))))
 
 same-length : tie.Need-same-length
 same-length c = search needs
 
 returns : tie.Need-returns
-returns c = row-stored _ _ _ _ _ _ _ (c .before .before .before .before .before .before .before .kind-at .ensures) (c .before .before .before .before .before .before .if1 .taken) (c .before .before .before .before .before .event-at .ensures) (c .before .before .before .gone-at .ensures) (c .before .before .store-event .ensures)
+returns c =
+    let kind-at-told = c .before .before .before .before .before .before .before .kind-at in
+    let first-if = c .before .before .before .before .before .before .if1 in
+    let event-at-told = c .before .before .before .before .before .event-at in
+    let gone-at-told = c .before .before .before .gone-at in
+    let store-event-told = c .before .before .store-event in
+    row-stored _ _ _ _ _ _ _ (kind-at-told .ensures) (first-if .taken) (event-at-told .ensures) (gone-at-told .ensures) (store-event-told .ensures)
 
 returns-2 : tie.Need-returns-2
 returns-2 c = row-left _ _ _ _ _ _ _ (c .before .kind-at .ensures) (c .if1 .left)

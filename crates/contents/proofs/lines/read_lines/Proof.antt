@@ -85,8 +85,12 @@ add-row c = omega (arith, c .before .before .before .before .before .before .bef
 
 loop-holds : tie.Need-loop-holds Inv-loop μ-loop
 loop-holds c =
-    let pre = c .before .before .before .before .before .before .before .before .before .before .pre in (
-      reading-start _ _ (pre .1 .1 .1 .1 .0) _ _ (pre .0) (pre .1 .0) _ _ _ (c .before .before .no-properties .ensures) (c .first-line .ensures) (c .before .before .before .before .line-behind .ensures) (c .before .before .before .next-row .ensures),
+    let required = c .before .before .before .before .before .before .before .before .before .before .pre in
+    let line-behind-told = c .before .before .before .before .line-behind in
+    let next-row-told = c .before .before .before .next-row in
+    let no-properties-told = c .before .before .no-properties in
+    let pre = required in (
+      reading-start _ _ (pre .1 .1 .1 .1 .0) _ _ (pre .0) (pre .1 .0) _ _ _ (no-properties-told .ensures) (c .first-line .ensures) (line-behind-told .ensures) (next-row-told .ensures),
       ties-start _ _ _ _ _ _ _ _ _ (c .before .no-identity .ensures) (c .first-line .ensures) (pre .1 .1 .1 .1 .1 .1 .1 .0) (pre .1 .1 .1 .1 .1 .1 .1 .1),
     )
 
@@ -289,14 +293,20 @@ loop-less-10 c = omega (arith, value-read (c .before .before .before .before .be
 
 loop-again-10 : tie.Need-loop-again-10 Inv-loop μ-loop
 loop-again-10 c =
-    let called-pre = c .before .before .before .before .before .before .before .before .before .before .before .before .before .before .before .before .before .before .before .before .before .before .before .before .before .before .before .before .before .pre in
-    let read = value-read (c .before .before .before .before .before .before .before .before .before .before .before .before) in
-    let told = c .before .before .before .before .before .before .before .before .before .before .form .given .1 in
-    let value = c .before .before .before .before .before .before .before .value .ensures in
-    let stored = c .before .before .before .before .before .before .store-times .ensures in
+    let required = c .before .before .before .before .before .before .before .before .before .before .before .before .before .before .before .before .before .before .before .before .before .before .before .before .before .before .before .before .before .pre in
+    let turn = c .before .before .before .before .before .before .before .before .before .before .before .before .before .before .before .before .before .before .loop in
+    let before-told = c .before .before .before .before .before .before .before .before .before .before .before .before in
+    let form-told = c .before .before .before .before .before .before .before .before .before .before .form in
+    let value-told = c .before .before .before .before .before .before .before .value in
+    let store-times-told = c .before .before .before .before .before .before .store-times in
+    let called-pre = required in
+    let read = value-read (before-told) in
+    let told = form-told .given .1 in
+    let value = value-told .ensures in
+    let stored = store-times-told .ensures in
     let all = times-read stored _ _ (c .before .before .m .given .1) in (
       reading-exceptions read told value all,
-      ties-exceptions (c .before .before .before .before .before .before .before .before .before .before .before .before .before .before .before .before .before .before .loop .inv .1) (read .here) (c .before .before .before .before .before .before .before .before .before .before .before .before .before .before .before .before .before .before .before .before .before .before .before .before .before .before .before .before .before .pre .1 .1 .1 .0) (read .line) value _ _ (called-pre .1 .1 .1 .1 .1 .1 .0) (exceptions-said read told value all) stored (c .before .before .m .given .1) (c .with-exceptions .ensures),
+      ties-exceptions (turn .inv .1) (read .here) (required .1 .1 .1 .0) (read .line) value _ _ (called-pre .1 .1 .1 .1 .1 .1 .0) (exceptions-said read told value all) stored (c .before .before .m .given .1) (c .with-exceptions .ensures),
     )
 
 enum-told-6 : tie.Need-enum-told-6 Inv-loop μ-loop
@@ -309,7 +319,12 @@ same-length-6 : tie.Need-same-length-6 Inv-loop μ-loop
 same-length-6 c = omega (arith, same-held (c .before .before .before .before .before .before .before .before .before .before .before .before .before .before .before .before))
 
 returns-3 : tie.Need-returns-3 Inv-loop μ-loop
-returns-3 c = bad (reading-bad-time (value-read (c .before .before .before .before .before .before .before .before .before .before)) (c .before .before .before .before .before .before .before .before .form .given .1) (c .before .before .before .before .before .value .ensures) (times-unread (c .before .before .before .before .store-times .ensures) (c .enum-told6 .given .1)))
+returns-3 c =
+    let before-told = c .before .before .before .before .before .before .before .before .before .before in
+    let form-told = c .before .before .before .before .before .before .before .before .form in
+    let value-told = c .before .before .before .before .before .value in
+    let store-times-told = c .before .before .before .before .store-times in
+    bad (reading-bad-time (value-read (before-told)) (form-told .given .1) (value-told .ensures) (times-unread (store-times-told .ensures) (c .enum-told6 .given .1)))
 
 enum-known-busy : tie.Need-enum-known-busy Inv-loop μ-loop
 enum-known-busy c = search needs
@@ -330,12 +345,17 @@ loop-less-11 c = omega (arith, value-read (c .before .before .before .before .be
 
 loop-again-11 : tie.Need-loop-again-11 Inv-loop μ-loop
 loop-again-11 c =
-    let read = value-read (c .before .before .before .before .before .before .before .before .before .before .before) in
-    let told = c .before .before .before .before .before .before .before .before .before .busy .given .1 in
-    let value = c .before .before .before .before .before .before .value2 .ensures in
-    let stored = c .before .before .before .before .before .store-value .ensures in
+    let turn = c .before .before .before .before .before .before .before .before .before .before .before .before .before .before .before .before .before .loop in
+    let before-told = c .before .before .before .before .before .before .before .before .before .before .before in
+    let busy-told = c .before .before .before .before .before .before .before .before .before .busy in
+    let value2-told = c .before .before .before .before .before .before .value2 in
+    let store-value-told = c .before .before .before .before .before .store-value in
+    let read = value-read (before-told) in
+    let told = busy-told .given .1 in
+    let value = value2-told .ensures in
+    let stored = store-value-told .ensures in
     let (all, kept) = value-stored stored _ (c .before .m2 .given .1) in
-    (reading-periods read told value stored _ (c .before .m2 .given .1), ties-untied (c .before .before .before .before .before .before .before .before .before .before .before .before .before .before .before .before .before .loop .inv .1) (read .here) (periods-said read told value all) tt)
+    (reading-periods read told value stored _ (c .before .m2 .given .1), ties-untied (turn .inv .1) (read .here) (periods-said read told value all) tt)
 
 enum-told-7 : tie.Need-enum-told-7 Inv-loop μ-loop
 enum-told-7 c = search needs
@@ -347,7 +367,12 @@ same-length-8 : tie.Need-same-length-8 Inv-loop μ-loop
 same-length-8 c = omega (arith, same-held (c .before .before .before .before .before .before .before .before .before .before .before .before .before .before .before .before))
 
 returns-4 : tie.Need-returns-4 Inv-loop μ-loop
-returns-4 c = bad (reading-bad-period (value-read (c .before .before .before .before .before .before .before .before .before .before)) (c .before .before .before .before .before .before .before .before .busy .given .1) (c .before .before .before .before .before .value2 .ensures) (c .before .before .before .before .store-value .ensures) (c .enum-told7 .given .1))
+returns-4 c =
+    let before-told = c .before .before .before .before .before .before .before .before .before .before in
+    let busy-told = c .before .before .before .before .before .before .before .before .busy in
+    let value2-told = c .before .before .before .before .before .value2 in
+    let store-value-told = c .before .before .before .before .store-value in
+    bad (reading-bad-period (value-read (before-told)) (busy-told .given .1) (value2-told .ensures) (store-value-told .ensures) (c .enum-told7 .given .1))
 
 enum-known-next : tie.Need-enum-known-next Inv-loop μ-loop
 enum-known-next c = search needs

@@ -17,8 +17,12 @@ enum-told : tie.Need-enum-told
 enum-told c = search needs
 
 rule-fault-requires : tie.Need-rule-fault-requires
-rule-fault-requires c κs = let pre = c .before .before .before .before .before .before .before .before .before .before .before .before .before .before .before .before .before .before .before .before .before .before .before .before .before .pre in
-    (pre .1 .1 .1 .1 .1 .0, (pre .1 .1 .1 .1 .0, ((c .before .before .before .before .before .before .before .before .before .before .before .before .before .read-contents .ensures) .links-are (c .before .before .before .enum-told .given .1), (c .before .before .before .before .before .before .before .before .before .before .before .before .before .read-contents .ensures) .rules-are (c .before .before .before .enum-told .given .1))))
+rule-fault-requires c κs =
+    let required = c .before .before .before .before .before .before .before .before .before .before .before .before .before .before .before .before .before .before .before .before .before .before .before .before .before .pre in
+    let read-contents-told = c .before .before .before .before .before .before .before .before .before .before .before .before .before .read-contents in
+    let enum-told-told = c .before .before .before .enum-told in
+    let pre = required in
+    (pre .1 .1 .1 .1 .1 .0, (pre .1 .1 .1 .1 .0, ((read-contents-told .ensures) .links-are (enum-told-told .given .1), (read-contents-told .ensures) .rules-are (enum-told-told .given .1))))
 
 fault-by-requires : tie.Need-fault-by-requires
 fault-by-requires c κs = search needs
@@ -66,7 +70,11 @@ same-length-12 : tie.Need-same-length-12
 same-length-12 c = search needs
 
 returns-3 : tie.Need-returns-3
-returns-3 c = tells-rules (c .before .before .before .before .before .before .before .before .before .before .before .before .before .before .before .read-contents .ensures) (c .before .before .before .before .before .before .before .before .before .before .before .before .before .before .before .before .before .before .before .before .before .before .before .before .before .before .before .pre .1 .1 .1 .1 .0) (c .before .before .before .before .before .before .before .before .before .before .before .before .before .before .before .before .before .before .before .before .before .before .before .before .before .before .before .pre .1 .1 .1 .1 .1 .0) (c .before .before .before .before .before .enum-told .given .1) (c .before .rule-fault .ensures) (c .fault-by .ensures)
+returns-3 c =
+    let required = c .before .before .before .before .before .before .before .before .before .before .before .before .before .before .before .before .before .before .before .before .before .before .before .before .before .before .before .pre in
+    let read-contents-told = c .before .before .before .before .before .before .before .before .before .before .before .before .before .before .before .read-contents in
+    let enum-told-told = c .before .before .before .before .before .enum-told in
+    tells-rules (read-contents-told .ensures) (required .1 .1 .1 .1 .0) (required .1 .1 .1 .1 .1 .0) (enum-told-told .given .1) (c .before .rule-fault .ensures) (c .fault-by .ensures)
 
 pub read-components-spec : {M : Type 1} → statement M
 read-components-spec =

@@ -6,7 +6,9 @@ use Rattle.filter.proofs.files.holds_left.Statement.{statement}
 use Rattle.filter.proofs.files.holds_left.Tie as tie
 
 next-row-requires : tie.Need-next-row-requires
-next-row-requires c κs = omega (arith, c .before .before .before .before .before .before .before .before .before .before .pre .1 .1 .1 .1 .1 .0 .row-room, c .before .before .before .before .before .before .before .before .before .before .pre .1 .1 .1 .0 .some)
+next-row-requires c κs =
+    let required = c .before .before .before .before .before .before .before .before .before .before .pre in
+    omega (arith, required .1 .1 .1 .1 .1 .0 .row-room, required .1 .1 .1 .0 .some)
 
 fill-removed-requires : tie.Need-fill-removed-requires
 fill-removed-requires c κs =
@@ -16,8 +18,11 @@ fill-removed-requires c κs =
 
 query-holds-requires : tie.Need-query-holds-requires
 query-holds-requires c κs =
-    let required = c .before .before .before .before .before .before .before .before .before .before .before .before .before .before .before .before .before .before .before .before .before .before .before .pre in
-    (required .0, (required .1 .0, (required .1 .1 .0, (required .1 .1 .1 .0, (required .1 .1 .1 .1 .0, removed-at (c .before .before .before .before .before .before .before .before .before .before .before .before .next-row .ensures) (c .before .before .before .before .before .before .before .before .fill-removed .ensures))))))
+    let required2 = c .before .before .before .before .before .before .before .before .before .before .before .before .before .before .before .before .before .before .before .before .before .before .before .pre in
+    let next-row-told = c .before .before .before .before .before .before .before .before .before .before .before .before .next-row in
+    let fill-removed-told = c .before .before .before .before .before .before .before .before .fill-removed in
+    let required = required2 in
+    (required .0, (required .1 .0, (required .1 .1 .0, (required .1 .1 .1 .0, (required .1 .1 .1 .1 .0, removed-at (next-row-told .ensures) (fill-removed-told .ensures))))))
 
 same-length : tie.Need-same-length
 same-length c = search needs

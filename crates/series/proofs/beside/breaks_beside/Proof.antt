@@ -16,32 +16,48 @@ enum-known-uid : tie.Need-enum-known-uid
 enum-known-uid c = search needs
 
 is-unshared-requires : tie.Need-is-unshared-requires
-is-unshared-requires c κs = markable (c .before .before .before .before .before .before .before .before .before .before .before .before .pre .0) (c .before .before .before .before .before .before .before .before .before .before .before .before .pre .1 .0 .tied .few) (c .before .before .before .before .before .before .before .before .before .before .before .before .pre .1 .1 .there)
+is-unshared-requires c κs =
+    let required = c .before .before .before .before .before .before .before .before .before .before .before .before .pre in
+    markable (required .0) (required .1 .0 .tied .few) (required .1 .1 .there)
 
 returns : tie.Need-returns
-returns c = beside-new (c .before .before .before .before .before .before .before .before .before .before .before .before .before .before .pre .1 .0) (c .before .before .before .before .before .before .before .before .before .before .before .before .before .before .pre .1 .1) (c .before .before .before .before .before .link-at .ensures) (c .before .before .before .uid .given .1) (c .before .before .before .before .before .before .before .before .before .before .before .before .before .before .pre .0) (c .before .is-unshared .ensures) (c .if1 .taken)
+returns c =
+    let required = c .before .before .before .before .before .before .before .before .before .before .before .before .before .before .pre in
+    let link-at-told = c .before .before .before .before .before .link-at in
+    let uid-told = c .before .before .before .uid in
+    beside-new (required .1 .0) (required .1 .1) (link-at-told .ensures) (uid-told .given .1) (required .0) (c .before .is-unshared .ensures) (c .if1 .taken)
 
 uid-at-requires : tie.Need-uid-at-requires
 uid-at-requires c κs =
-    let pre = c .before .before .before .before .before .before .before .before .before .before .before .before .before .before .pre in
-    (pre .1 .0 .tied .each _ (pre .1 .1 .there) .uids (pre .1 .1 .is-event) .indexed, beside-there (c .before .before .before .before .before .before .before .before .before .before .before .before .before .before .pre .1 .0) (c .before .before .before .before .before .before .before .before .before .before .before .before .before .before .pre .1 .1) (c .before .before .before .before .before .link-at .ensures) (c .before .before .before .uid .given .1))
+    let required = c .before .before .before .before .before .before .before .before .before .before .before .before .before .before .pre in
+    let link-at-told = c .before .before .before .before .before .link-at in
+    let uid-told = c .before .before .before .uid in
+    let pre = required in
+    (pre .1 .0 .tied .each _ (pre .1 .1 .there) .uids (pre .1 .1 .is-event) .indexed, beside-there (required .1 .0) (required .1 .1) (link-at-told .ensures) (uid-told .given .1))
 
 breaks-by-uid-requires : tie.Need-breaks-by-uid-requires
 breaks-by-uid-requires c κs =
-    let pre = c .before .before .before .before .before .before .before .before .before .before .before .before .before .before .before .pre in
-    (pre .1 .0, (pre .1 .1, beside-uid (c .before .before .before .before .before .before .before .before .before .before .before .before .before .before .before .pre .1 .0) (c .before .before .before .before .before .before .before .before .before .before .before .before .before .before .before .pre .1 .1) (c .before .before .before .before .before .before .link-at .ensures) (c .before .before .before .before .uid .given .1) (c .uid-at .ensures)))
+    let required = c .before .before .before .before .before .before .before .before .before .before .before .before .before .before .before .pre in
+    let link-at-told = c .before .before .before .before .before .before .link-at in
+    let uid-told = c .before .before .before .before .uid in
+    let pre = required in
+    (pre .1 .0, (pre .1 .1, beside-uid (required .1 .0) (required .1 .1) (link-at-told .ensures) (uid-told .given .1) (c .uid-at .ensures)))
 
 enum-told-2 : tie.Need-enum-told-2
 enum-told-2 c = search needs
 
 returns-2 : tie.Need-returns-2
-returns-2 c = beside-none (c .before .before .before .before .before .before .before .before .before .before .before .pre .1 .0) (c .before .before .before .before .before .before .before .before .before .before .before .pre .1 .1) (c .before .before .link-at .ensures) (c .enum-told .given .1)
+returns-2 c =
+    let required = c .before .before .before .before .before .before .before .before .before .before .before .pre in
+    beside-none (required .1 .0) (required .1 .1) (c .before .before .link-at .ensures) (c .enum-told .given .1)
 
 returns-3 : tie.Need-returns-3
 returns-3 c = c .breaks-by-uid .ensures
 
 returns-4 : tie.Need-returns-4
-returns-4 c = beside-several (c .before .before .before .before .before .before .before .before .before .before .before .pre .1 .0) (c .before .before .before .before .before .before .before .before .before .before .before .pre .1 .1) (c .before .before .link-at .ensures) (c .enum-told2 .given .1)
+returns-4 c =
+    let required = c .before .before .before .before .before .before .before .before .before .before .before .pre in
+    beside-several (required .1 .0) (required .1 .1) (c .before .before .link-at .ensures) (c .enum-told2 .given .1)
 
 pub breaks-beside-spec : {M : Type 1} → statement M
 breaks-beside-spec =

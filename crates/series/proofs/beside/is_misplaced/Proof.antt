@@ -14,13 +14,19 @@ enum-known-k : tie.Need-enum-known-k
 enum-known-k c = search needs
 
 misfits-requires : tie.Need-misfits-requires
-misfits-requires c κs = (let z = at-of (c .before .before .before .master-of .ensures) (c .before .k .given .1) in master-known (c .before .before .before .before .before .before .before .before .before .before .before .pre .0) (z .there) (z .is-event), c .before .before .before .before .before .before .before .before .before .before .before .pre .1)
+misfits-requires c κs =
+    let required = c .before .before .before .before .before .before .before .before .before .before .before .pre in
+    let master-of-told = c .before .before .before .master-of in
+    (let z = at-of (master-of-told .ensures) (c .before .k .given .1) in master-known (required .0) (z .there) (z .is-event), required .1)
 
 returns : tie.Need-returns
 returns c = place-none _ (none-of (c .before .before .master-of .ensures) (c .enum-told .given .1))
 
 returns-2 : tie.Need-returns-2
-returns-2 c = let z = at-of (c .before .before .before .before .master-of .ensures) (c .before .before .k .given .1) in place-at (c .before .before .before .before .before .before .before .before .before .before .before .before .pre .0 .stands _ (z .there) (z .is-event)) _ _ _ (z .master) (c .misfits .ensures)
+returns-2 c =
+    let required = c .before .before .before .before .before .before .before .before .before .before .before .before .pre in
+    let master-of-told = c .before .before .before .before .master-of in
+    let z = at-of (master-of-told .ensures) (c .before .before .k .given .1) in place-at (required .0 .stands _ (z .there) (z .is-event)) _ _ _ (z .master) (c .misfits .ensures)
 
 pub is-misplaced-spec : {M : Type 1} → statement M
 is-misplaced-spec =

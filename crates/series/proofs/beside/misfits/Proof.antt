@@ -25,10 +25,19 @@ returns-2 : tie.Need-returns-2
 returns-2 c = misfit-kind _ _ _ _ _ (c .before .before .before .before .link-at .ensures) (c .before .before .before .if1 .left) (c .before .before .event-at .ensures) (c .before .same-kind .ensures) (not-true _ (c .if2 .taken))
 
 names-instance-requires : tie.Need-names-instance-requires
-names-instance-requires c κs = (subst EventSmall (sym (c .before .before .event-at .ensures)) (c .before .before .before .before .before .before .before .before .pre .0 .small (ap (λ (x : Link). x .broken) (sym (c .before .before .before .before .link-at .ensures)) ∙ c .before .before .before .if1 .left)), c .before .before .before .before .before .before .before .before .pre .1)
+names-instance-requires c κs =
+    let required = c .before .before .before .before .before .before .before .before .pre in
+    let link-at-told = c .before .before .before .before .link-at in
+    let first-if = c .before .before .before .if1 in
+    (subst EventSmall (sym (c .before .before .event-at .ensures)) (required .0 .small (ap (λ (x : Link). x .broken) (sym (link-at-told .ensures)) ∙ first-if .left)), required .1)
 
 returns-3 : tie.Need-returns-3
-returns-3 c = misfit-named _ _ _ _ _ (c .before .before .before .before .before .before .link-at .ensures) (c .before .before .before .before .before .if1 .left) (c .before .before .before .before .event-at .ensures) (c .before .before .before .same-kind .ensures) (not-false _ (c .before .before .if2 .left)) (c .before .names-instance .ensures) (not-true _ (c .if3 .taken))
+returns-3 c =
+    let link-at-told = c .before .before .before .before .before .before .link-at in
+    let first-if = c .before .before .before .before .before .if1 in
+    let event-at-told = c .before .before .before .before .event-at in
+    let same-kind-told = c .before .before .before .same-kind in
+    misfit-named _ _ _ _ _ (link-at-told .ensures) (first-if .left) (event-at-told .ensures) (same-kind-told .ensures) (not-false _ (c .before .before .if2 .left)) (c .before .names-instance .ensures) (not-true _ (c .if3 .taken))
 
 mul-is-among : tie.Need-mul-is-among
 mul-is-among c = omega (arith, part-there (c .before .before .before .before .before .before .before .before .before .before .pre .0) (c .before .before .before .before .before .before .link-at .ensures))
@@ -46,7 +55,14 @@ is-among-requires : tie.Need-is-among-requires
 is-among-requires c κs = search needs
 
 returns-4 : tie.Need-returns-4
-returns-4 c = misfit-excluded _ _ _ _ _ (c .before .before .before .before .before .before .before .before .link-at .ensures) (c .before .before .before .before .before .before .before .if1 .left) (c .before .before .before .before .before .before .event-at .ensures) (c .before .before .before .before .before .same-kind .ensures) (not-false _ (c .before .before .before .before .if2 .left)) (c .before .before .before .names-instance .ensures) (not-false _ (c .before .before .if3 .left)) (c .is-among .ensures)
+returns-4 c =
+    let link-at-told = c .before .before .before .before .before .before .before .before .link-at in
+    let first-if = c .before .before .before .before .before .before .before .if1 in
+    let event-at-told = c .before .before .before .before .before .before .event-at in
+    let same-kind-told = c .before .before .before .before .before .same-kind in
+    let names-instance-told = c .before .before .before .names-instance in
+    let second-if = c .before .before .before .before .if2 in
+    misfit-excluded _ _ _ _ _ (link-at-told .ensures) (first-if .left) (event-at-told .ensures) (same-kind-told .ensures) (not-false _ (second-if .left)) (names-instance-told .ensures) (not-false _ (c .before .before .if3 .left)) (c .is-among .ensures)
 
 pub misfits-spec : {M : Type 1} → statement M
 misfits-spec =

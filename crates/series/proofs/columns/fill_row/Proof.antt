@@ -14,8 +14,10 @@ returns c = row-other (c .before .before .before .before .before .before .before
 
 removed-in-order-requires : tie.Need-removed-in-order-requires
 removed-in-order-requires c κs =
-    let event = sym (c .before .before .before .kind-at .ensures) ∙ c .before .before .if1 .left in
-    (c .before .before .before .before .before .before .before .before .before .before .before .pre .0 .takeable event, (c .before .before .before .before .before .before .before .before .before .before .before .pre .0 .fits event, c .before .before .before .before .before .before .before .before .before .before .before .pre .1))
+    let required = c .before .before .before .before .before .before .before .before .before .before .before .pre in
+    let kind-at-told = c .before .before .before .kind-at in
+    let event = sym (kind-at-told .ensures) ∙ c .before .before .if1 .left in
+    (required .0 .takeable event, (required .0 .fits event, required .1))
 
 same-length : tie.Need-same-length
 same-length c = search needs
@@ -24,7 +26,12 @@ same-length-2 : tie.Need-same-length-2
 same-length-2 c = search needs
 
 returns-2 : tie.Need-returns-2
-returns-2 c = row-event (c .before .before .before .before .before .before .before .before .before .before .before .before .before .before .before .before .pre .0) (c .before .before .before .before .before .before .before .before .kind-at .ensures) (c .before .before .before .before .before .before .before .if1 .left) (c .before .before .before .before .removed-in-order .ensures)
+returns-2 c =
+    let required = c .before .before .before .before .before .before .before .before .before .before .before .before .before .before .before .before .pre in
+    let kind-at-told = c .before .before .before .before .before .before .before .before .kind-at in
+    let first-if = c .before .before .before .before .before .before .before .if1 in
+    let removed-in-order-told = c .before .before .before .before .removed-in-order in
+    row-event (required .0) (kind-at-told .ensures) (first-if .left) (removed-in-order-told .ensures)
 
 pub fill-row-spec : {M : Type 1} → statement M
 fill-row-spec =

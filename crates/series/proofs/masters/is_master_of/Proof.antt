@@ -28,13 +28,26 @@ enum-told-3 : tie.Need-enum-told-3
 enum-told-3 c = search needs
 
 returns-2 : tie.Need-returns-2
-returns-2 c = master-tells (c .before .before .before .before .before .before .before .before .before .before .before .pre) (c .before .before .before .link-at .ensures) (sym (c .before .before .before .before .before .kind-at .ensures) ∙ c .before .before .before .before .if1 .left) _ (c .before .enum-told .given .1) (c .has-uid .ensures)
+returns-2 c =
+    let required = c .before .before .before .before .before .before .before .before .before .before .before .pre in
+    let kind-at-told = c .before .before .before .before .before .kind-at in
+    let first-if = c .before .before .before .before .if1 in
+    let link-at-told = c .before .before .before .link-at in
+    master-tells (required) (link-at-told .ensures) (sym (kind-at-told .ensures) ∙ first-if .left) _ (c .before .enum-told .given .1) (c .has-uid .ensures)
 
 returns-3 : tie.Need-returns-3
-returns-3 c = one-tells (c .before .before .before .before .before .before .before .before .before .before .pre) (c .before .before .link-at .ensures) (sym (c .before .before .before .before .kind-at .ensures) ∙ c .before .before .before .if1 .left) _ (c .enum-told2 .given .1)
+returns-3 c =
+    let required = c .before .before .before .before .before .before .before .before .before .before .pre in
+    let kind-at-told = c .before .before .before .before .kind-at in
+    let first-if = c .before .before .before .if1 in
+    one-tells (required) (c .before .before .link-at .ensures) (sym (kind-at-told .ensures) ∙ first-if .left) _ (c .enum-told2 .given .1)
 
 returns-4 : tie.Need-returns-4
-returns-4 c = several-tells (c .before .before .before .before .before .before .before .before .before .before .pre) (c .before .before .link-at .ensures) (sym (c .before .before .before .before .kind-at .ensures) ∙ c .before .before .before .if1 .left) _ (c .enum-told3 .given .1)
+returns-4 c =
+    let required = c .before .before .before .before .before .before .before .before .before .before .pre in
+    let kind-at-told = c .before .before .before .before .kind-at in
+    let first-if = c .before .before .before .if1 in
+    several-tells (required) (c .before .before .link-at .ensures) (sym (kind-at-told .ensures) ∙ first-if .left) _ (c .enum-told3 .given .1)
 
 pub is-master-of-spec : {M : Type 1} → statement M
 is-master-of-spec =

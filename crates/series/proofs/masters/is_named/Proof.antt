@@ -22,22 +22,46 @@ enum-known-recurrence : tie.Need-enum-known-recurrence
 enum-known-recurrence c = search needs
 
 returns-2 : tie.Need-returns-2
-returns-2 c = named-other (c .before .before .before .before .before .before .before .before .before .before .before .before .before .pre .0) (c .before .before .before .before .before .link-at .ensures) (sym (c .before .before .before .before .before .before .before .kind-at .ensures) ∙ c .before .before .before .before .before .before .if1 .left) _ _ (c .before .before .before .recurrence .given .1) (c .if2 .taken)
+returns-2 c =
+    let required = c .before .before .before .before .before .before .before .before .before .before .before .before .before .pre in
+    let kind-at-told = c .before .before .before .before .before .before .before .kind-at in
+    let first-if = c .before .before .before .before .before .before .if1 in
+    let link-at-told = c .before .before .before .before .before .link-at in
+    let recurrence-told = c .before .before .before .recurrence in
+    named-other (required .0) (link-at-told .ensures) (sym (kind-at-told .ensures) ∙ first-if .left) _ _ (recurrence-told .given .1) (c .if2 .taken)
 
 has-uid-requires : tie.Need-has-uid-requires
-has-uid-requires c κs = c .before .before .before .before .before .before .before .before .before .before .before .before .before .pre .0 .uids (sym (c .before .before .before .before .before .before .before .kind-at .ensures) ∙ c .before .before .before .before .before .before .if1 .left)
+has-uid-requires c κs =
+    let required = c .before .before .before .before .before .before .before .before .before .before .before .before .before .pre in
+    let kind-at-told = c .before .before .before .before .before .before .before .kind-at in
+    let first-if = c .before .before .before .before .before .before .if1 in
+    required .0 .uids (sym (kind-at-told .ensures) ∙ first-if .left)
 
 enum-told-2 : tie.Need-enum-told-2
 enum-told-2 c = search needs
 
 returns-3 : tie.Need-returns-3
-returns-3 c = named-none (c .before .before .before .before .before .before .before .before .before .before .pre .0) (c .before .before .link-at .ensures) (sym (c .before .before .before .before .kind-at .ensures) ∙ c .before .before .before .if1 .left) _ _ (c .enum-told .given .1)
+returns-3 c =
+    let required = c .before .before .before .before .before .before .before .before .before .before .pre in
+    let kind-at-told = c .before .before .before .before .kind-at in
+    let first-if = c .before .before .before .if1 in
+    named-none (required .0) (c .before .before .link-at .ensures) (sym (kind-at-told .ensures) ∙ first-if .left) _ _ (c .enum-told .given .1)
 
 returns-4 : tie.Need-returns-4
-returns-4 c = named-here (c .before .before .before .before .before .before .before .before .before .before .before .before .before .before .pre .0) (c .before .before .before .before .before .before .link-at .ensures) (sym (c .before .before .before .before .before .before .before .before .kind-at .ensures) ∙ c .before .before .before .before .before .before .before .if1 .left) _ _ (c .before .before .before .before .recurrence .given .1) (c .before .if2 .left) (c .has-uid .ensures)
+returns-4 c =
+    let required = c .before .before .before .before .before .before .before .before .before .before .before .before .before .before .pre in
+    let kind-at-told = c .before .before .before .before .before .before .before .before .kind-at in
+    let first-if = c .before .before .before .before .before .before .before .if1 in
+    let link-at-told = c .before .before .before .before .before .before .link-at in
+    let recurrence-told = c .before .before .before .before .recurrence in
+    named-here (required .0) (link-at-told .ensures) (sym (kind-at-told .ensures) ∙ first-if .left) _ _ (recurrence-told .given .1) (c .before .if2 .left) (c .has-uid .ensures)
 
 returns-5 : tie.Need-returns-5
-returns-5 c = named-several (c .before .before .before .before .before .before .before .before .before .before .pre .0) (c .before .before .link-at .ensures) (sym (c .before .before .before .before .kind-at .ensures) ∙ c .before .before .before .if1 .left) _ _ (c .enum-told2 .given .1) (c .before .before .before .before .before .before .before .before .before .before .pre .1)
+returns-5 c =
+    let required = c .before .before .before .before .before .before .before .before .before .before .pre in
+    let kind-at-told = c .before .before .before .before .kind-at in
+    let first-if = c .before .before .before .if1 in
+    named-several (required .0) (c .before .before .link-at .ensures) (sym (kind-at-told .ensures) ∙ first-if .left) _ _ (c .enum-told2 .given .1) (required .1)
 
 pub is-named-spec : {M : Type 1} → statement M
 is-named-spec =

@@ -37,13 +37,24 @@ cast-out : tie.Need-cast-out Inv-loop μ-loop
 cast-out c = omega (arith, named-one-by (c .before .before .before .named-second .ensures) (c .before .x .given .1) .0)
 
 mul-out : tie.Need-mul-out Inv-loop μ-loop
-mul-out c = omega (arith, c .before .before .before .before .before .loop .inv .few, c .before .before .before .before .before .loop .inv .long, c .before .before .before .before .before .before .before .before .before .before .before .before .pre .1 .1)
+mul-out c =
+    let required = c .before .before .before .before .before .before .before .before .before .before .before .before .pre in
+    let turn = c .before .before .before .before .before .loop in
+    omega (arith, turn .inv .few, turn .inv .long, required .1 .1)
 
 slice-write-out : tie.Need-slice-write-out Inv-loop μ-loop
-slice-write-out c = omega (arith, c .before .before .before .before .before .loop .inv .few, c .before .before .before .before .before .loop .inv .long, c .before .before .before .before .loop-test .taken, c .before .before .before .before .before .before .before .before .before .before .before .before .pre .1 .1)
+slice-write-out c =
+    let required = c .before .before .before .before .before .before .before .before .before .before .before .before .pre in
+    let turn = c .before .before .before .before .before .loop in
+    let test = c .before .before .before .before .loop-test in
+    omega (arith, turn .inv .few, turn .inv .long, test .taken, required .1 .1)
 
 add-end : tie.Need-add-end Inv-loop μ-loop
-add-end c = omega (arith, c .before .before .before .before .before .loop .inv .few, c .before .before .before .before .before .loop .inv .long, c .before .before .before .before .loop-test .taken, c .before .before .before .before .before .before .before .before .before .before .before .before .pre .1 .1)
+add-end c =
+    let required = c .before .before .before .before .before .before .before .before .before .before .before .before .pre in
+    let turn = c .before .before .before .before .before .loop in
+    let test = c .before .before .before .before .loop-test in
+    omega (arith, turn .inv .few, turn .inv .long, test .taken, required .1 .1)
 
 loop-less-2 : tie.Need-loop-less-2 Inv-loop μ-loop
 loop-less-2 c = omega arith

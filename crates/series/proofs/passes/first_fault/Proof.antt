@@ -16,7 +16,9 @@ stop-line-requires : tie.Need-stop-line-requires Inv-loop μ-loop
 stop-line-requires c κs = omega arith
 
 loop-holds : tie.Need-loop-holds Inv-loop μ-loop
-loop-holds c = checking-start _ _ (c .before .before .before .before .before .before .before .before .before .pre .0) (c .before .before .before .before .before .before .before .before .before .pre .1 .0) (c .before .before .before .before .before .before .before .before .before .pre .1 .1 .1 .1)
+loop-holds c =
+    let required = c .before .before .before .before .before .before .before .before .before .pre in
+    checking-start _ _ (required .0) (required .1 .0) (required .1 .1 .1 .1)
 
 first-line-requires : tie.Need-first-line-requires Inv-loop μ-loop
 first-line-requires c κs = next-here (c .before .loop .inv) (c .loop-test .taken) .here .row .room
@@ -25,10 +27,19 @@ returns : tie.Need-returns Inv-loop μ-loop
 returns c = checking-stopped (c .before .before .before .loop .inv) (c .before .before .loop-test .taken) (c .before .first-line .ensures) (c .before .before .before .before .stop-line .ensures) (c .if1 .taken)
 
 row-breaks-requires : tie.Need-row-breaks-requires Inv-loop μ-loop
-row-breaks-requires c κs = (c .before .before .before .before .before .before .before .before .before .before .before .before .before .pre .1 .1 .1 .0, (c .before .before .before .before .before .before .before .before .before .before .before .before .before .pre .1 .1 .0, checking-reached (c .before .before .before .loop .inv) (c .before .before .loop-test .taken) (c .before .first-line .ensures) (c .before .before .before .before .stop-line .ensures) (c .if1 .left)))
+row-breaks-requires c κs =
+    let required = c .before .before .before .before .before .before .before .before .before .before .before .before .before .pre in
+    let stop-line-told = c .before .before .before .before .stop-line in
+    let turn = c .before .before .before .loop in
+    (required .1 .1 .1 .0, (required .1 .1 .0, checking-reached (turn .inv) (c .before .before .loop-test .taken) (c .before .first-line .ensures) (stop-line-told .ensures) (c .if1 .left)))
 
 returns-2 : tie.Need-returns-2 Inv-loop μ-loop
-returns-2 c = checking-broken (c .before .before .before .before .before .loop .inv) (c .before .before .before .before .loop-test .taken) (c .before .before .before .first-line .ensures) (c .before .before .before .before .before .before .stop-line .ensures) (c .before .row-breaks .ensures) (c .if2 .taken)
+returns-2 c =
+    let stop-line-told = c .before .before .before .before .before .before .stop-line in
+    let turn = c .before .before .before .before .before .loop in
+    let test = c .before .before .before .before .loop-test in
+    let first-line-told = c .before .before .before .first-line in
+    checking-broken (turn .inv) (test .taken) (first-line-told .ensures) (stop-line-told .ensures) (c .before .row-breaks .ensures) (c .if2 .taken)
 
 next-row-requires : tie.Need-next-row-requires Inv-loop μ-loop
 next-row-requires c κs = next-here (c .before .before .before .before .before .loop .inv) (c .before .before .before .before .loop-test .taken) .here .row .room
@@ -37,7 +48,14 @@ loop-less : tie.Need-loop-less Inv-loop μ-loop
 loop-less c = let z = next-here (c .before .before .before .before .before .before .loop .inv) (c .before .before .before .before .before .loop-test .taken) .here in omega (arith, z .onward, z .within, c .next-row .ensures)
 
 loop-again : tie.Need-loop-again Inv-loop μ-loop
-loop-again c = checking-more (c .before .before .before .before .before .before .loop .inv) (c .before .before .before .before .before .loop-test .taken) (c .before .before .before .before .first-line .ensures) (c .before .before .before .before .before .before .before .stop-line .ensures) (c .before .before .row-breaks .ensures) (c .before .before .before .before .before .before .before .before .before .before .before .before .before .before .before .before .pre .1 .1 .0) (c .before .before .before .if1 .left) (c .before .if2 .left) (c .next-row .ensures)
+loop-again c =
+    let required = c .before .before .before .before .before .before .before .before .before .before .before .before .before .before .before .before .pre in
+    let stop-line-told = c .before .before .before .before .before .before .before .stop-line in
+    let turn = c .before .before .before .before .before .before .loop in
+    let test = c .before .before .before .before .before .loop-test in
+    let first-line-told = c .before .before .before .before .first-line in
+    let first-if = c .before .before .before .if1 in
+    checking-more (turn .inv) (test .taken) (first-line-told .ensures) (stop-line-told .ensures) (c .before .before .row-breaks .ensures) (required .1 .1 .0) (first-if .left) (c .before .if2 .left) (c .next-row .ensures)
 
 returns-3 : tie.Need-returns-3 Inv-loop μ-loop
 returns-3 c = checking-end (c .before .loop .inv) (c .loop-test .left)

@@ -13,7 +13,9 @@ returns : tie.Need-returns
 returns c = row-passed _ (c .before .before .before .before .before .before .before .before .before .before .pre .1 .1 .row) _ _ (c .before .kind-at .ensures) (c .if1 .taken)
 
 breaks-beside-requires : tie.Need-breaks-beside-requires
-breaks-beside-requires c κs = (c .before .before .before .before .before .before .before .before .before .before .pre .0, (c .before .before .before .before .before .before .before .before .before .before .pre .1 .0, reached-unbroken (c .before .before .before .before .before .before .before .before .before .before .pre .1 .0) (c .before .before .before .before .before .before .before .before .before .before .pre .1 .1) (c .before .kind-at .ensures) (c .if1 .left)))
+breaks-beside-requires c κs =
+    let required = c .before .before .before .before .before .before .before .before .before .before .pre in
+    (required .0, (required .1 .0, reached-unbroken (required .1 .0) (required .1 .1) (c .before .kind-at .ensures) (c .if1 .left)))
 
 returns-2 : tie.Need-returns-2
 returns-2 c = row-asked _ (c .before .before .before .before .before .before .before .before .before .before .before .pre .1 .1 .row) _ _ (sym (c .before .before .kind-at .ensures) ∙ c .before .if1 .left) (c .breaks-beside .ensures)

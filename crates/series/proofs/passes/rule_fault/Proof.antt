@@ -20,7 +20,9 @@ slice-aggregate-fill-prints-3 c = search needs
 
 fill-prints-requires : tie.Need-fill-prints-requires
 fill-prints-requires c κs =
-    (linked-at (c .before .before .before .before .before .before .before .before .before .before .pre .1 .0) (c .before .before .before .before .before .before .before .before .before .before .pre .0) (c .before .before .before .before .before .before .before .before .before .before .pre .1 .1 .0) (c .before .before .before .next-row .ensures) .tied, (omega arith, omega arith, omega arith))
+    let required = c .before .before .before .before .before .before .before .before .before .before .pre in
+    let next-row-told = c .before .before .before .next-row in
+    (linked-at (required .1 .0) (required .0) (required .1 .1 .0) (next-row-told .ensures) .tied, (omega arith, omega arith, omega arith))
 
 slice-aggregate-first-fault : tie.Need-slice-aggregate-first-fault
 slice-aggregate-first-fault c = search needs
@@ -30,8 +32,11 @@ slice-aggregate-first-fault-2 c = search needs
 
 first-fault-requires : tie.Need-first-fault-requires
 first-fault-requires c κs =
-    let pre = c .before .before .before .before .before .before .before .before .before .before .before .before .before .before .before .before .pre in
-    (pre .0, (c .before .before .before .before .before .before .before .before .before .next-row .ensures, (linked-at (pre .1 .0) (pre .0) (pre .1 .1 .0) (c .before .before .before .before .before .before .before .before .before .next-row .ensures), (c .before .before .before .before .before .fill-prints .ensures, pre .1 .1 .1))))
+    let required = c .before .before .before .before .before .before .before .before .before .before .before .before .before .before .before .before .pre in
+    let next-row-told = c .before .before .before .before .before .before .before .before .before .next-row in
+    let fill-prints-told = c .before .before .before .before .before .fill-prints in
+    let pre = required in
+    (pre .0, (next-row-told .ensures, (linked-at (pre .1 .0) (pre .0) (pre .1 .1 .0) (next-row-told .ensures), (fill-prints-told .ensures, pre .1 .1 .1))))
 
 returns : tie.Need-returns
 returns c = c .first-fault .ensures

@@ -14,7 +14,9 @@ abbrev μ-loop : tie.MeasureT-loop
 μ-loop prints₀ marks₀ notes₀ s index rows links m c k₀ prints marks notes k = m - k
 
 loop-holds : tie.Need-loop-holds Inv-loop μ-loop
-loop-holds c = printing-start _ _ _ _ (c .before .before .before .before .before .before .before .pre .1 .0) (c .before .before .before .before .before .before .before .pre .1 .1) (c .before .before .before .before .before .before .before .pre .1 .2)
+loop-holds c =
+    let required = c .before .before .before .before .before .before .before .pre in
+    printing-start _ _ _ _ (required .1 .0) (required .1 .1) (required .1 .2)
 
 row-print-requires : tie.Need-row-print-requires Inv-loop μ-loop
 row-print-requires c κs = c .before .before .before .before .before .before .before .before .before .pre .0 .each _ (c .loop-test .taken)
@@ -47,7 +49,11 @@ loop-less : tie.Need-loop-less Inv-loop μ-loop
 loop-less c = omega arith
 
 loop-again : tie.Need-loop-again Inv-loop μ-loop
-loop-again c = printing-more (c .before .before .before .before .loop .inv) (c .before .before .before .before .before .before .before .before .before .before .before .before .pre .0 .few) (c .before .before .before .loop-test .taken) (c .before .before .row-print .ensures) (c .before .note-place .ensures .0) (c .before .note-place .ensures .1)
+loop-again c =
+    let required = c .before .before .before .before .before .before .before .before .before .before .before .before .pre in
+    let turn = c .before .before .before .before .loop in
+    let test = c .before .before .before .loop-test in
+    printing-more (turn .inv) (required .0 .few) (test .taken) (c .before .before .row-print .ensures) (c .before .note-place .ensures .0) (c .before .note-place .ensures .1)
 
 same-length : tie.Need-same-length Inv-loop μ-loop
 same-length c = c .before .loop .inv .so-far .room ∙ sym (c .before .before .before .before .before .before .before .before .before .pre .1 .0)

@@ -22,7 +22,12 @@ enum-known-uid : tie.Need-enum-known-uid
 enum-known-uid c = search needs
 
 uid-at-requires : tie.Need-uid-at-requires
-uid-at-requires c κs = (c .before .before .before .before .before .before .before .before .before .before .pre .uids (sym (c .before .before .before .before .before .kind-at .ensures) ∙ c .before .before .before .before .if1 .left) .indexed, print-there (c .before .before .before .before .before .before .before .before .before .before .pre) (c .before .before .before .link-at .ensures) (c .before .before .before .before .before .kind-at .ensures) (c .before .before .before .before .if1 .left) (c .before .uid .given .1))
+uid-at-requires c κs =
+    let required = c .before .before .before .before .before .before .before .before .before .before .pre in
+    let kind-at-told = c .before .before .before .before .before .kind-at in
+    let first-if = c .before .before .before .before .if1 in
+    let link-at-told = c .before .before .before .link-at in
+    (required .uids (sym (kind-at-told .ensures) ∙ first-if .left) .indexed, print-there (required) (link-at-told .ensures) (kind-at-told .ensures) (first-if .left) (c .before .uid .given .1))
 
 print-of-requires : tie.Need-print-of-requires
 print-of-requires c κs = search needs
@@ -31,13 +36,27 @@ enum-told-2 : tie.Need-enum-told-2
 enum-told-2 c = search needs
 
 returns-2 : tie.Need-returns-2
-returns-2 c = print-none (c .before .before .before .before .before .before .before .before .before .pre) (c .before .before .link-at .ensures) (c .before .before .before .before .kind-at .ensures) (c .before .before .before .if1 .left) (c .enum-told .given .1)
+returns-2 c =
+    let required = c .before .before .before .before .before .before .before .before .before .pre in
+    let kind-at-told = c .before .before .before .before .kind-at in
+    let first-if = c .before .before .before .if1 in
+    print-none (required) (c .before .before .link-at .ensures) (kind-at-told .ensures) (first-if .left) (c .enum-told .given .1)
 
 returns-3 : tie.Need-returns-3
-returns-3 c = print-one (c .before .before .before .before .before .before .before .before .before .before .before .before .pre) (c .before .before .before .before .before .link-at .ensures) (c .before .before .before .before .before .before .before .kind-at .ensures) (c .before .before .before .before .before .before .if1 .left) (c .before .before .before .uid .given .1) (c .before .uid-at .ensures) (c .print-of .ensures)
+returns-3 c =
+    let required = c .before .before .before .before .before .before .before .before .before .before .before .before .pre in
+    let kind-at-told = c .before .before .before .before .before .before .before .kind-at in
+    let first-if = c .before .before .before .before .before .before .if1 in
+    let link-at-told = c .before .before .before .before .before .link-at in
+    let uid-told = c .before .before .before .uid in
+    print-one (required) (link-at-told .ensures) (kind-at-told .ensures) (first-if .left) (uid-told .given .1) (c .before .uid-at .ensures) (c .print-of .ensures)
 
 returns-4 : tie.Need-returns-4
-returns-4 c = print-several (c .before .before .before .before .before .before .before .before .before .pre) (c .before .before .link-at .ensures) (c .before .before .before .before .kind-at .ensures) (c .before .before .before .if1 .left) (c .enum-told2 .given .1)
+returns-4 c =
+    let required = c .before .before .before .before .before .before .before .before .before .pre in
+    let kind-at-told = c .before .before .before .before .kind-at in
+    let first-if = c .before .before .before .if1 in
+    print-several (required) (c .before .before .link-at .ensures) (kind-at-told .ensures) (first-if .left) (c .enum-told2 .given .1)
 
 pub row-print-spec : {M : Type 1} → statement M
 row-print-spec =

@@ -16,7 +16,10 @@ slice-aggregate-sort : tie.Need-slice-aggregate-sort
 slice-aggregate-sort c = sym (front-long (c .before .before .before .store-removed .ensures))
 
 sort-requires : tie.Need-sort-requires
-sort-requires c κs = omega (arith, front-long (c .before .before .before .before .store-removed .ensures), c .before .before .before .before .store-removed .ensures .within, c .before .before .before .before .before .before .before .before .before .before .before .before .before .pre .1 .1)
+sort-requires c κs =
+    let required = c .before .before .before .before .before .before .before .before .before .before .before .before .before .pre in
+    let store-removed-told = c .before .before .before .before .store-removed in
+    omega (arith, front-long (store-removed-told .ensures), store-removed-told .ensures .within, required .1 .1)
 
 same-length : tie.Need-same-length
 same-length c = ordered-long (c .before .before .before .before .before .before .before .before .before .store-removed .ensures) (c .before .before .before .before .sort .ensures)

@@ -11,22 +11,33 @@ enum-known-uid : tie.Need-enum-known-uid
 enum-known-uid c = search needs
 
 uid-at-requires : tie.Need-uid-at-requires
-uid-at-requires c κs = (c .before .before .before .before .before .before .before .before .before .pre .0 .tied .each _ (c .before .before .before .before .before .before .before .before .before .pre .0 .there) .uids (c .before .before .before .before .before .before .before .before .before .pre .0 .is-event) .indexed, stored-there (c .before .before .before .before .before .before .before .before .before .pre .0) (c .before .before .before .before .before .before .before .before .before .pre .1 .0) (c .before .uid .given .1))
+uid-at-requires c κs =
+    let required = c .before .before .before .before .before .before .before .before .before .pre in
+    (required .0 .tied .each _ (required .0 .there) .uids (required .0 .is-event) .indexed, stored-there (required .0) (required .1 .0) (c .before .uid .given .1))
 
 store-moved-requires : tie.Need-store-moved-requires
-store-moved-requires c κs = (c .before .before .before .before .before .before .before .before .before .before .before .pre .0 .tied, (c .before .before .before .before .before .before .before .before .before .before .before .pre .0 .one-each, c .before .before .before .before .before .before .before .before .before .before .before .pre .1 .1))
+store-moved-requires c κs =
+    let required = c .before .before .before .before .before .before .before .before .before .before .before .pre in
+    (required .0 .tied, (required .0 .one-each, required .1 .1))
 
 enum-told-2 : tie.Need-enum-told-2
 enum-told-2 c = search needs
 
 returns : tie.Need-returns
-returns c = stored-none (c .before .before .before .before .before .before .before .before .pre .0) (c .before .before .before .before .before .before .before .before .pre .1 .0) _ _ (c .before .before .before .before .before .before .before .before .pre .1 .1) (c .enum-told .given .1)
+returns c =
+    let required = c .before .before .before .before .before .before .before .before .pre in
+    stored-none (required .0) (required .1 .0) _ _ (required .1 .1) (c .enum-told .given .1)
 
 same-length : tie.Need-same-length
 same-length c = search needs
 
 returns-2 : tie.Need-returns-2
-returns-2 c = stored-one (c .before .before .before .before .before .before .before .before .before .before .before .before .before .before .pre .0) (c .before .before .before .before .before .before .before .before .before .before .before .before .before .before .pre .1 .0) (c .before .before .before .before .before .before .uid .given .1) (c .before .before .before .before .before .before .before .before .before .before .before .before .before .before .pre .1 .1) (c .before .before .before .before .uid-at .ensures) (c .before .before .store-moved .ensures)
+returns-2 c =
+    let required = c .before .before .before .before .before .before .before .before .before .before .before .before .before .before .pre in
+    let uid-told = c .before .before .before .before .before .before .uid in
+    let uid-at-told = c .before .before .before .before .uid-at in
+    let store-moved-told = c .before .before .store-moved in
+    stored-one (required .0) (required .1 .0) (uid-told .given .1) (required .1 .1) (uid-at-told .ensures) (store-moved-told .ensures)
 
 returns-3 : tie.Need-returns-3
 returns-3 c = stored-several (c .before .before .before .before .before .before .before .before .pre .0) (c .before .before .before .before .before .before .before .before .pre .1 .0) _ _ (c .enum-told2 .given .1)

@@ -27,13 +27,23 @@ part-store-seconds-end : tie.Need-part-store-seconds-end
 part-store-seconds-end c = omega (arith, part-there (c .before .before .before .before .before .before .before .before .before .before .pre .0) (c .before .before .before .link-at .ensures))
 
 store-seconds-requires : tie.Need-store-seconds-requires
-store-seconds-requires c κs = omega (arith, part-room (c .before .before .before .before .before .before .before .before .before .before .before .pre .0) (c .before .before .before .before .link-at .ensures) (c .before .before .before .before .before .before .before .before .before .before .before .pre .1), part-long (c .before .before .before .before .before .before .before .before .before .before .before .pre .0) (c .before .before .before .before .link-at .ensures))
+store-seconds-requires c κs =
+    let required = c .before .before .before .before .before .before .before .before .before .before .before .pre in
+    let link-at-told = c .before .before .before .before .link-at in
+    omega (arith, part-room (required .0) (link-at-told .ensures) (required .1), part-long (required .0) (link-at-told .ensures))
 
 sub-store-named : tie.Need-sub-store-named
-sub-store-named c = omega (arith, part-there (c .before .before .before .before .before .before .before .before .before .before .before .before .before .before .before .pre .0) (c .before .before .before .before .before .before .before .before .link-at .ensures))
+sub-store-named c =
+    let required = c .before .before .before .before .before .before .before .before .before .before .before .before .before .before .before .pre in
+    let link-at-told = c .before .before .before .before .before .before .before .before .link-at in
+    omega (arith, part-there (required .0) (link-at-told .ensures))
 
 store-named-requires : tie.Need-store-named-requires
-store-named-requires c κs = (c .before .before .before .before .before .before .before .before .before .before .before .before .before .before .before .pre .0, (uid-same (c .before .before .before .before .before .before .before .before .before .before .before .before .before .before .before .pre .0) (c .before .before .before .before .before .before .before .before .link-at .ensures), omega (arith, part-room (c .before .before .before .before .before .before .before .before .before .before .before .before .before .before .before .pre .0) (c .before .before .before .before .before .before .before .before .link-at .ensures) (c .before .before .before .before .before .before .before .before .before .before .before .before .before .before .before .pre .1), simp length-sets at (ap length (c .before .before .before .store-seconds .ensures)))))
+store-named-requires c κs =
+    let required = c .before .before .before .before .before .before .before .before .before .before .before .before .before .before .before .pre in
+    let link-at-told = c .before .before .before .before .before .before .before .before .link-at in
+    let store-seconds-told = c .before .before .before .store-seconds in
+    (required .0, (uid-same (required .0) (link-at-told .ensures), omega (arith, part-room (required .0) (link-at-told .ensures) (required .1), simp length-sets at (ap length (store-seconds-told .ensures)))))
 
 enum-told-2 : tie.Need-enum-told-2
 enum-told-2 c = search needs
@@ -45,7 +55,13 @@ same-length : tie.Need-same-length
 same-length c = search needs
 
 returns : tie.Need-returns
-returns c = removed-master (c .before .before .before .before .before .before .before .before .before .before .before .before .before .before .before .before .before .before .pre .0) (c .before .before .before .before .before .before .before .before .before .before .before .link-at .ensures) (c .before .before .before .before .before .before .before .before .before .enum-told .given .1) (c .before .before .before .before .before .before .store-seconds .ensures) (c .before .before .store-named .ensures)
+returns c =
+    let required = c .before .before .before .before .before .before .before .before .before .before .before .before .before .before .before .before .before .before .pre in
+    let link-at-told = c .before .before .before .before .before .before .before .before .before .before .before .link-at in
+    let enum-told-told = c .before .before .before .before .before .before .before .before .before .enum-told in
+    let store-seconds-told = c .before .before .before .before .before .before .store-seconds in
+    let store-named-told = c .before .before .store-named in
+    removed-master (required .0) (link-at-told .ensures) (enum-told-told .given .1) (store-seconds-told .ensures) (store-named-told .ensures)
 
 returns-2 : tie.Need-returns-2
 returns-2 c = removed-override (c .before .before .before .before .before .before .before .before .before .pre .0) (c .before .before .link-at .ensures) _ (c .enum-told2 .given .1)

@@ -14,7 +14,10 @@ enum-known-uid : tie.Need-enum-known-uid
 enum-known-uid c = search needs
 
 uid-at-requires : tie.Need-uid-at-requires
-uid-at-requires c κs = (c .before .before .before .before .before .before .before .before .before .pre .indexed, one-there (c .before .before .before .before .before .before .before .before .before .pre) (c .before .before .before .link-at .ensures) (c .before .uid .given .1))
+uid-at-requires c κs =
+    let required = c .before .before .before .before .before .before .before .before .before .pre in
+    let link-at-told = c .before .before .before .link-at in
+    (required .indexed, one-there (required) (link-at-told .ensures) (c .before .uid .given .1))
 
 same-bytes-requires : tie.Need-same-bytes-requires
 same-bytes-requires c κs = search needs
@@ -29,7 +32,11 @@ returns : tie.Need-returns
 returns c = none-has (c .before .before .before .before .before .before .before .before .pre) (c .before .before .link-at .ensures) _ (c .enum-told .given .1)
 
 returns-2 : tie.Need-returns-2
-returns-2 c = one-has (c .before .before .before .before .before .before .before .before .before .before .before .pre) (c .before .before .before .before .before .link-at .ensures) _ (c .before .before .before .uid .given .1) (c .before .uid-at .ensures) (c .same-bytes .ensures)
+returns-2 c =
+    let required = c .before .before .before .before .before .before .before .before .before .before .before .pre in
+    let link-at-told = c .before .before .before .before .before .link-at in
+    let uid-told = c .before .before .before .uid in
+    one-has (required) (link-at-told .ensures) _ (uid-told .given .1) (c .before .uid-at .ensures) (c .same-bytes .ensures)
 
 returns-3 : tie.Need-returns-3
 returns-3 c = lines-tell _ _ _ _ _ (c .lines-have .ensures)

@@ -24,7 +24,11 @@ same-bytes-requires : tie.Need-same-bytes-requires
 same-bytes-requires c κs = search needs
 
 returns : tie.Need-returns
-returns c = line-uid _ _ _ _ (c .before .before .before .before .before .before .line-at .ensures) (c .before .before .before .before .property-value .ensures) (c .before .before .before .is-uid .ensures) (c .before .before .if1 .taken) (c .before .value-behind .ensures) (c .same-bytes .ensures)
+returns c =
+    let line-at-told = c .before .before .before .before .before .before .line-at in
+    let property-value-told = c .before .before .before .before .property-value in
+    let is-uid-told = c .before .before .before .is-uid in
+    line-uid _ _ _ _ (line-at-told .ensures) (property-value-told .ensures) (is-uid-told .ensures) (c .before .before .if1 .taken) (c .before .value-behind .ensures) (c .same-bytes .ensures)
 
 returns-2 : tie.Need-returns-2
 returns-2 c = line-no-uid _ _ _ _ (c .before .before .before .before .line-at .ensures) (c .before .before .property-value .ensures) (c .before .is-uid .ensures) (c .if1 .left)

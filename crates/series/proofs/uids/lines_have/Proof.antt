@@ -40,7 +40,10 @@ enum-told : tie.Need-enum-told Inv-loop μ-loop
 enum-told c = search needs
 
 line-has-requires : tie.Need-line-has-requires Inv-loop μ-loop
-line-has-requires c κs = (c .before .before .before .before .before .before .before .before .before .before .before .pre .0, asked-entry (c .before .before .before .loop .inv) (c .before .before .item-at .ensures) (c .enum-told .given .1) (c .before .before .before .before .before .before .before .before .before .before .before .pre .1 .0))
+line-has-requires c κs =
+    let required = c .before .before .before .before .before .before .before .before .before .before .before .pre in
+    let turn = c .before .before .before .loop in
+    (required .0, asked-entry (turn .inv) (c .before .before .item-at .ensures) (c .enum-told .given .1) (required .1 .0))
 
 returns : tie.Need-returns Inv-loop μ-loop
 returns c = asked-found (c .before .before .before .before .before .loop .inv) (c .before .before .before .before .item-at .ensures) (c .before .before .enum-told .given .1) (c .before .line-has .ensures) (c .if1 .taken)
