@@ -1,7 +1,6 @@
 // Refusals 1 to 3 and 6 to 11 of a report, then its period tables: what a report is written from.
 // Nothing is written but the work buffer and the columns of the tables.
 use calendar::Fault;
-use contents::instances;
 use contents::walks;
 use nesting::Structure;
 use refusals::OffsetRead;
@@ -110,7 +109,7 @@ fn collect_stored(
     match f {
         Fault::At(k, line) => refused(Fault::At(k, line)),
         Fault::None => {
-            let n = instances::store_instances(
+            let n = event_pieces::store_instances(
                 column,
                 stated,
                 entries,

@@ -4,13 +4,11 @@ use mathlib.Core.Path.{_≡_, refl, sym, ap, subst, _∙_}
 use mathlib.Core.Bool.{Bool, true, false, cond, _||_}
 use mathlib.Core.List.{List, [], _∷_, _++_, append-nil, List·Memᴰ, List·Memᴰ·head}
 use native.Mathlib.Omega.{arith}
-use borrow.Author.Tests.{ne-eqb, ltb-true, ltb-false}
-use lib.Dec.{eqb, ltb}
+use borrow.Author.Tests.{ltb-true, ltb-false}
+use lib.Dec.{ltb}
 use lib.ListN.{length, getD}
 use lib.Seq.{sets, length-sets}
 use Rattle.ascii.proofs.Bools.{clash, or-by-right}
-use Rattle.line.specs.Reading.{lineOf, valueOf}
-use Rattle.delimiters.specs.Innermost.{isEvent, isFreeBusy}
 use Rattle.values.specs.declared.times.Context.{Context}
 use Rattle.property.specs.Properties.{propertyOf, valueAs, beforeItems, withItems, propertyValueOf}
 use Rattle.property.specs.declared.PropertyValue.{PropertyValue}
@@ -19,28 +17,25 @@ use Rattle.periods.specs.BusyTypes.{BusyPeriod}
 use Rattle.nesting.specs.Components.{Numbered, Component, propertiesIn}
 use Rattle.nesting.specs.Files.{treeIn}
 use Rattle.nesting.specs.declared.Structure.{Structure}
-use Rattle.index.specs.Index.{lineBytes}
-use Rattle.structure.specs.Rows.{kindOf, numberedLine, RowOf, componentBy, componentsBy, BelowAt, FileRows}
+use Rattle.structure.specs.Rows.{numberedLine, RowOf, componentBy, componentsBy, BelowAt, FileRows}
 use Rattle.structure.specs.Reading.{StructureRead}
 use Rattle.structure.proofs.ItemsLaws.{items-rise}
 use Rattle.structure.proofs.RowsLaws.{components-none, NextBelow, below-next, file-kind, file-below, file-below-at}
-use Rattle.events.specs.Events.{eventBy, blockBy, Entry, event, block}
+use Rattle.events.specs.Events.{eventBy, blockBy, event, block}
 use Rattle.events.specs.EntryRows.{eventRow, blockRow, eventAt, blockAt, EntryPut}
 use Rattle.events.specs.declared.ComponentProperties.{ComponentProperties}
 use Rattle.events.specs.declared.Event.{Event}
 use Rattle.events.specs.declared.EventRead.{EventRead}
 use Rattle.events.specs.declared.Block.{Block}
 use Rattle.events.specs.declared.BlockRead.{BlockRead}
-use Rattle.events.specs.Sizes.{EventSmall}
 use Rattle.events.proofs.EntryRows.{event-put, block-put, event-kept, block-kept}
 use Rattle.calendar.specs.Checks.{ruleElse}
 use Rattle.calendar.specs.Checks.{faultElse}
-use Rattle.calendar.specs.Meaning.{Meaning, scopeOf, componentScope, faultOr, faultIn, valueFault, eventOf, blockOf, blockBroken, brokenOr, ruleFault, blockPeriods, removedFrom, eventEntry, blockEntry, entryOf, entriesAmong, entriesOf, componentsOf, fileLines, byRules, byValues, contentsOf, faultOf, structureFault, structureRefusal}
+use Rattle.calendar.specs.Meaning.{componentScope, faultOr, faultIn, valueFault, eventOf, blockOf, blockBroken, brokenOr, blockPeriods, removedFrom, eventEntry, blockEntry, entryOf, entriesAmong, entriesOf, componentsOf, fileLines, structureFault, structureRefusal}
 use Rattle.calendar.proofs.Meaning.{structure-refusal, no-refusal}
 use Rattle.calendar.specs.declared.ValueCheck.{ValueCheck}
 use Rattle.calendar.specs.declared.RuleCheck.{RuleCheck}
 use Rattle.calendar.specs.declared.Fault.{Fault}
-use Rattle.calendar.proofs.Meaning.{eventOf-small}
 use Rattle.calendar.proofs.Checks.{faultIn-else}
 use Rattle.pieces.specs.BusyPeriods.{statedPeriods, gathered}
 use Rattle.pieces.specs.Pieces.{piecesOf}
@@ -48,7 +43,7 @@ use Rattle.pieces.specs.Columns.{Stored, Room}
 use Rattle.pieces.proofs.BusyPeriods.{gathered-append}
 use Rattle.pieces.proofs.Columns.{stored-none, stored-as, stored-few}
 use Rattle.pieces.proofs.Pieces.{piecesOf-none, piecesOf-append}
-use Rattle.contents.specs.Lines.{together, linesFault, LinesGood}
+use Rattle.component_lines.specs.Lines.{together, linesFault, LinesGood}
 use Rattle.text.specs.Lines.{part}
 use Rattle.values.specs.TimeLists.{secondsOf}
 use Rattle.values.specs.declared.times.Time.{Time}
@@ -66,56 +61,17 @@ use Rattle.calendar.specs.Identities.{exceptionsBy, exceptionsIn, identityIn, i
 use Rattle.calendar.specs.Passes.{brokenAlone, aloneFault}
 use Rattle.calendar.specs.Meaning.{vEventOf}
 use Rattle.series.specs.Identities.{UidTies, RecurrenceTies, Ties}
-use Rattle.contents.specs.Identities.{excludedIn, LinesTie}
+use Rattle.component_lines.specs.Identities.{excludedIn, LinesTie}
 use Rattle.contents.specs.Alone.{aloneBy}
 use Rattle.series.specs.LinkRows.{gatheredIn, linkFrom, LinkStands}
-use Rattle.contents.specs.Contents.{componentFault, statedIn, secondsIn, EntryStands, EventLinked, Linked, ExcludedRoom, IdentitySmall, EventEntered, EntryTerms, EntryGood, EntryBroken, EntryIs, entry-good, entry-broken, entry-unsupported, entry-bad, ContentsAre}
+use Rattle.contents.specs.Contents.{componentFault, statedIn, secondsIn, EntryStands, Linked, ExcludedRoom, IdentitySmall, EventEntered, EntryTerms, EntryGood, EntryBroken, EntryIs, entry-good, entry-broken, entry-unsupported, entry-bad, ContentsAre}
 use Rattle.contents.specs.declared.EntryRead.{EntryRead}
 use Rattle.contents.specs.declared.ContentsRead.{ContentsRead}
-use Rattle.contents.proofs.LinesStoring.{Left, left-start, left-then, left-none}
-use Rattle.contents.proofs.LinesLaws.{periods-event, periods-block}
+use Rattle.component_lines.proofs.LinesStoring.{Left, left-start, left-then, left-none}
+use Rattle.component_lines.proofs.Lines.{periods-event, periods-block}
 use Rattle.contents.proofs.AloneLaws.{alone-tied}
 use Rattle.contents.proofs.ExcludedLaws.{part-kept, part-here}
-
--- ---- what a component is
-
-scopeBy : ℕ → Scope
-scopeBy t = cond (eqb t 1) Scope.Event (cond (eqb t 2) Scope.FreeBusy Scope.Other)
-
-scope-kind : (v : List ℕ) → scopeOf v ≡ scopeBy (kindOf v)
-unfolding scopeOf kindOf scopeBy
-scope-kind v = go (isEvent v) (isFreeBusy v)
-  where
-    go : (x y : Bool) → cond x Scope.Event (cond y Scope.FreeBusy Scope.Other)
-        ≡ cond (eqb (cond x 1 (cond y 2 0)) 1) Scope.Event (cond (eqb (cond x 1 (cond y 2 0)) 2) Scope.FreeBusy Scope.Other)
-    go true y = refl
-    go false true = refl
-    go false false = refl
-
-module _ {s rows : List ℕ} {k : ℕ} (r : RowOf s rows k) {t : ℕ} (q : t ≡ getD rows (4 * k + 3) 0) where
-  row-scope : componentScope (componentBy s rows k) ≡ scopeBy t
-  unfolding componentScope componentBy numberedLine lineOf
-  row-scope = scope-kind (valueOf (lineBytes s (getD rows (4 * k) 0 - 1))) ∙ ap scopeBy (sym (q ∙ r .kind))
-
-  pub row-event : t ≡ 1 → componentScope (componentBy s rows k) ≡ Scope.Event
-  unfolding scopeBy
-  row-event e = row-scope ∙ ap scopeBy e
-
-  pub row-block : t ≡ 2 → componentScope (componentBy s rows k) ≡ Scope.FreeBusy
-  unfolding scopeBy
-  row-block e = row-scope ∙ ap scopeBy e
-
-  pub row-other : (t ≡ 1 → ⊥) → (t ≡ 2 → ⊥) → componentScope (componentBy s rows k) ≡ Scope.Other
-  unfolding scopeBy
-  row-other x y = row-scope ∙ rw (ne-eqb t 1 x, ne-eqb t 2 y) refl
-
-abbrev scopeNumber : Scope → ℕ
-scopeNumber Scope.Event = 1
-scopeNumber Scope.FreeBusy = 2
-scopeNumber Scope.Other = 0
-
-scopes-apart : {A : Type 0} {o : Scope} (x y : Scope) → (scopeNumber x ≡ scopeNumber y → ⊥) → o ≡ x → o ≡ y → A
-scopes-apart x y f p q = absurd (f (ap scopeNumber (sym p ∙ q)))
+use Rattle.contents.proofs.RowKinds.{row-event, row-block, scopes-apart}
 
 -- ---- the periods that entries state
 

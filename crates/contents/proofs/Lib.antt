@@ -1,8 +1,5 @@
-pub mod LinesStoring
-pub mod LinesLaws
 pub mod ExcludedLaws
-pub mod IdentitiesLaws
 pub mod AloneLaws
+pub mod RowKinds
 pub mod Contents
-pub mod Removed
 pub mod WalksLaws

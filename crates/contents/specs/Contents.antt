@@ -25,10 +25,10 @@ use Rattle.pieces.specs.BusyPeriods.{statedPeriods, gathered}
 use Rattle.pieces.specs.Pieces.{piecesOf}
 use Rattle.pieces.specs.Columns.{Stored}
 use Rattle.series.specs.Identities.{Ties}
-use Rattle.contents.specs.Identities.{excludedIn, RoomFrom}
+use Rattle.component_lines.specs.Identities.{excludedIn, RoomFrom}
 use Rattle.contents.specs.Alone.{aloneBy}
 use Rattle.series.specs.LinkRows.{gatheredIn, linkFrom, LinkRows}
-use Rattle.contents.specs.Lines.{linesFault}
+use Rattle.component_lines.specs.Lines.{linesFault}
 use Rattle.contents.specs.EntryRows.{EntryRows}
 use Rattle.contents.specs.declared.EntryRead.{EntryRead}
 use Rattle.contents.specs.declared.ContentsRead.{ContentsRead}

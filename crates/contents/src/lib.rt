@@ -1,20 +1,18 @@
 // The components right below VCALENDAR, each read once: refusals 8 to 10, the event or block as a row of numbers, and the busy pieces of stated periods.
 // Lines and components are found by index and rows.
 pub mod alone;
-pub mod instances;
-pub mod lines;
 pub mod linking;
 pub mod walks;
 
 use calendar::RuleCheck;
 use calendar::ValueCheck;
 use calendar::faults;
+use component_lines::LinesRead;
 use events::BlockRead;
 use events::Event;
 use events::EventRead;
 use events::rules;
 use identities::IdentityRead;
-use lines::LinesRead;
 use property::Scope;
 use structure::rows;
 use values::times::Context;
@@ -104,7 +102,7 @@ fn read_event(
     requires { ⌜ (a < b) × (b ≤ lastSecond) ⌝ }
     ensures { λ r. ⌜ EntryIs c (now (s .entry)) (now (index .entry)) (componentBy (now (s .entry)) (now (rows .entry)) k) k (getD (now (rows .entry)) (4 * k + 1) 0 - 1) a b n held (record { pieces = now (column .entry); entries = now (entries .entry); excluded = now (exceptions .entry); links = now (links .entry) }) (record { pieces = now (column .exit); entries = now (entries .exit); excluded = now (exceptions .exit); links = now (links .exit) }) r ⌝ }
 {
-    match lines::read_lines(
+    match component_lines::read_lines(
         column,
         n,
         exceptions,
@@ -158,7 +156,7 @@ fn read_block(
     requires { ⌜ (a < b) × (b ≤ lastSecond) ⌝ }
     ensures { λ r. ⌜ EntryIs c (now (s .entry)) (now (index .entry)) (componentBy (now (s .entry)) (now (rows .entry)) k) k (getD (now (rows .entry)) (4 * k + 1) 0 - 1) a b n held (record { pieces = now (column .entry); entries = now (entries .entry); excluded = now (exceptions .entry); links = now (links .entry) }) (record { pieces = now (column .exit); entries = now (entries .exit); excluded = now (exceptions .exit); links = now (links .exit) }) r ⌝ }
 {
-    match lines::read_lines(
+    match component_lines::read_lines(
         column,
         n,
         exceptions,

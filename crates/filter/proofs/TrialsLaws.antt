@@ -29,7 +29,7 @@ use Rattle.seconds.specs.Seconds.{among}
 use Rattle.nesting.specs.Files.{treeIn}
 use Rattle.calendar.specs.Meaning.{componentScope, eventOf, blockPeriods, removedFrom, componentsOf, fileLines}
 use Rattle.series.specs.Columns.{goneAt, RemovedRows}
-use Rattle.contents.proofs.Removed.{row-same}
+use Rattle.contents.proofs.RowKinds.{row-same}
 use Rattle.calendar.proofs.Meaning.{eventOf-small}
 use Rattle.recurrence.specs.TimeRange.{endsAfter, instanceIn, blockIn}
 use Rattle.recurrence.specs.Candidates.{FirstCandidate, MoreCandidates}

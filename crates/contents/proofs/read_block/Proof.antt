@@ -1,6 +1,6 @@
 -- `contents::read_block` meets its contract: as for an event, and its pieces are stored already.
 use Rattle.contents.specs.Contents.{entry-unsupported, entry-bad}
-use Rattle.contents.proofs.LinesLaws.{lines-of, lines-tie, lines-unsupported, lines-bad}
+use Rattle.component_lines.proofs.Lines.{lines-of, lines-tie, lines-unsupported, lines-bad}
 use Rattle.contents.proofs.Contents.{lines-fault, block-good, block-broken}
 use native.Mathlib.Omega.{arith}
 use borrow.Author.Needs.{needs}

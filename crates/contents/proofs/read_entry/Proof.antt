@@ -1,5 +1,6 @@
 -- `contents::read_entry` meets its contract: what a component is decides how it is read, and of any other nothing is.
-use Rattle.contents.proofs.Contents.{row-event, row-block, row-other, other-good}
+use Rattle.contents.proofs.RowKinds.{row-event, row-block, row-other}
+use Rattle.contents.proofs.Contents.{other-good}
 use borrow.Author.Needs.{needs}
 use Rattle.contents.proofs.read_entry.Statement.{statement}
 use Rattle.contents.proofs.read_entry.Tie as tie

@@ -2,7 +2,7 @@
 use mathlib.Core.Path.{refl}
 use mathlib.Core.Bool.{true}
 use Rattle.contents.specs.Contents.{IdentitySmall, entry-unsupported, entry-bad}
-use Rattle.contents.proofs.LinesLaws.{lines-of, lines-tie, lines-unsupported, lines-bad}
+use Rattle.component_lines.proofs.Lines.{lines-of, lines-tie, lines-unsupported, lines-bad}
 use Rattle.contents.proofs.Contents.{identity-fits, lines-fault, event-entered, event-broken}
 use native.Mathlib.Omega.{arith}
 use borrow.Author.Needs.{needs}

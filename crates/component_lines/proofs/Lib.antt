@@ -1,0 +1,3 @@
+pub mod LinesStoring
+pub mod Lines
+pub mod Identities
