@@ -49,7 +49,7 @@ use Rattle.overrides.specs.Instances.{numberAt, namesInstance, movedFrom, remov
 use Rattle.calendar.specs.Meaning.{Meaning, fault, calendar, scopeOf, componentScope, propertyValuesIn, faultOr, faultIn, valueFault, eventOf, blockOf, vEventsAs, vEvents, vEventOf, breaksRule, brokenOr, firstFault, ruleFault, periodsBy, blockPeriods, removedFrom, entryOf, entriesAmong, entriesOf, fileLines, componentsOf, byRules, byValues, byLines, contentsOf, meaningOf}
 use Rattle.recurrence.specs.Candidates.{firstAt, spanOf, candidateOf, startsBefore}
 use Rattle.seconds.specs.Seconds.{among}
-use Rattle.recurrence.specs.Instances.{stepOf, startOf, repeats, isInstance, occurs, defaultLength, lengthBy, isZeroLength, endOf}
+use Rattle.recurrence.specs.Instances.{utcClockOf, clockAmong, stepOf, startOf, repeats, isInstance, occurs, defaultLength, lengthBy, isZeroLength, endOf}
 use Rattle.recurrence.specs.TimeRange.{EventIn, Decides, overlaps, endsAfter, instanceIn, betweenIn, periodsOverlap, boundsIn, blockIn}
 use Rattle.recurrence.proofs.Instances.{none-stands}
 use Rattle.recurrence.proofs.Candidates.{before-candidate, none-after, search-finds, search-ends}
@@ -86,13 +86,13 @@ same-periods (p ∷ ps) (q ∷ qs) h =
 
 -- ---- the last instance
 
-last-by : (e : Event) (k s : ℕ) → (occurs e [] k && (eqb (startOf e k) s && not (isInstance e (k + 1)))) ≡ true → Last e k s
+last-by : (e : Event) (k s : ℕ) → (occurs e [] k && (eqb (startOf e k) (utcClockOf s) && not (isInstance e (k + 1)))) ≡ true → Last e k s
 last-by e k s h =
     let m = and-right (occurs e [] k) _ h in
     record {
       there = and-left (occurs e [] k) _ h;
-      starts = eqb-true _ s (and-left (eqb (startOf e k) s) _ m);
-      none-later = λ j p. none-stands e [] (k + 1) (not-true _ (and-right (eqb (startOf e k) s) _ m)) j (omega arith);
+      starts = eqb-true _ (utcClockOf s) (and-left (eqb (startOf e k) (utcClockOf s)) _ m);
+      none-later = λ j p. none-stands e [] (k + 1) (not-true _ (and-right (eqb (startOf e k) (utcClockOf s)) _ m)) j (omega arith);
     }
 
 -- ---- what a calendar means
@@ -192,7 +192,7 @@ in-range a b false e h =
     search-ends _ (before-candidate e a some-step [] b) (none-after e b _ (not-true _ (and-left _ (ltb 0 (stepOf e)) h)) [] a)
 
 isLast : ℕ → ℕ → Event → Bool
-isLast k s e = occurs e [] k && (eqb (startOf e k) s && not (isInstance e (k + 1)))
+isLast k s e = occurs e [] k && (eqb (startOf e k) (utcClockOf s) && not (isInstance e (k + 1)))
 
 is-last : (k s : ℕ) (e : Event) → isLast k s e ≡ true → Last e k s
 unfolding isLast
@@ -252,5 +252,5 @@ all-hold (c ∷ cs) h = (sound c (and-left (test c) (tests cs) h), all-hold cs (
 
 -- document 01, Examples at the edges, and R-2: every row holds
 pub edges : All table
-unfolding table calendarBytes meaningWith eventWith blockWith startingAt lasting isFault startsAt hasLength ofEvent ofBlock ofEntries inRange inBlock isLast hasPeriods tests test isUtc samePeriod samePeriods isDigit upper sameName firstOutside before after splitParts headOf valueOf nameOf parameterTexts lineOf parametersNamed someList hasParameter hasTwice hasList digitPair pairAt joined yearAt checkedDay three dateAt checkedTime timeAt clockOf clockAt readDateTime isLeap yearDays daysBeforeYear monthLengths lengthIn beforeIn monthDays daysBeforeMonth dayNumber isDay timeStart nextStage weightOf blank withDigit fitting unitTo withUnit step textRuns finish durationText durationSeconds withinLimit limited readDuration epoch since utcSecond propertyOf timeIn startBy unlessZoned durationBy valueAs propertyValueOf beforeItems withItems atSecond timeBy readTime formOf timeOf utcOnly reportPlace sameBusy faultOr byValues secondIn covers lead leadIf runs firstAt spanOf startsBefore stepOf startOf repeats among isInstance occurs defaultLength lengthBy isZeroLength endOf endsAfter instanceIn overlaps betweenIn periodsOverlap boundsIn blockIn statedPeriods instancePeriods gathered busyPeriods ofType coveredBy covered isLetter isNameByte isControl isName isBreak isBlank isFold unfolded cut contentLines scanStep isEnding scan isWellFormed lineCheckFrom lineCheck plainSplit valuesNamed firstValue delimiterOf isCalendar isEvent isFreeBusy mayBegin afterBegin afterEnd afterProperty walk outcome nestingOf delimitedFrom itemsOf treeOf componentsIn propertiesIn itemsBelow scopeOf componentScope propertyValuesIn faultIn valueFault eventOf blockOf vEventsAs vEvents vEventOf breaksRule brokenOr firstFault ruleFault periodsBy blockPeriods removedFrom entryOf entriesAmong entriesOf fileLines componentsOf byRules byLines contentsOf meaningOf noProperties timeGiven durationGiven ruleGiven withProperty withSpan withBusy withProperties kindNumber sameKind isDate statedEnd statedDuration endingBy limitBy repeatBy daysBy intervalBy busyByStatus busyBy eventMade eventEnding eventFrom eventBy blockBetween blockFrom blockBy endBy ruleValue busyNamed busyOf typeValue utcBy utcAt periodEnd periodTo periodFrom periodOf periodItems allPeriods goodPeriods numberTo frequencyPart intervalPart countBy namedPart partOf noParts withPart withParts ruleBy ruleOf decimal pooled hasRule otherKind overrideBreaks eventBreaks breaksAlone mastersClash overridesClash misnames misplaced overrideMisplaced breaksBeside breaks firstBroken brokenLine isMaster isOverride hasUid sharesUid masterOf uidsBy recurrenceIdsBy exceptionsBy uidsIn recurrenceIdsIn exceptionsIn identityIn identityOf removedAs faultOf structureFault recurrenceBy exceptionsBy′ unlessRanged statusNamed isStart givesPeriods timeItems allTimes goodTimes secondsOf kindNumber′ sameKind′ withKind withKinds numberAt namesInstance movedFrom removedFrom′ some isEmpty twoOrMore
+unfolding table calendarBytes meaningWith eventWith blockWith startingAt lasting isFault startsAt hasLength ofEvent ofBlock ofEntries inRange inBlock isLast hasPeriods tests test isUtc samePeriod samePeriods isDigit upper sameName firstOutside before after splitParts headOf valueOf nameOf parameterTexts lineOf parametersNamed someList hasParameter hasTwice hasList digitPair pairAt joined yearAt checkedDay three dateAt checkedTime timeAt clockOf clockAt readDateTime isLeap yearDays daysBeforeYear monthLengths lengthIn beforeIn monthDays daysBeforeMonth dayNumber isDay timeStart nextStage weightOf blank withDigit fitting unitTo withUnit step textRuns finish durationText durationSeconds withinLimit limited readDuration epoch since utcSecond propertyOf timeIn startBy unlessZoned durationBy valueAs propertyValueOf beforeItems withItems atSecond timeBy readTime formOf timeOf utcOnly reportPlace sameBusy faultOr byValues secondIn covers lead leadIf runs firstAt spanOf startsBefore stepOf startOf repeats among clockAmong isInstance occurs defaultLength lengthBy isZeroLength endOf endsAfter instanceIn overlaps betweenIn periodsOverlap boundsIn blockIn statedPeriods instancePeriods gathered busyPeriods ofType coveredBy covered isLetter isNameByte isControl isName isBreak isBlank isFold unfolded cut contentLines scanStep isEnding scan isWellFormed lineCheckFrom lineCheck plainSplit valuesNamed firstValue delimiterOf isCalendar isEvent isFreeBusy mayBegin afterBegin afterEnd afterProperty walk outcome nestingOf delimitedFrom itemsOf treeOf componentsIn propertiesIn itemsBelow scopeOf componentScope propertyValuesIn faultIn valueFault eventOf blockOf vEventsAs vEvents vEventOf breaksRule brokenOr firstFault ruleFault periodsBy blockPeriods removedFrom entryOf entriesAmong entriesOf fileLines componentsOf byRules byLines contentsOf meaningOf noProperties timeGiven durationGiven ruleGiven withProperty withSpan withBusy withProperties kindNumber sameKind isDate statedEnd statedDuration endingBy limitBy repeatBy daysBy intervalBy busyByStatus busyBy eventMade eventEnding eventFrom eventBy blockBetween blockFrom blockBy endBy ruleValue busyNamed busyOf typeValue utcBy utcAt periodEnd periodTo periodFrom periodOf periodItems allPeriods goodPeriods numberTo frequencyPart intervalPart countBy namedPart partOf noParts withPart withParts ruleBy ruleOf decimal pooled hasRule otherKind overrideBreaks eventBreaks breaksAlone mastersClash overridesClash misnames misplaced overrideMisplaced breaksBeside breaks firstBroken brokenLine isMaster isOverride hasUid sharesUid masterOf uidsBy recurrenceIdsBy exceptionsBy uidsIn recurrenceIdsIn exceptionsIn identityIn identityOf removedAs faultOf structureFault recurrenceBy exceptionsBy′ unlessRanged statusNamed isStart givesPeriods timeItems allTimes goodTimes secondsOf kindNumber′ sameKind′ withKind withKinds numberAt namesInstance movedFrom removedFrom′ some isEmpty twoOrMore
 edges = all-hold table refl

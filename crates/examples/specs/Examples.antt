@@ -17,7 +17,7 @@ use Rattle.events.specs.Events.{Entry, event, block}
 use Rattle.events.specs.declared.Event.{Event}
 use Rattle.events.specs.declared.Block.{Block}
 use Rattle.calendar.specs.Meaning.{Meaning, fault, calendar, meaningOf}
-use Rattle.recurrence.specs.Instances.{startOf, occurs, lengthBy}
+use Rattle.recurrence.specs.Instances.{utcClockOf, startOf, occurs, lengthBy}
 use Rattle.recurrence.specs.TimeRange.{EventIn, blockIn, Decides}
 use Rattle.pieces.specs.Covered.{covered}
 use Rattle.pieces.specs.Pieces.{busyPieces}
@@ -97,7 +97,7 @@ pub record Entries (m : Meaning) (P : List Entry → Type 0) : Type 0 where
 -- instance k stands and starts at s, and none after it stands
 pub record Last (e : Event) (k s : ℕ) : Type 0 where
   pub there : occurs e [] k ≡ true
-  pub starts : startOf e k ≡ s
+  pub starts : startOf e k ≡ utcClockOf s
   pub none-later : (j : ℕ) → k < j → occurs e [] j ≡ false
 
 abbrev pub Holds : Claim → Type 0

@@ -33,7 +33,7 @@ use Rattle.contents.proofs.RowKinds.{row-same}
 use Rattle.calendar.proofs.Meaning.{eventOf-small}
 use Rattle.recurrence.specs.TimeRange.{endsAfter, instanceIn, blockIn}
 use Rattle.recurrence.specs.Candidates.{FirstCandidate, MoreCandidates}
-use Rattle.recurrence.specs.Instances.{instancesAtMost, startOf}
+use Rattle.recurrence.specs.Instances.{instancesAtMost, utcClockOf, startOf}
 use Rattle.recurrence.proofs.Instances.{occurs-same}
 use Rattle.recurrence.proofs.Candidates.{search-finds, search-ends}
 use Rattle.recurrence.proofs.TimeRange.{decided-once}
@@ -224,7 +224,7 @@ some-same {f} {g} s (suc n) = ap (λ (x : Bool). x || f n) (some-same s n) ∙ a
 
 instance-same : (e : Event) (g h : List ℕ) → ((x : ℕ) → among x g ≡ among x h) → (a b k : ℕ) → instanceIn e g a b k ≡ instanceIn e h a b k
 unfolding instanceIn
-instance-same e g h s a b k = ap (λ (x : Bool). x && endsAfter e a k && ltb (startOf e k) b) (occurs-same e g h s k)
+instance-same e g h s a b k = ap (λ (x : Bool). x && endsAfter e a k && ltb (startOf e k) (utcClockOf b)) (occurs-same e g h s k)
 
 holds-same : (g h : List ℕ) → ((x : ℕ) → among x g ≡ among x h) → (t : Trial) → trialHolds g t ≡ trialHolds h t
 unfolding trialHolds

@@ -12,11 +12,13 @@ use Rattle.ascii.proofs.Bools.{and-left, and-right, clash}
 use Rattle.ascii.proofs.Names.{sameBytes-eq}
 use Rattle.seconds.specs.Seconds.{among}
 use Rattle.time.specs.Duration.{durationSeconds}
+use Rattle.time.specs.Limits.{epoch}
+use Rattle.time.specs.Days.{daysBeforeYear, yearDays, isLeap}
 use Rattle.periods.specs.BusyTypes.{isBusy}
 use Rattle.values.specs.TimeLists.{secondsOf, kindNumber, sameKind}
 use Rattle.events.specs.declared.Event.{Event}
 use Rattle.events.specs.declared.EventRead.{EventRead}
-use Rattle.recurrence.specs.Instances.{stepOf, startOf, repeats, isInstance, occurs, defaultLength, lengthBy, isZeroLength, endOf}
+use Rattle.recurrence.specs.Instances.{clockAmong, stepOf, startOf, repeats, isInstance, occurs, defaultLength, lengthBy, isZeroLength, endOf}
 use Rattle.recurrence.specs.TimeRange.{endsAfter, instanceIn, EventIn}
 use Rattle.recurrence.proofs.Instances.{none-stands}
 use Rattle.recurrence.proofs.TimeRange.{in-range-occurs}
@@ -121,5 +123,5 @@ all-hold (c ∷ cs) h = (sound c (and-left (test c) (tests cs) h), all-hold cs (
 
 -- every row
 pub edges : All table
-unfolding table overrideWith later movedTo override single plain wholeDays broken twoUids excluding master five once hour bare eventAt mornings date floating utc at startsIn startsOf startsFrom fileOf placed tests test allOutside isOutside noneIn isKept isBroken brokenLine firstBroken breaks breaksBeside overrideMisplaced misplaced misnames overridesClash mastersClash breaksAlone eventBreaks overrideBreaks otherKind hasRule removedFrom movedFrom namesInstance numberAt masterOf sharesUid hasUid isOverride isMaster twoOrMore isEmpty some instanceIn endsAfter endOf isZeroLength lengthBy defaultLength occurs isInstance repeats startOf stepOf sameKind kindNumber secondsOf isBusy durationSeconds among
+unfolding table overrideWith later movedTo override single plain wholeDays broken twoUids excluding master five once hour bare eventAt mornings date floating utc at startsIn startsOf startsFrom fileOf placed tests test allOutside isOutside noneIn isKept isBroken brokenLine firstBroken breaks breaksBeside overrideMisplaced misplaced misnames overridesClash mastersClash breaksAlone eventBreaks overrideBreaks otherKind hasRule removedFrom movedFrom namesInstance numberAt masterOf sharesUid hasUid isOverride isMaster twoOrMore isEmpty some instanceIn endsAfter endOf isZeroLength lengthBy defaultLength occurs isInstance repeats startOf stepOf sameKind kindNumber secondsOf isBusy durationSeconds among clockAmong epoch daysBeforeYear yearDays isLeap
 edges = all-hold table refl

@@ -17,8 +17,8 @@ use Rattle.values.specs.TimeLists.{secondsOf}
 use Rattle.values.specs.declared.times.Time.{Time}
 use Rattle.events.specs.declared.Event.{Event}
 use Rattle.events.specs.Sizes.{EventSmall}
-use Rattle.recurrence.specs.Instances.{stepOf, startOf, isInstance, occurs}
-use Rattle.recurrence.proofs.Instances.{instance-before, step-long}
+use Rattle.recurrence.specs.Instances.{utcClockOf, clockAmong, stepOf, startOf, isInstance, occurs}
+use Rattle.recurrence.proofs.Instances.{clock-among, eqb-clock, instance-before, step-long}
 use Rattle.overrides.specs.VEvents.{VEvent, isMaster, isOverride, sharesUid, Master, Override, SharesUid}
 use Rattle.overrides.specs.Instances.{numberAt, namesInstance, movedFrom, removedFrom, NamesInstance, Removed, excluded, moved}
 use Rattle.overrides.proofs.VEvents.{master-iff, override-iff, shares-iff}
@@ -45,9 +45,12 @@ division start step k s h = go (eqb step 0) refl
         let x : (s - start) / step ≡ k = ap (λ (n : ℕ). n / step) d ∙ mul-div-cancel k p in
         (omega arith, ap (λ (n : ℕ). start + n * step) x ∙ h)
 
-number-at : (e : Event) (k s : ℕ) → startOf e k ≡ s → (numberAt e s ≤ k) × (startOf e (numberAt e s) ≡ s)
+number-at : (e : Event) (k s : ℕ) → startOf e k ≡ utcClockOf s → (numberAt e s ≤ k) × (startOf e (numberAt e s) ≡ utcClockOf s)
 unfolding numberAt startOf
-number-at e k s h = division (e .start) (stepOf e) k s h
+number-at e k s h =
+    let by-seconds : e .start + k * stepOf e ≡ s = omega (arith, h) in
+    let d = division (e .start) (stepOf e) k s by-seconds in
+    (d .0, omega (arith, d .1))
 
 -- the division finds the instance, if there is one
 pub names-iff : (e : Event) (s : ℕ) → (namesInstance e s ≡ true) ↔ NamesInstance e s
@@ -57,17 +60,24 @@ names-iff e s = (
       record {
         number = numberAt e s;
         there = and-left (isInstance e (numberAt e s)) _ h;
-        starts = eqb-true _ s (and-right (isInstance e (numberAt e s)) _ h);
+        starts = eqb-true _ (utcClockOf s) (and-right (isInstance e (numberAt e s)) _ h);
       },
   λ n.
       let p = number-at e (n .number) s (n .starts) in
-      and-both (instance-before e (numberAt e s) (n .number) (p .0) (n .there)) (eq-eqb _ s (p .1)),
+      and-both (instance-before e (numberAt e s) (n .number) (p .0) (n .there)) (eq-eqb _ (utcClockOf s) (p .1)),
 )
+
+-- the code's test, by the second t at which the instance of that number starts
+pub names-by : (e : Event) (s d k t : ℕ) → d ≡ stepOf e → k ≡ (s - e .start) / d → startOf e k ≡ utcClockOf t → (isInstance e k && eqb t s) ≡ namesInstance e s
+unfolding namesInstance numberAt
+names-by e s d k t p q r =
+    ap (λ (x : Bool). isInstance e k && x) (sym (eqb-clock t s) ∙ ap (λ (n : ℕ). eqb n (utcClockOf s)) (sym r))
+    ∙ ap (λ (n : ℕ). isInstance e n && eqb (startOf e n) (utcClockOf s)) (q ∙ ap (λ (n : ℕ). (s - e .start) / n) p)
 
 -- a second before DTSTART names none
 pub before-start : (e : Event) (s : ℕ) → s < e .start → false ≡ namesInstance e s
 unfolding namesInstance startOf
-before-start e s h = sym (not-so _ (λ q. omega (arith, eqb-true _ s (and-right (isInstance e (numberAt e s)) _ q))))
+before-start e s h = sym (not-so _ (λ q. omega (arith, eqb-true _ (utcClockOf s) (and-right (isInstance e (numberAt e s)) _ q))))
 
 -- from 1970 to 2099 a number is small
 pub number-few : {e : Event} {s d : ℕ} → EventSmall e → s ≤ lastSecond → d ≡ stepOf e → (s - e .start) / d ≤ 100000
@@ -80,7 +90,7 @@ number-few {e} {s} {d} h p q =
 
 -- where nothing is, the rule alone decides
 pub nothing-removed : (e : Event) (k : ℕ) → occurs e [] k ≡ isInstance e k
-unfolding occurs among
+unfolding occurs clockAmong
 nothing-removed e k = go (isInstance e k)
   where
     go : (t : Bool) → (t && true) ≡ t
@@ -88,10 +98,10 @@ nothing-removed e k = go (isInstance e k)
     go false = refl
 
 -- an instance that starts at a removed second is not left
-pub removed-gone : (e : Event) (gone : List ℕ) (k s : ℕ) → startOf e k ≡ s → among s gone ≡ true → occurs e gone k ≡ false
+pub removed-gone : (e : Event) (gone : List ℕ) (k s : ℕ) → startOf e k ≡ utcClockOf s → among s gone ≡ true → occurs e gone k ≡ false
 unfolding occurs
 removed-gone e gone k s q h =
-    not-so _ (λ o. clash (and-right (isInstance e k) _ o) (ap not (ap (λ (x : ℕ). among x gone) q ∙ h)))
+    not-so _ (λ o. clash (and-right (isInstance e k) _ o) (ap not (ap (λ (x : ℕ). clockAmong x gone) q ∙ clock-among s gone ∙ h)))
 
 -- a time of the list has this second
 pub record TimeAt (s : ℕ) (ts : List Time) : Type 0 where

@@ -1,6 +1,6 @@
 -- Small files of VEVENTs and what R-1 and R-3 make of each: the line of refusal 10, or the instances that are left.
 -- Days are those of March 2024, and the offset is 0.
-use Prim.Native.Nat.{ℕ, zero, suc, _+_, _*_}
+use Prim.Native.Nat.{ℕ, zero, suc, _+_, _-_, _*_}
 use Prim.Native.String.{String}
 use mathlib.Core.Path.{_≡_}
 use mathlib.Core.Bool.{true, cond}
@@ -15,6 +15,7 @@ use Rattle.events.specs.declared.Repeat.{Repeat}
 use Rattle.events.specs.declared.Event.{Event}
 use Rattle.events.specs.declared.EventRead.{EventRead}
 use Rattle.recurrence.specs.Instances.{startOf, occurs}
+use Rattle.time.specs.Limits.{epoch}
 use Rattle.recurrence.specs.TimeRange.{EventIn}
 use Rattle.overrides.specs.VEvents.{VEvent}
 use Rattle.overrides.specs.Instances.{removedFrom}
@@ -52,7 +53,7 @@ fileOf ws = placed 2 ws
 -- of n numbers from k on, the starts of the instances that are left
 unfoldable pub startsFrom : Event → List ℕ → ℕ → ℕ → List ℕ
 startsFrom e gone k zero = []
-startsFrom e gone k (suc n) = cond (occurs e gone k) (startOf e k ∷ []) [] ++ startsFrom e gone (k + 1) n
+startsFrom e gone k (suc n) = cond (occurs e gone k) ((startOf e k - epoch) ∷ []) [] ++ startsFrom e gone (k + 1) n
 
 -- of busy time, the first 31 instances
 unfoldable pub startsOf : List ℕ → EventRead → List ℕ

@@ -7,7 +7,7 @@ use mathlib.Core.List.{List, [], _∷_, _++_, List·Memᴰ}
 use lib.Dec.{eqb}
 use Rattle.values.specs.TimeLists.{secondsOf}
 use Rattle.events.specs.declared.Event.{Event}
-use Rattle.recurrence.specs.Instances.{stepOf, startOf, isInstance, occurs}
+use Rattle.recurrence.specs.Instances.{utcClockOf, stepOf, startOf, isInstance, occurs}
 use Rattle.overrides.specs.VEvents.{VEvent, isMaster, isOverride, sharesUid, Master, SharesUid}
 
 -- the only number that an instance at s can have, by one division
@@ -16,7 +16,7 @@ numberAt e s = (s - e .start) / stepOf e
 
 -- s is the start of an instance, whether that is taken away or not
 unfoldable pub namesInstance : Event → ℕ → Bool
-namesInstance e s = isInstance e (numberAt e s) && eqb (startOf e (numberAt e s)) s
+namesInstance e s = isInstance e (numberAt e s) && eqb (startOf e (numberAt e s)) (utcClockOf s)
 
 -- the seconds that overrides among these name, where they share a UID with v
 unfoldable pub movedFrom : VEvent → List VEvent → List ℕ
@@ -32,7 +32,7 @@ removedFrom all v = cond (isMaster v) (secondsOf (v .exceptions) ++ movedFrom v 
 pub record NamesInstance (e : Event) (s : ℕ) : Type 0 where
   pub number : ℕ
   pub there : isInstance e number ≡ true
-  pub starts : startOf e number ≡ s
+  pub starts : startOf e number ≡ utcClockOf s
 
 -- an instance of v that starts at s is taken away
 pub data Removed (all : List VEvent) (v : VEvent) (s : ℕ) : Type 0 where
@@ -42,4 +42,4 @@ pub data Removed (all : List VEvent) (v : VEvent) (s : ℕ) : Type 0 where
 -- an override names s: the event e of its master m has an instance there, and it is taken away
 pub record Replaces (all : List VEvent) (m : VEvent) (e : Event) (s : ℕ) : Type 0 where
   pub names : NamesInstance e s
-  pub gone : (k : ℕ) → startOf e k ≡ s → occurs e (removedFrom all m) k ≡ false
+  pub gone : (k : ℕ) → startOf e k ≡ utcClockOf s → occurs e (removedFrom all m) k ≡ false

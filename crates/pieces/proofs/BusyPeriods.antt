@@ -15,9 +15,9 @@ use Rattle.events.specs.declared.Event.{Event}
 use Rattle.events.specs.declared.Block.{Block}
 use Rattle.seconds.specs.Seconds.{among}
 use Rattle.events.specs.Sizes.{EventsSmall}
-use Rattle.recurrence.specs.Instances.{startOf, endOf, occurs, instancesAtMost}
+use Rattle.recurrence.specs.Instances.{utcClockOf, startOf, occurs, instancesAtMost}
 use Rattle.recurrence.proofs.Instances.{starts-few, occurs-same, takes-place-iff}
-use Rattle.pieces.specs.BusyPeriods.{busyPeriod, listBelow, instancePeriod, eventPeriods, statedPeriods, instancePeriods, gathered, busyPeriods, IsBusyPeriod, of-instance, of-block}
+use Rattle.pieces.specs.BusyPeriods.{busyPeriod, secondOf, instanceTime, listBelow, instancePeriod, eventPeriods, statedPeriods, instancePeriods, gathered, busyPeriods, IsBusyPeriod, of-instance, of-block}
 
 -- ---- an instance
 
@@ -30,13 +30,13 @@ pub left-out : (t : Bool) (c : BusyPeriod) → t ≡ false → _≡_ {A = List B
 left-out true c h = clash refl h
 left-out false c h = refl
 
-pub occurs-period : (e : Event) (gone : List ℕ) (k : ℕ) → occurs e gone k ≡ true → instancePeriod e gone k ≡ busyPeriod (e .busy) (startOf e k) (endOf e k) ∷ []
+pub occurs-period : (e : Event) (gone : List ℕ) (k : ℕ) → occurs e gone k ≡ true → instancePeriod e gone k ≡ instanceTime e k ∷ []
 unfolding instancePeriod
-occurs-period e gone k h = chosen (occurs e gone k) (busyPeriod (e .busy) (startOf e k) (endOf e k)) h
+occurs-period e gone k h = chosen (occurs e gone k) (instanceTime e k) h
 
 pub fails-period : (e : Event) (gone : List ℕ) (k : ℕ) → occurs e gone k ≡ false → instancePeriod e gone k ≡ []
 unfolding instancePeriod
-fails-period e gone k h = left-out (occurs e gone k) (busyPeriod (e .busy) (startOf e k) (endOf e k)) h
+fails-period e gone k h = left-out (occurs e gone k) (instanceTime e k) h
 
 -- ---- the lists below a number
 
@@ -75,7 +75,7 @@ unfolding eventPeriods instancePeriod
 event-same e g h s =
     below-same
     (λ k.
-    ap (λ (t : Bool). elim t [ true ↦ busyPeriod (e .busy) (startOf e k) (endOf e k) ∷ [] | false ↦ [] ]) (occurs-same e g h s k))
+    ap (λ (t : Bool). elim t [ true ↦ instanceTime e k ∷ [] | false ↦ [] ]) (occurs-same e g h s k))
     instancesAtMost
 
 -- ---- entries
@@ -112,11 +112,11 @@ listed-gathered {p} f (y ∷ es) m = go (List·Memᴰ·append-cases (f y) m) (li
     go (inr d) r = let i = r d in record { entry = i .entry; listed = List·Memᴰ·tail (i .listed); there = i .there }
 
 instance-listed : (e : Event) (gone : List ℕ) (k : ℕ) → k < instancesAtMost → occurs e gone k ≡ true
-    → List·Memᴰ (busyPeriod (e .busy) (startOf e k) (endOf e k)) (instancePeriods (event e gone))
+    → List·Memᴰ (instanceTime e k) (instancePeriods (event e gone))
 unfolding instancePeriods eventPeriods
 instance-listed e gone k l h =
     below-listed (instancePeriod e gone) instancesAtMost k l
-    (subst (λ (w : List BusyPeriod). List·Memᴰ (busyPeriod (e .busy) (startOf e k) (endOf e k)) w) (sym (occurs-period e gone k h)) (List·Memᴰ·head refl))
+    (subst (λ (w : List BusyPeriod). List·Memᴰ (instanceTime e k) w) (sym (occurs-period e gone k h)) (List·Memᴰ·head refl))
 
 block-listed : (k : Block) (ps : List BusyPeriod) {p : BusyPeriod} → List·Memᴰ p ps → List·Memᴰ p (statedPeriods (block k ps))
 unfolding statedPeriods
@@ -156,10 +156,11 @@ listed-is es {p} m = go (List·Memᴰ·append-cases (gathered statedPeriods es) 
 pub is-listed : (es : List Entry) {p : BusyPeriod} → EventsSmall es → p .period .start ≤ lastSecond → IsBusyPeriod es p → List·Memᴰ p (busyPeriods es)
 unfolding busyPeriods
 is-listed es {p} small l (of-instance e gone d k s q) =
-    let early : startOf e k ≤ lastSecond = subst (λ (w : BusyPeriod). w .period .start ≤ lastSecond) q l in
+    let early : secondOf (startOf e k) ≤ lastSecond = subst (λ (w : BusyPeriod). w .period .start ≤ lastSecond) q l in
+    let by-clock : startOf e k ≤ utcClockOf lastSecond = omega (arith, early) in
     subst (λ (w : BusyPeriod). List·Memᴰ w (gathered statedPeriods es ++ gathered instancePeriods es)) (sym q)
     (Memᴰ·append-right (gathered statedPeriods es)
     (gathered-listed instancePeriods (event e gone) es d
-    (instance-listed e gone k (starts-few k (small e gone d) early) (takes-place-iff e gone k .1 s))))
+    (instance-listed e gone k (starts-few k (small e gone d) by-clock) (takes-place-iff e gone k .1 s))))
 is-listed es small l (of-block k ps d m) =
     Memᴰ·append-left (gathered instancePeriods es) (gathered-listed statedPeriods (block k ps) es d (block-listed k ps m))

@@ -14,10 +14,10 @@ use Rattle.periods.specs.declared.BusyType.{BusyType}
 use Rattle.periods.specs.BusyTypes.{reportPlace, BusyPeriod}
 use Rattle.periods.proofs.BusyTypes.{busy-place}
 use Rattle.events.specs.declared.Event.{Event}
-use Rattle.recurrence.specs.Instances.{startOf, endOf, occurs, instancesAtMost}
+use Rattle.recurrence.specs.Instances.{utcClockOf, startOf, endOf, occurs, instancesAtMost}
 use Rattle.recurrence.specs.TimeRange.{instanceIn}
 use Rattle.recurrence.specs.Candidates.{FirstCandidate, MoreCandidates}
-use Rattle.pieces.specs.BusyPeriods.{busyPeriod, listBelow, instancePeriod, eventPeriods}
+use Rattle.pieces.specs.BusyPeriods.{busyPeriod, secondOf, listBelow, instancePeriod, eventPeriods}
 use Rattle.pieces.specs.Pieces.{clipped, isPiece, pieceOf, piecesOf}
 use Rattle.pieces.specs.Columns.{Stored}
 use Rattle.pieces.proofs.BusyPeriods.{occurs-period, fails-period}
@@ -72,13 +72,17 @@ piece-small {to} place from n b end t l h =
 
 -- ---- one instance
 
+-- the second of a second's clock
+clock-second : {x : ℕ} (s : ℕ) → x ≡ utcClockOf s → s ≡ secondOf x
+clock-second s q = omega (arith, q)
+
 module _ (e : Event) (gone : List ℕ) (k a b : ℕ) {o : List ℕ} {n : ℕ} {t : Bool} (h : t ≡ occurs e gone k) where
-  pub instance-stored : {o′ : List ℕ} {r s f : ℕ} → t ≡ true → s ≡ startOf e k → f ≡ endOf e k
+  pub instance-stored : {o′ : List ℕ} {r : ℕ} (s f : ℕ) → t ≡ true → startOf e k ≡ utcClockOf s → endOf e k ≡ utcClockOf f
       → Stored o n (pieceOf a b (busyPeriod (e .busy) s f)) o′ r → Stored o n (piecesOf a b (instancePeriod e gone k)) o′ r
-  instance-stored {s = s} {f = f} q x y m =
+  instance-stored s f q x y m =
       stored-as m
-      (ap (λ (i : ℕ). pieceOf a b (busyPeriod (e .busy) i f)) x
-      ∙ ap (λ (i : ℕ). pieceOf a b (busyPeriod (e .busy) (startOf e k) i)) y
+      (ap (λ (i : ℕ). pieceOf a b (busyPeriod (e .busy) i f)) (clock-second s x)
+      ∙ ap (λ (i : ℕ). pieceOf a b (busyPeriod (e .busy) (secondOf (startOf e k)) i)) (clock-second f y)
       ∙ sym (ap (piecesOf a b) (occurs-period e gone k (sym h ∙ q)) ∙ one-piece a b _))
 
   pub instance-left : t ≡ false → Stored o n (piecesOf a b (instancePeriod e gone k)) o n

@@ -21,18 +21,13 @@ use Rattle.events.specs.Sizes.{EventsSmall}
 use Rattle.events.specs.declared.Event.{Event}
 use Rattle.recurrence.specs.Instances.{startOf, endOf, occurs, isZeroLength, instancesAtMost}
 use Rattle.recurrence.specs.TimeRange.{instanceIn}
-use Rattle.recurrence.proofs.Instances.{zero-length-end}
+use Rattle.recurrence.proofs.Instances.{zero-length-end, each-other}
 use Rattle.recurrence.proofs.TimeRange.{covering-in}
-use Rattle.pieces.specs.BusyPeriods.{busyPeriod, listBelow, instancePeriod, eventPeriods, statedPeriods, instancePeriods, gathered, busyPeriods}
+use Rattle.pieces.specs.BusyPeriods.{busyPeriod, secondOf, instanceTime, listBelow, instancePeriod, eventPeriods, statedPeriods, instancePeriods, gathered, busyPeriods}
 use Rattle.pieces.specs.Covered.{ofType, coveredBy, covered}
 use Rattle.pieces.specs.Pieces.{clipped, isPiece, pieceOf, piecesOf, busyPieces, PieceIs}
 use Rattle.pieces.proofs.BusyPeriods.{chosen, left-out, occurs-period, fails-period, listed-is, is-listed}
 use Rattle.pieces.proofs.Covered.{covers-none, coveredBy-append, hits, hits-first, types-count}
-
--- two Bools that follow from each other are one
-each-other : (x y : Bool) → (x ≡ true → y ≡ true) → (y ≡ true → x ≡ true) → x ≡ y
-each-other true y f g = sym (f refl)
-each-other false y f g = sym (not-so y (λ q. clash (g q) refl))
 
 -- ---- one period, or none
 
@@ -208,7 +203,7 @@ pieces-count a e ps = types-count (piecesOf a e ps) (λ p m. pieces-inside a e p
 -- ---- instances and events without a piece
 
 -- an instance whose period is no piece
-instance-none : (e : Event) (gone : List ℕ) (a b k : ℕ) → (occurs e gone k ≡ true → isPiece a b (busyPeriod (e .busy) (startOf e k) (endOf e k)) ≡ false)
+instance-none : (e : Event) (gone : List ℕ) (a b k : ℕ) → (occurs e gone k ≡ true → isPiece a b (instanceTime e k) ≡ false)
     → piecesOf a b (instancePeriod e gone k) ≡ []
 instance-none e gone a b k h = go (occurs e gone k) refl
   where
@@ -216,11 +211,11 @@ instance-none e gone a b k h = go (occurs e gone k) refl
     go true q = ap (piecesOf a b) (occurs-period e gone k q) ∙ one-piece a b _ ∙ is-none a b _ (h q)
     go false q = ap (piecesOf a b) (fails-period e gone k q) ∙ piecesOf-none a b
 
-out-of-range-piece : (e : Event) (gone : List ℕ) (a b k : ℕ) → instanceIn e gone a b k ≡ false → occurs e gone k ≡ true → isPiece a b (busyPeriod (e .busy) (startOf e k) (endOf e k)) ≡ false
+out-of-range-piece : (e : Event) (gone : List ℕ) (a b k : ℕ) → instanceIn e gone a b k ≡ false → occurs e gone k ≡ true → isPiece a b (instanceTime e k) ≡ false
 unfolding isPiece clipped
 out-of-range-piece e gone a b k h o =
-    let s = startOf e k in
-    let t = endOf e k in
+    let s = secondOf (startOf e k) in
+    let t = secondOf (endOf e k) in
     not-so _
     (λ q.
     let m = ltb-true (max a s) (min b t) (and-right (isBusy (e .busy)) _ q) in
@@ -240,7 +235,7 @@ empty-none : (a b s t : ℕ) (y : BusyType) → t ≡ s → isPiece a b (busyPer
 unfolding isPiece clipped
 empty-none a b s t y q = not-so _ (λ h. omega (arith, ltb-true (max a s) (min b t) (and-right (isBusy y) _ h)))
 
-module _ (e : Event) (gone : List ℕ) (a b : ℕ) (h : (k : ℕ) → isPiece a b (busyPeriod (e .busy) (startOf e k) (endOf e k)) ≡ false) where
+module _ (e : Event) (gone : List ℕ) (a b : ℕ) (h : (k : ℕ) → isPiece a b (instanceTime e k) ≡ false) where
   instances-none : (n : ℕ) → piecesOf a b (listBelow n (instancePeriod e gone)) ≡ []
   unfolding listBelow
   instances-none zero = piecesOf-none a b
@@ -254,10 +249,10 @@ module _ (e : Event) (gone : List ℕ) (a b : ℕ) (h : (k : ℕ) → isPiece a 
   event-none = instances-none instancesAtMost
 
 pub free-event : (e : Event) (gone : List ℕ) → isBusy (e .busy) ≡ false → (a b : ℕ) → piecesOf a b (eventPeriods e gone) ≡ []
-free-event e gone h a b = event-none e gone a b (λ k. free-none a b (startOf e k) (endOf e k) (e .busy) h)
+free-event e gone h a b = event-none e gone a b (λ k. free-none a b (secondOf (startOf e k)) (secondOf (endOf e k)) (e .busy) h)
 
 pub empty-event : (e : Event) (gone : List ℕ) → isZeroLength e ≡ true → (a b : ℕ) → piecesOf a b (eventPeriods e gone) ≡ []
-empty-event e gone h a b = event-none e gone a b (λ k. empty-none a b (startOf e k) (endOf e k) (e .busy) (zero-length-end e k h))
+empty-event e gone h a b = event-none e gone a b (λ k. empty-none a b (secondOf (startOf e k)) (secondOf (endOf e k)) (e .busy) (ap secondOf (zero-length-end e k h)))
 
 -- such an event by itself, in any range
 pub no-pieces : (a b : ℕ) (e : Event) (gone : List ℕ) → isZeroLength e ≡ true → busyPieces a b (event e gone ∷ []) ≡ []

@@ -1,8 +1,9 @@
 -- The busy periods of a calendar (document 01, Busy type): every FREEBUSY period, and every instance that stands of each event, each with its type.
-use Prim.Native.Nat.{ℕ, zero, suc}
+use Prim.Native.Nat.{ℕ, zero, suc, _-_}
 use mathlib.Core.Path.{_≡_}
 use mathlib.Core.Bool.{true, false}
 use mathlib.Core.List.{List, [], _∷_, _++_, List·Memᴰ}
+use Rattle.time.specs.Limits.{epoch}
 use Rattle.periods.specs.declared.BusyType.{BusyType}
 use Rattle.periods.specs.Periods.{period}
 use Rattle.events.specs.Events.{Entry, event, block}
@@ -19,9 +20,17 @@ unfoldable pub listBelow : ℕ → (ℕ → List BusyPeriod) → List BusyPeriod
 listBelow zero f = []
 listBelow (suc n) f = listBelow n f ++ f n
 
+-- the second of a UTC clock; a clock before 1970 counts as second 0, since no second before it is asked for
+abbrev pub secondOf : ℕ → ℕ
+secondOf x = x - epoch
+
+-- the time of instance k, with its type
+abbrev pub instanceTime : Event → ℕ → BusyPeriod
+instanceTime e k = busyPeriod (e .busy) (secondOf (startOf e k)) (secondOf (endOf e k))
+
 -- instance k, where it stands
 unfoldable pub instancePeriod : Event → List ℕ → ℕ → List BusyPeriod
-instancePeriod e gone k = elim (occurs e gone k) [ true ↦ busyPeriod (e .busy) (startOf e k) (endOf e k) ∷ [] | false ↦ [] ]
+instancePeriod e gone k = elim (occurs e gone k) [ true ↦ instanceTime e k ∷ [] | false ↦ [] ]
 
 unfoldable pub eventPeriods : Event → List ℕ → List BusyPeriod
 eventPeriods e gone = listBelow instancesAtMost (instancePeriod e gone)
@@ -47,6 +56,6 @@ busyPeriods es = gathered statedPeriods es ++ gathered instancePeriods es
 
 -- the same for the reader: p is an instance that takes place, or a FREEBUSY period
 pub data IsBusyPeriod (es : List Entry) (p : BusyPeriod) : Type 0 where
-  of-instance : (e : Event) (gone : List ℕ) → List·Memᴰ (event e gone) es → (k : ℕ) → TakesPlace e gone k → p ≡ busyPeriod (e .busy) (startOf e k) (endOf e k)
+  of-instance : (e : Event) (gone : List ℕ) → List·Memᴰ (event e gone) es → (k : ℕ) → TakesPlace e gone k → p ≡ instanceTime e k
       → IsBusyPeriod es p
   of-block : (k : Block) (ps : List BusyPeriod) → List·Memᴰ (block k ps) es → List·Memᴰ p ps → IsBusyPeriod es p

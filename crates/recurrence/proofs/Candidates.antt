@@ -12,10 +12,10 @@ use Rattle.ascii.proofs.Bools.{and-left, and-right, and-both, clash, not-so}
 use Rattle.time.specs.Limits.{lastSecond}
 use Rattle.events.specs.declared.Event.{Event}
 use Rattle.events.specs.Sizes.{EventSmall}
-use Rattle.recurrence.specs.Instances.{lengthBy, isZeroLength, startOf, isInstance, instancesAtMost, endOf, stepOf}
+use Rattle.recurrence.specs.Instances.{utcClockOf, lengthBy, isZeroLength, startOf, isInstance, instancesAtMost, endOf, stepOf}
 use Rattle.recurrence.specs.Candidates.{firstAt, spanOf, startsBefore, candidateOf, NoneBefore, NoneFrom, FirstCandidate, MoreCandidates}
 use Rattle.recurrence.specs.TimeRange.{instanceIn, EventIn, Decides}
-use Rattle.recurrence.proofs.Instances.{length-small, starts-rise, instance-before, occurs-instance, step-long, starts-few}
+use Rattle.recurrence.proofs.Instances.{length-small, starts-rise, instance-before, occurs-instance, step-long, starts-few, ltb-clock}
 use Rattle.recurrence.proofs.TimeRange.{in-range-occurs, starts-early, ends-late}
 
 cond-span : (l : ℕ) (t : Bool) → l ≤ lastSecond → cond t 1 l ≤ lastSecond
@@ -76,7 +76,7 @@ first-few s d span a g h = few-by s d span a (ltb a (s + span)) g h
 
 -- ---- what the search promises
 
-in-range-ends : (e : Event) (gone : List ℕ) (a b k : ℕ) → instanceIn e gone a b k ≡ true → a < startOf e k + spanOf e
+in-range-ends : (e : Event) (gone : List ℕ) (a b k : ℕ) → instanceIn e gone a b k ≡ true → utcClockOf a < startOf e k + spanOf e
 in-range-ends e gone a b k h = ends-late e gone a b k _ h (omega (arith, span-some e)) (end-by-span e k)
 
 -- none before what the division finds is in range
@@ -96,28 +96,30 @@ first-is-candidate {e} {a} h p =
 
 in-range-starts : (e : Event) (gone : List ℕ) (a b k : ℕ) → instanceIn e gone a b k ≡ true → startsBefore e b k ≡ true
 unfolding startsBefore
-in-range-starts e gone a b k h = and-both (occurs-instance e gone k (in-range-occurs e gone a b k h)) (lt-ltb _ b (starts-early e gone a b k h))
+in-range-starts e gone a b k h = and-both (occurs-instance e gone k (in-range-occurs e gone a b k h)) (lt-ltb _ _ (starts-early e gone a b k h))
 
 starts-before-too : (e : Event) (b j k : ℕ) → j ≤ k → startsBefore e b k ≡ true → startsBefore e b j ≡ true
 unfolding startsBefore
 starts-before-too e b j k p h =
     and-both (instance-before e j k p (and-left (isInstance e k) _ h))
-    (lt-ltb _ b (omega (arith, starts-rise e p, ltb-true (startOf e k) b (and-right (isInstance e k) _ h))))
+    (lt-ltb (startOf e j) (utcClockOf b) (omega (arith, starts-rise e p, ltb-true (startOf e k) (utcClockOf b) (and-right (isInstance e k) _ h))))
 
 -- from the first that is not the rule's, or starts at b or later, none is in range
 pub none-after : (e : Event) (b k : ℕ) → startsBefore e b k ≡ false → NoneFrom e b k
 none-after e b k h gone a j p = not-so _ (λ q. clash (starts-before-too e b k j p (in-range-starts e gone a b j q)) h)
 
 -- the code's test tells whether the search goes on
-pub more-by : {e : Event} {b k s : ℕ} {t : Bool} → EventSmall e → b ≤ lastSecond → t ≡ isInstance e k → s ≡ startOf e k → MoreCandidates e b k (t && ltb s b)
-more-by {e} {b} {k} {s} {t} h p q r =
+pub more-by : {e : Event} {b k : ℕ} {t : Bool} (s : ℕ) → EventSmall e → b ≤ lastSecond → t ≡ isInstance e k → startOf e k ≡ utcClockOf s → MoreCandidates e b k (t && ltb s b)
+more-by {e} {b} {k} {t} s h p q r =
     record {
       none-from = λ n. none-after e b k (unfold startsBefore in sym told ∙ n);
-      few = λ y. starts-few k h (omega (arith, ltb-true (startOf e k) b (and-right (isInstance e k) _ (sym told ∙ y))));
+      few = λ y. starts-few k h (omega (arith, ltb-true (startOf e k) (utcClockOf b) (and-right (isInstance e k) _ (sym told ∙ y))));
     }
   where
-    told : (t && ltb s b) ≡ (isInstance e k && ltb (startOf e k) b)
-    told = ap (λ (x : Bool). x && ltb s b) q ∙ ap (λ (n : ℕ). isInstance e k && ltb n b) r
+    told : (t && ltb s b) ≡ (isInstance e k && ltb (startOf e k) (utcClockOf b))
+    told =
+        ap (λ (x : Bool). x && ltb s b) q
+        ∙ ap (λ (x : Bool). isInstance e k && x) (sym (ltb-clock s b) ∙ ap (λ (n : ℕ). ltb n (utcClockOf b)) (sym r))
 
 -- an instance in a range up to 2099 is one of so many
 pub in-range-few : {e : Event} (gone : List ℕ) (a b k : ℕ) → EventSmall e → b ≤ lastSecond → instanceIn e gone a b k ≡ true → k < instancesAtMost

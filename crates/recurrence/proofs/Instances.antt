@@ -1,13 +1,14 @@
 -- Instances start one after the other, and the rule has all before one that it has;
 -- how large the numbers of an event are.
-use Prim.Native.Nat.{ℕ, _*_, _≤_, _<_}
+use Prim.Native.Nat.{ℕ, _+_, _*_, _≤_, _<_}
 use mathlib.Core.Path.{_≡_, refl, sym, ap, _∙_, subst}
-use mathlib.Core.Bool.{Bool, true, false, not, _&&_}
-use mathlib.Core.List.{List, List·Memᴰ}
+use mathlib.Core.Bool.{Bool, true, false, not, _&&_, _||_}
+use mathlib.Core.List.{List, [], _∷_, List·Memᴰ, List·Memᴰ·head, List·Memᴰ·tail}
 use mathlib.Core.Logic.{_↔_}
 use native.Mathlib.Omega.{arith}
 use native.Mathlib.Nat.{mul-le-mul-right, mul-le-mul, mul-le-mul-left}
-use borrow.Author.Tests.{ltb-true, leb-true, eqb-true, lt-ltb, le-leb, eq-eqb}
+use lib.Dec.{eqb, ltb, leb}
+use borrow.Author.Tests.{ltb-true, ltb-false, leb-true, leb-false, eqb-true, eqb-false, lt-ltb, le-ltb, le-leb, lt-leb, eq-eqb, ne-eqb}
 use Rattle.ascii.proofs.Bools.{clash, not-so, and-left, and-right, and-both}
 use Rattle.seconds.specs.Seconds.{among}
 use Rattle.seconds.proofs.Seconds.{among-iff}
@@ -19,7 +20,67 @@ use Rattle.events.specs.declared.Repeat.{Repeat}
 use Rattle.events.specs.declared.Event.{Event}
 use Rattle.events.specs.declared.Ending.{Ending}
 use Rattle.events.specs.Sizes.{EventSmall, EndingSmall}
-use Rattle.recurrence.specs.Instances.{stepOf, startOf, repeats, isInstance, occurs, instancesAtMost, defaultLength, lengthBy, isZeroLength, endOf, HasInstance, TakesPlace}
+use Rattle.recurrence.specs.Instances.{utcClockOf, clockAmong, stepOf, startOf, repeats, isInstance, occurs, instancesAtMost, defaultLength, lengthBy, isZeroLength, endOf, HasInstance, TakesPlace}
+
+-- two tests that follow from each other
+pub each-other : (x y : Bool) → (x ≡ true → y ≡ true) → (y ≡ true → x ≡ true) → x ≡ y
+each-other true y f g = sym (f refl)
+each-other false y f g = sym (not-so y (λ q. clash (g q) refl))
+
+-- ---- clocks of seconds
+
+-- clocks compare as their seconds do
+pub ltb-clock : (s t : ℕ) → ltb (utcClockOf s) (utcClockOf t) ≡ ltb s t
+ltb-clock s t = go (ltb s t) refl
+  where
+    go : (x : Bool) → ltb s t ≡ x → ltb (utcClockOf s) (utcClockOf t) ≡ x
+    go true h = lt-ltb (utcClockOf s) (utcClockOf t) (omega (arith, ltb-true s t h))
+    go false h = le-ltb (utcClockOf s) (utcClockOf t) (omega (arith, ltb-false s t h))
+
+pub leb-clock : (s t : ℕ) → leb (utcClockOf s) (utcClockOf t) ≡ leb s t
+leb-clock s t = go (leb s t) refl
+  where
+    go : (x : Bool) → leb s t ≡ x → leb (utcClockOf s) (utcClockOf t) ≡ x
+    go true h = le-leb (utcClockOf s) (utcClockOf t) (omega (arith, leb-true s t h))
+    go false h = lt-leb (utcClockOf s) (utcClockOf t) (omega (arith, leb-false s t h))
+
+pub eqb-clock : (s t : ℕ) → eqb (utcClockOf s) (utcClockOf t) ≡ eqb s t
+eqb-clock s t = go (eqb s t) refl
+  where
+    go : (x : Bool) → eqb s t ≡ x → eqb (utcClockOf s) (utcClockOf t) ≡ x
+    go true h = eq-eqb (utcClockOf s) (utcClockOf t) (omega (arith, eqb-true s t h))
+    go false h = let n = eqb-false s t h in ne-eqb (utcClockOf s) (utcClockOf t) (λ (q : utcClockOf s ≡ utcClockOf t). n (omega (arith, q)))
+
+-- the clock of a second is among those of others where the second is
+pub clock-among : (s : ℕ) (gone : List ℕ) → clockAmong (utcClockOf s) gone ≡ among s gone
+unfolding clockAmong among
+clock-among s [] = refl
+clock-among s (t ∷ ts) = ap (λ (x : Bool). x || clockAmong (utcClockOf s) ts) (eqb-clock s t) ∙ ap (λ (x : Bool). eqb s t || x) (clock-among s ts)
+
+-- the second whose clock is among those of a list
+record ClockFound (x : ℕ) (gone : List ℕ) : Type 0 where
+  second : ℕ
+  listed : List·Memᴰ second gone
+  is-clock : x ≡ utcClockOf second
+
+clock-found : (x : ℕ) (gone : List ℕ) → clockAmong x gone ≡ true → ClockFound x gone
+unfolding clockAmong
+clock-found x [] h = clash h refl
+clock-found x (t ∷ ts) h = go (eqb x (utcClockOf t)) refl h (clock-found x ts)
+  where
+    go : (y : Bool) → eqb x (utcClockOf t) ≡ y → (y || clockAmong x ts) ≡ true → (clockAmong x ts ≡ true → ClockFound x ts) → ClockFound x (t ∷ ts)
+    go true q g r = record { second = t; listed = List·Memᴰ·head refl; is-clock = eqb-true x _ q }
+    go false q g r = let f = r g in record { second = f .second; listed = List·Memᴰ·tail (f .listed); is-clock = f .is-clock }
+
+-- lists of the same seconds have the same clocks
+clocks-same : (g h : List ℕ) → ((x : ℕ) → among x g ≡ among x h) → (x : ℕ) → clockAmong x g ≡ clockAmong x h
+clocks-same g h s x = each-other _ _ (λ q. kept g h s (clock-found x g q)) (λ q. kept h g (λ y. sym (s y)) (clock-found x h q))
+  where
+    kept : (g h : List ℕ) → ((y : ℕ) → among y g ≡ among y h) → ClockFound x g → clockAmong x h ≡ true
+    kept g h s f =
+        ap (λ (y : ℕ). clockAmong y h) (f .is-clock) ∙ clock-among (f .second) h ∙ sym (s (f .second)) ∙ among-iff (f .second) g .1 (f .listed)
+
+-- ---- which instances there are
 
 pub starts-rise : (e : Event) {j k : ℕ} → j ≤ k → startOf e j ≤ startOf e k
 unfolding startOf
@@ -30,7 +91,7 @@ unfolding repeats
 repeats-before Repeat.Once s t j k p q h = eq-eqb j 0 (omega (arith, eqb-true k 0 h))
 repeats-before Repeat.Forever s t j k p q h = refl
 repeats-before (Repeat.Count n) s t j k p q h = lt-ltb j n (omega (arith, ltb-true k n h))
-repeats-before (Repeat.Until u) s t j k p q h = le-leb s u (omega (arith, leb-true t u h))
+repeats-before (Repeat.Until u) s t j k p q h = le-leb s _ (omega (arith, leb-true t (utcClockOf u) h))
 
 -- the rule has every instance before one that it has
 pub instance-before : (e : Event) (j k : ℕ) → j ≤ k → isInstance e k ≡ true → isInstance e j ≡ true
@@ -40,12 +101,12 @@ instance-before e j k p h = repeats-before (e .repeat) (startOf e j) (startOf e 
 -- only the rule's instances stand
 pub occurs-instance : (e : Event) (gone : List ℕ) (k : ℕ) → occurs e gone k ≡ true → isInstance e k ≡ true
 unfolding occurs
-occurs-instance e gone k h = and-left (isInstance e k) (not (among (startOf e k) gone)) h
+occurs-instance e gone k h = and-left (isInstance e k) (not (clockAmong (startOf e k) gone)) h
 
--- lists of the same seconds take the same instances away
+-- lists of the same seconds take the same instances away: every start is the clock of a second
 pub occurs-same : (e : Event) (g h : List ℕ) → ((x : ℕ) → among x g ≡ among x h) → (k : ℕ) → occurs e g k ≡ occurs e h k
 unfolding occurs
-occurs-same e g h s k = ap (λ (t : Bool). isInstance e k && not t) (s (startOf e k))
+occurs-same e g h s k = ap (λ (t : Bool). isInstance e k && not t) (clocks-same g h s (startOf e k))
 
 -- where the rule has no instance k, none from k on stands
 pub none-stands : (e : Event) (gone : List ℕ) (k : ℕ) → isInstance e k ≡ false → (j : ℕ) → k ≤ j → occurs e gone j ≡ false
@@ -68,17 +129,17 @@ step-long {e} h = let p : 1 * 1 ≤ e .days * e .interval = mul-le-mul (h .some-
 pub steps-small : {e : Event} {k d : ℕ} → EventSmall e → k ≤ 100000 → d ≡ stepOf e → k * d ≤ 60419520000000
 steps-small {d = d} h p q = let s : d ≤ 604195200 = omega (arith, step-small h, q) in mul-le-mul p s
 
-pub start-small : {e : Event} {k : ℕ} → EventSmall e → k ≤ 100000 → startOf e k ≤ 60423622444799
+pub start-small : {e : Event} {k : ℕ} → EventSmall e → k ≤ 100000 → startOf e k ≤ utcClockOf 60423622444799
 unfolding startOf
 start-small {e} {k} h p = omega (arith, steps-small {k = k} {d = stepOf e} h p refl, h .start-small)
 
 -- k starts take k days at least
-pub starts-long : {e : Event} (k : ℕ) → EventSmall e → k * 86400 ≤ startOf e k
+pub starts-long : {e : Event} (k : ℕ) → EventSmall e → utcClockOf (k * 86400) ≤ startOf e k
 unfolding startOf
 starts-long {e} k h = let p : k * 86400 ≤ k * stepOf e = mul-le-mul-left k (step-long h) in omega arith
 
 -- so one that starts by 2099 is one of so many
-pub starts-few : {e : Event} (k : ℕ) → EventSmall e → startOf e k ≤ lastSecond → k < instancesAtMost
+pub starts-few : {e : Event} (k : ℕ) → EventSmall e → startOf e k ≤ utcClockOf lastSecond → k < instancesAtMost
 starts-few k h p = omega (arith, starts-long k h)
 
 -- the ending of an event that is small, by its case
@@ -120,10 +181,13 @@ unfolding repeats
 has-iff Repeat.Once s k = (λ e. eqb-true k 0 e, λ h. eq-eqb k 0 h)
 has-iff Repeat.Forever s k = (λ e. tt, λ h. refl)
 has-iff (Repeat.Count n) s k = (λ e. ltb-true k n e, λ h. lt-ltb k n h)
-has-iff (Repeat.Until t) s k = (λ e. leb-true s t e, λ h. le-leb s t h)
+has-iff (Repeat.Until t) s k = (λ e. leb-true s _ e, λ h. le-leb s _ h)
 
-not-among : (x : ℕ) (gone : List ℕ) → (not (among x gone) ≡ true) ↔ (List·Memᴰ x gone → ⊥)
-not-among x gone = (λ h m. clash h (ap not (among-iff x gone .1 m)), λ n. ap not (not-so (among x gone) (λ q. n (among-iff x gone .0 q))))
+not-among : (x : ℕ) (gone : List ℕ) → (not (clockAmong x gone) ≡ true) ↔ ((t : ℕ) → List·Memᴰ t gone → x ≡ utcClockOf t → ⊥)
+not-among x gone = (
+  λ h t m q. clash h (ap not (ap (λ (y : ℕ). clockAmong y gone) q ∙ clock-among t gone ∙ among-iff t gone .1 m)),
+  λ n. ap not (not-so (clockAmong x gone) (λ q. let f = clock-found x gone q in n (f .second) (f .listed) (f .is-clock))),
+)
 
 pub takes-place-iff : (e : Event) (gone : List ℕ) (k : ℕ) → (occurs e gone k ≡ true) ↔ TakesPlace e gone k
 unfolding occurs isInstance

@@ -5,7 +5,7 @@ use mathlib.Core.Bool.{Bool, true, false, cond, _&&_}
 use mathlib.Core.List.{List}
 use lib.Dec.{ltb}
 use Rattle.events.specs.declared.Event.{Event}
-use Rattle.recurrence.specs.Instances.{stepOf, startOf, isInstance, instancesAtMost, lengthBy, isZeroLength}
+use Rattle.recurrence.specs.Instances.{utcClockOf, stepOf, startOf, isInstance, instancesAtMost, lengthBy, isZeroLength}
 use Rattle.recurrence.specs.TimeRange.{instanceIn}
 
 -- the least k with a < s + span + k * d (laws `from-first` and `before-first`)
@@ -22,7 +22,7 @@ candidateOf e a = firstAt (e .start) (stepOf e) (spanOf e) a
 
 -- it is the rule's, and starts before b
 unfoldable pub startsBefore : Event → ℕ → ℕ → Bool
-startsBefore e b k = isInstance e k && ltb (startOf e k) b
+startsBefore e b k = isInstance e k && ltb (startOf e k) (utcClockOf b)
 
 -- ---- what the search promises, whatever seconds are taken away
 

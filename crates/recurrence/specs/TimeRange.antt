@@ -9,7 +9,7 @@ use Rattle.periods.specs.BusyTypes.{BusyPeriod, periodsOf}
 use Rattle.events.specs.declared.Event.{Event}
 use Rattle.events.specs.declared.Bound.{Bound}
 use Rattle.events.specs.declared.Block.{Block}
-use Rattle.recurrence.specs.Instances.{startOf, endOf, lengthBy, isZeroLength, occurs, TakesPlace}
+use Rattle.recurrence.specs.Instances.{utcClockOf, startOf, endOf, lengthBy, isZeroLength, occurs, TakesPlace}
 
 -- what stands from s to t, against the range: start < t and end > s; where it has no length, start ≤ s and s < end
 unfoldable pub overlaps : ℕ → ℕ → ℕ → ℕ → Bool
@@ -17,11 +17,11 @@ overlaps a b s t = cond (eqb s t) (leb a s && ltb s b) (ltb a t && ltb s b)
 
 -- instance k ends after a; of zero length, it starts at a or later
 unfoldable pub endsAfter : Event → ℕ → ℕ → Bool
-endsAfter e a k = cond (isZeroLength e) (leb a (startOf e k)) (ltb a (endOf e k))
+endsAfter e a k = cond (isZeroLength e) (leb (utcClockOf a) (startOf e k)) (ltb (utcClockOf a) (endOf e k))
 
 -- instance k of an event is in range: it stands, ends after the range's start, and starts before its end
 unfoldable pub instanceIn : Event → List ℕ → ℕ → ℕ → ℕ → Bool
-instanceIn e gone a b k = occurs e gone k && endsAfter e a k && ltb (startOf e k) b
+instanceIn e gone a b k = occurs e gone k && endsAfter e a k && ltb (startOf e k) (utcClockOf b)
 
 -- an event is in range where some instance is
 pub record EventIn (e : Event) (gone : List ℕ) (a b : ℕ) : Type 0 where
@@ -61,9 +61,9 @@ pub record BetweenIn (a b s t : ℕ) : Type 0 where
 -- instance k of an event is in range
 pub record InstanceIn (e : Event) (gone : List ℕ) (a b k : ℕ) : Type 0 where
   pub takes-place : TakesPlace e gone k
-  pub starts-before : startOf e k < b
-  pub ends-after : (lengthBy e (e .ending) ≡ 0 → ⊥) → a < endOf e k
-  pub starts-within : lengthBy e (e .ending) ≡ 0 → a ≤ startOf e k
+  pub starts-before : startOf e k < utcClockOf b
+  pub ends-after : (lengthBy e (e .ending) ≡ 0 → ⊥) → utcClockOf a < endOf e k
+  pub starts-within : lengthBy e (e .ending) ≡ 0 → utcClockOf a ≤ startOf e k
 
 -- a Bool that decides a statement
 pub record Decides (r : Bool) (P : Type 0) : Type 0 where

@@ -7,7 +7,7 @@ use time::date_time::Kind;
 use time::duration;
 ghost use mathlib.Core.Path.{_≡_};
 ghost use Prim.Native.Nat.{_≤_};
-ghost use Rattle.recurrence.specs.Instances.{stepOf, startOf, repeats, isInstance, occurs, defaultLength, lengthBy, isZeroLength, endOf};
+ghost use Rattle.recurrence.specs.Instances.{utcClockOf, stepOf, startOf, repeats, isInstance, occurs, defaultLength, lengthBy, isZeroLength, endOf};
 ghost use Rattle.events.specs.Sizes.{EventSmall};
 ghost use Rattle.seconds.specs.Seconds.{Ordered};
 
@@ -19,11 +19,11 @@ pub fn step_of(e: Event) -> u64
     e.days * e.interval * 86400
 }
 
-// Instance k starts k steps after the first.
+// The second at which instance k starts, k steps after the first.
 pub fn start_of(e: Event, k: u64) -> u64
     requires { ⌜ EventSmall e ⌝ }
     requires { ⌜ k ≤ 100000 ⌝ }
-    ensures { λ r. ⌜ r ≡ startOf e k ⌝ }
+    ensures { λ r. ⌜ startOf e k ≡ utcClockOf r ⌝ }
 {
     e.start + k * step_of(e)
 }
@@ -63,18 +63,18 @@ pub fn is_zero_length(e: Event) -> bool
     length_of(e) == 0
 }
 
-// Instance k ends its length after its start.
+// The second at which instance k ends, its length after its start.
 pub fn end_of(e: Event, k: u64) -> u64
     requires { ⌜ EventSmall e ⌝ }
     requires { ⌜ k ≤ 100000 ⌝ }
-    ensures { λ r. ⌜ r ≡ endOf e k ⌝ }
+    ensures { λ r. ⌜ endOf e k ≡ utcClockOf r ⌝ }
 {
     start_of(e, k) + length_of(e)
 }
 
-// Does the rule have instance k, which starts at s?
+// Does the rule have instance k, which starts at the second s?
 fn repeats(rule: Repeat, s: u64, k: u64) -> bool
-    ensures { λ r. ⌜ r ≡ repeats rule s k ⌝ }
+    ensures { λ r. ⌜ r ≡ repeats rule (utcClockOf s) k ⌝ }
 {
     match rule {
         Repeat::Once => k == 0,

@@ -23,7 +23,7 @@ returns : tie.Need-returns
 returns c =
     let ended = c .before .before .before in
     let tested = ended .before .before .before in
-    instance-stored _ _ _ _ _ (tested .before .occurs .ensures) (tested .if1 .taken) (ended .before .start-of .ensures) (ended .end-of .ensures)
+    instance-stored _ _ _ _ _ (tested .before .occurs .ensures) _ _ (tested .if1 .taken) (ended .before .start-of .ensures) (ended .end-of .ensures)
     (c .before .before .store-period .ensures)
 
 returns-2 : tie.Need-returns-2

@@ -19,7 +19,7 @@ add-result c =
 
 returns : tie.Need-returns
 unfolding endOf
-returns c = simp (c .before .start-of .ensures, c .length-of .ensures)
+returns c = omega (arith, c .before .start-of .ensures, c .length-of .ensures)
 
 pub end-of-spec : {M : Type 1} → statement M
 end-of-spec = tie.close (tie.spec start-of-requires length-of-requires add-result returns)

@@ -4,6 +4,7 @@ use mathlib.Core.Bool.{Bool, not, _&&_}
 use Prim.Native.Nat.{ℕ}
 use Rattle.seconds.specs.Seconds.{among}
 use Rattle.recurrence.specs.Instances.{isInstance, occurs}
+use Rattle.recurrence.proofs.Instances.{clock-among}
 use borrow.Author.Needs.{needs}
 use Rattle.recurrence.proofs.instance.occurs.Statement.{statement}
 use Rattle.recurrence.proofs.instance.occurs.Tie as tie
@@ -19,7 +20,7 @@ has-requires c κs = search needs
 
 returns : tie.Need-returns
 unfolding occurs
-returns c = simp (c .before .before .is-instance .ensures, c .before .start-of .ensures, c .has .ensures)
+returns c = simp (c .before .before .is-instance .ensures, c .before .start-of .ensures, clock-among, c .has .ensures)
 
 pub occurs-spec : {M : Type 1} → statement M
 occurs-spec = tie.close (tie.spec is-instance-requires start-of-requires has-requires returns)

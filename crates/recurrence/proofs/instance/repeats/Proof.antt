@@ -1,5 +1,6 @@
 -- `recurrence::instance::repeats` meets its contract: each arm is the definition at its variant.
 use Rattle.recurrence.specs.Instances.{repeats}
+use Rattle.recurrence.proofs.Instances.{leb-clock}
 use borrow.Author.Needs.{needs}
 use Rattle.recurrence.proofs.instance.repeats.Statement.{statement}
 use Rattle.recurrence.proofs.instance.repeats.Tie as tie
@@ -30,7 +31,7 @@ returns-3 c = simp (c .before .rule .given .1)
 
 returns-4 : tie.Need-returns-4
 unfolding repeats
-returns-4 c = simp (c .before .rule2 .given .1)
+returns-4 c = simp (c .before .rule2 .given .1, leb-clock)
 
 pub repeats-spec : {M : Type 1} → statement M
 repeats-spec =

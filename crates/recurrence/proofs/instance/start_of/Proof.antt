@@ -1,6 +1,8 @@
 -- `recurrence::instance::start_of` meets its contract: the sum is the definition's own, and small.
 use Rattle.recurrence.specs.Instances.{startOf}
 use Rattle.recurrence.proofs.Instances.{steps-small}
+use Prim.Native.Nat.{ℕ, _*_}
+use mathlib.Core.Path.{ap}
 use native.Mathlib.Omega.{arith}
 use borrow.Author.Needs.{needs}
 use Rattle.recurrence.proofs.instance.start_of.Statement.{statement}
@@ -17,7 +19,7 @@ add-result c = omega (arith, steps-small (c .before .before .pre .0) (c .before 
 
 returns : tie.Need-returns
 unfolding startOf
-returns c = simp (c .before .step-of .ensures)
+returns c = omega (arith, ap (λ (d : ℕ). c .before .before .args .k * d) (c .before .step-of .ensures))
 
 pub start-of-spec : {M : Type 1} → statement M
 start-of-spec = tie.close (tie.spec step-of-requires mul-result add-result returns)

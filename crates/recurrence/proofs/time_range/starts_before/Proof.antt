@@ -11,7 +11,7 @@ start-of-requires : tie.Need-start-of-requires
 start-of-requires c κs = search needs
 
 returns : tie.Need-returns
-returns c = let h = c .before .before .pre in more-by (h .0) (h .1 .0) (c .before .is-instance .ensures) (c .start-of .ensures)
+returns c = let h = c .before .before .pre in more-by _ (h .0) (h .1 .0) (c .before .is-instance .ensures) (c .start-of .ensures)
 
 pub starts-before-spec : {M : Type 1} → statement M
 starts-before-spec = tie.close (tie.spec is-instance-requires start-of-requires returns)
