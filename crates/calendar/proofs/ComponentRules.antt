@@ -16,8 +16,8 @@ use Rattle.periods.specs.declared.BusyType.{BusyType}
 use Rattle.property.specs.Properties.{propertyOf, timeIn, busyOf, valueAs, beforeItems, propertyValueOf}
 use Rattle.property.specs.declared.Scope.{Scope}
 use Rattle.property.specs.declared.Property.{Property}
-use Rattle.property.specs.declared.PropertyValue.{PropertyValue}
-use Rattle.property.proofs.Properties.{start-keeps, end-keeps, zoned-keeps, type-keeps, items-keep}
+use Rattle.property.specs.Facts.{ValueFault, Reading, unread, fault, of, unsupported, bad, span, periods, start, end}
+use Rattle.property.proofs.Properties.{time-keeps, zoned-keeps, type-keeps, items-keep}
 use Rattle.nesting.specs.Components.{Numbered, Component, propertiesIn}
 use Rattle.events.specs.ComponentRules.{propertyName, linesNamed, BlockLines, EventRules}
 use Rattle.events.specs.declared.Event.{Event}
@@ -33,51 +33,47 @@ use Rattle.calendar.specs.ComponentRules.{KeepsAs, Keeps}
 -- ---- what a line of a VFREEBUSY can say
 
 -- nothing of DURATION, RRULE, STATUS and TRANSP
-record BlockLine (s : PropertyValue) : Type 0 where
+record BlockLine (s : Reading) : Type 0 where
   no-duration : sameBytes (propertyName s) (ascii "DURATION") ≡ false
   no-rule : sameBytes (propertyName s) (ascii "RRULE") ≡ false
   no-status : sameBytes (propertyName s) (ascii "STATUS") ≡ false
   no-transparency : sameBytes (propertyName s) (ascii "TRANSP") ≡ false
 
-nothing-line : BlockLine PropertyValue.Nothing
+nothing-line : BlockLine unread
 unfolding propertyName
 nothing-line = record { no-duration = refl; no-rule = refl; no-status = refl; no-transparency = refl }
 
-unsupported-line : BlockLine PropertyValue.Unsupported
+fault-line : (f : ValueFault) → BlockLine (fault f)
 unfolding propertyName
-unsupported-line = record { no-duration = refl; no-rule = refl; no-status = refl; no-transparency = refl }
+fault-line f = record { no-duration = refl; no-rule = refl; no-status = refl; no-transparency = refl }
 
-bad-line : BlockLine PropertyValue.Bad
-unfolding propertyName
-bad-line = record { no-duration = refl; no-rule = refl; no-status = refl; no-transparency = refl }
-
-start-line : (t : Time) → BlockLine (PropertyValue.Start t)
+start-line : (t : Time) → BlockLine (of (span (start t)))
 unfolding propertyName
 start-line t = record { no-duration = refl; no-rule = refl; no-status = refl; no-transparency = refl }
 
-end-line : (t : Time) → BlockLine (PropertyValue.End t)
+end-line : (t : Time) → BlockLine (of (span (end t)))
 unfolding propertyName
 end-line t = record { no-duration = refl; no-rule = refl; no-status = refl; no-transparency = refl }
 
-periods-line : (b : BusyType) → BlockLine (PropertyValue.HasPeriods b)
+periods-line : (b : BusyType) → BlockLine (of (periods b))
 unfolding propertyName
 periods-line b = record { no-duration = refl; no-rule = refl; no-status = refl; no-transparency = refl }
 
 block-line : (c : Context) (x : ContentLine) → BlockLine (propertyValueOf c Scope.FreeBusy x)
 unfolding propertyValueOf beforeItems propertyOf valueAs
 block-line c x =
-    items-keep BlockLine bad-line c (x .value) (beforeItems c Scope.FreeBusy x)
+    items-keep BlockLine (fault-line bad) c (x .value) (beforeItems c Scope.FreeBusy x)
     (go (sameName (x .name) (ascii "DTSTART")) (sameName (x .name) (ascii "DTEND")) (sameName (x .name) (ascii "FREEBUSY")))
   where
     go : (s e p : Bool)
         → BlockLine (valueAs (cond s Property.Start (cond e Property.End (cond p Property.Periods Property.Unread))) c Scope.FreeBusy x)
-    go true e p = zoned-keeps BlockLine unsupported-line x _ (start-keeps BlockLine bad-line (timeIn Scope.FreeBusy (timeOf c x)) (λ t h. start-line t))
-    go false true p = zoned-keeps BlockLine unsupported-line x _ (end-keeps BlockLine bad-line (timeIn Scope.FreeBusy (timeOf c x)) (λ t h. end-line t))
-    go false false true = type-keeps BlockLine bad-line x (periods-line (busyOf x))
+    go true e p = zoned-keeps BlockLine (fault-line unsupported) x _ (time-keeps BlockLine (fault-line bad) (λ t. span (start t)) (timeIn Scope.FreeBusy (timeOf c x)) (λ t h. start-line t))
+    go false true p = zoned-keeps BlockLine (fault-line unsupported) x _ (time-keeps BlockLine (fault-line bad) (λ t. span (end t)) (timeIn Scope.FreeBusy (timeOf c x)) (λ t h. end-line t))
+    go false false true = type-keeps BlockLine (fault-line bad) x (periods-line (busyOf x))
     go false false false = nothing-line
 
 -- one line more that is not of the property
-none-more : (w : List ℕ) (s : PropertyValue) (ss : List PropertyValue) → sameBytes (propertyName s) w ≡ false → linesNamed w ss ≡ 0 → linesNamed w (s ∷ ss) ≡ 0
+none-more : (w : List ℕ) (s : Reading) (ss : List Reading) → sameBytes (propertyName s) w ≡ false → linesNamed w ss ≡ 0 → linesNamed w (s ∷ ss) ≡ 0
 unfolding linesNamed
 none-more w s ss e h = rw e h
 

@@ -7,9 +7,9 @@ use mathlib.Core.List.{List, [], _∷_, _++_, List·Memᴰ, List·Memᴰ·head, 
 use native.Mathlib.Omega.{arith}
 use Rattle.ascii.proofs.Bools.{clash}
 use Rattle.values.specs.declared.times.Context.{Context}
+use Rattle.property.specs.Facts.{ValueFault, Reading, unread, fault, of, unsupported, bad}
 use Rattle.property.specs.Properties.{propertyValueOf}
 use Rattle.property.specs.declared.Scope.{Scope}
-use Rattle.property.specs.declared.PropertyValue.{PropertyValue}
 use Rattle.nesting.specs.Components.{Numbered, Component, propertiesIn}
 use Rattle.overrides.specs.VEvents.{VEvent}
 use Rattle.calendar.specs.Meaning.{componentScope, faultOr, faultIn, valueFault, vEvents, breaksRule, brokenOr, firstFault, ruleFault}
@@ -77,106 +77,99 @@ along c (k ∷ ks) =
     ∙ along-lines c (componentScope k) (propertiesIn (k .items)) (readLines ks)
 
 -- one of the two faults
-abbrev IsFault : PropertyValue → Type 0
-IsFault v = (v ≡ PropertyValue.Unsupported) ⊎ (v ≡ PropertyValue.Bad)
+abbrev IsFault : Reading → Type 0
+IsFault v = (f : ValueFault) × (v ≡ fault f)
 
 -- what a line says is one, or is passed over
-told : (v : PropertyValue) → IsFault v ⊎ ((n : ℕ) (r : ValueCheck) → faultOr n v r ≡ r)
+told : (v : Reading) → IsFault v ⊎ ((n : ℕ) (r : ValueCheck) → faultOr n v r ≡ r)
 unfolding faultOr
-told PropertyValue.Nothing = inr (λ n r. refl)
-told PropertyValue.Unsupported = inl (inl refl)
-told PropertyValue.Bad = inl (inr refl)
-told (PropertyValue.Start t) = inr (λ n r. refl)
-told (PropertyValue.End t) = inr (λ n r. refl)
-told (PropertyValue.Lasts d) = inr (λ n r. refl)
-told (PropertyValue.Repeats x) = inr (λ n r. refl)
-told (PropertyValue.HasStatus x) = inr (λ n r. refl)
-told (PropertyValue.Transparent x) = inr (λ n r. refl)
-told PropertyValue.Uid = inr (λ n r. refl)
-told (PropertyValue.RecurrenceId t) = inr (λ n r. refl)
-told (PropertyValue.HasExceptions f) = inr (λ n r. refl)
-told (PropertyValue.HasPeriods b) = inr (λ n r. refl)
+told unread = inr (λ n r. refl)
+told (fault f) = inl (f, refl)
+told (of f) = inr (λ n r. refl)
 
 -- a fault hides what comes behind it
-fault-only : {v : PropertyValue} → IsFault v → (n : ℕ) (r q : ValueCheck) → faultOr n v r ≡ faultOr n v q
+fault-only : (f : ValueFault) (n : ℕ) (r q : ValueCheck) → faultOr n (fault f) r ≡ faultOr n (fault f) q
 unfolding faultOr
-fault-only (inl e) n r q = rw e
-fault-only (inr e) n r q = rw e
+fault-only unsupported n r q = refl
+fault-only bad n r q = refl
 
 -- and is no good line
-fault-shows : {v : PropertyValue} → IsFault v → (n : ℕ) (r : ValueCheck) → faultOr n v r ≡ ValueCheck.Good → ⊥
+fault-shows : (f : ValueFault) (n : ℕ) (r : ValueCheck) → faultOr n (fault f) r ≡ ValueCheck.Good → ⊥
 unfolding faultOr
-fault-shows (inl e) n r q = let w : ValueCheck.Unsupported n ≡ ValueCheck.Good = rw e at q in let z : _≡_ {A = ℕ} 0 1 = cc in absurd (omega arith)
-fault-shows (inr e) n r q = let w : ValueCheck.Bad n ≡ ValueCheck.Good = rw e at q in let z : _≡_ {A = ℕ} 0 1 = cc in absurd (omega arith)
+fault-shows unsupported n r q = let z : _≡_ {A = ℕ} 0 1 = cc in absurd (omega arith)
+fault-shows bad n r q = let z : _≡_ {A = ℕ} 0 1 = cc in absurd (omega arith)
 
 -- it tells what it is, and where
-fault-same : {v w : PropertyValue} → IsFault v → IsFault w → (n i : ℕ) (r : ValueCheck) → faultOr n v r ≡ faultOr i w ValueCheck.Good → (v ≡ w) × (n ≡ i)
+fault-same : (f g : ValueFault) (n i : ℕ) (r : ValueCheck) → faultOr n (fault f) r ≡ faultOr i (fault g) ValueCheck.Good → (f ≡ g) × (n ≡ i)
 unfolding faultOr
-fault-same (inl e) (inl f) n i r q = let k : ValueCheck.Unsupported n ≡ ValueCheck.Unsupported i = rw (e, f) at q in (e ∙ sym f, cc)
-fault-same (inl e) (inr f) n i r q = let k : ValueCheck.Unsupported n ≡ ValueCheck.Bad i = rw (e, f) at q in let z : _≡_ {A = ℕ} 0 1 = cc in absurd (omega arith)
-fault-same (inr e) (inl f) n i r q = let k : ValueCheck.Bad n ≡ ValueCheck.Unsupported i = rw (e, f) at q in let z : _≡_ {A = ℕ} 0 1 = cc in absurd (omega arith)
-fault-same (inr e) (inr f) n i r q = let k : ValueCheck.Bad n ≡ ValueCheck.Bad i = rw (e, f) at q in (e ∙ sym f, cc)
+fault-same unsupported unsupported n i r q = (refl, cc)
+fault-same unsupported bad n i r q = let z : _≡_ {A = ℕ} 0 1 = cc in absurd (omega arith)
+fault-same bad unsupported n i r q = let z : _≡_ {A = ℕ} 0 1 = cc in absurd (omega arith)
+fault-same bad bad n i r q = (refl, cc)
 
 -- the first of some lines with a fault
-pub record FirstOf (c : Context) (v : PropertyValue) (xs : List ReadLine) (i : ℕ) : Type 0 where
+pub record FirstOf (c : Context) (v : ValueFault) (xs : List ReadLine) (i : ℕ) : Type 0 where
   pub which : ReadLine
   pub first : First (Faulty c) xs which
-  pub says : saysOf c which ≡ v
+  pub says : saysOf c which ≡ fault v
   pub number : which .at .number ≡ i
 
-module _ (c : Context) {v : PropertyValue} (w : IsFault v) (i : ℕ) where
-  line-found : (xs : List ReadLine) → faultAlong c xs ≡ faultOr i v ValueCheck.Good → FirstOf c v xs i
+module _ (c : Context) (v : ValueFault) (i : ℕ) where
+  line-found : (xs : List ReadLine) → faultAlong c xs ≡ faultOr i (fault v) ValueCheck.Good → FirstOf c v xs i
   unfolding Faulty
-  line-found [] e = absurd (fault-shows w i ValueCheck.Good (sym e))
+  line-found [] e = absurd (fault-shows v i ValueCheck.Good (sym e))
   line-found (x ∷ xs) e = go (told (saysOf c x)) (line-found xs)
     where
       go : IsFault (saysOf c x) ⊎ ((n : ℕ) (r : ValueCheck) → faultOr n (saysOf c x) r ≡ r)
-          → (faultAlong c xs ≡ faultOr i v ValueCheck.Good → FirstOf c v xs i) → FirstOf c v (x ∷ xs) i
+          → (faultAlong c xs ≡ faultOr i (fault v) ValueCheck.Good → FirstOf c v xs i) → FirstOf c v (x ∷ xs) i
       go (inl f) ih =
-          let same = fault-same f w (x .at .number) i (faultAlong c xs) e in
-          record { which = x; first = first-here x xs f; says = same .0; number = same .1 }
+          let said = sym (ap (λ (y : Reading). faultOr (x .at .number) y (faultAlong c xs)) (f .1)) ∙ e in
+          let same = fault-same (f .0) v (x .at .number) i (faultAlong c xs) said in
+          record { which = x; first = first-here x xs f; says = f .1 ∙ ap fault (same .0); number = same .1 }
       go (inr p) ih =
           let r = ih (sym (p (x .at .number) (faultAlong c xs)) ∙ e) in
-          let fails : IsFault (saysOf c x) → ⊥ = λ f. fault-shows f 0 ValueCheck.Good (p 0 ValueCheck.Good) in
+          let fails : IsFault (saysOf c x) → ⊥ = λ f.
+          fault-shows (f .0) 0 ValueCheck.Good (sym (ap (λ (y : Reading). faultOr 0 y ValueCheck.Good) (f .1)) ∙ p 0 ValueCheck.Good)
+          in
           record { which = r .which; first = first-later x xs fails (r .first); says = r .says; number = r .number }
 
-  found-line : (xs : List ReadLine) → FirstOf c v xs i → faultAlong c xs ≡ faultOr i v ValueCheck.Good
+  found-line : (xs : List ReadLine) → FirstOf c v xs i → faultAlong c xs ≡ faultOr i (fault v) ValueCheck.Good
   unfolding Faulty
   found-line [] f = absurd (no-first (f .first))
   found-line (x ∷ xs) f = go (first-cases x xs (f .first)) (told (saysOf c x)) (found-line xs)
     where
       go : ((f .which ≡ x) × Faulty c x) ⊎ ((Faulty c x → ⊥) × First (Faulty c) xs (f .which))
           → IsFault (saysOf c x) ⊎ ((n : ℕ) (r : ValueCheck) → faultOr n (saysOf c x) r ≡ r)
-          → (FirstOf c v xs i → faultAlong c xs ≡ faultOr i v ValueCheck.Good) → faultAlong c (x ∷ xs) ≡ faultOr i v ValueCheck.Good
+          → (FirstOf c v xs i → faultAlong c xs ≡ faultOr i (fault v) ValueCheck.Good) → faultAlong c (x ∷ xs) ≡ faultOr i (fault v) ValueCheck.Good
       go (inl h) t ih =
           ap (λ (y : ReadLine). faultOr (y .at .number) (saysOf c y) (faultAlong c xs)) (sym (h .0))
-          ∙ ap (λ (y : PropertyValue). faultOr (f .which .at .number) y (faultAlong c xs)) (f .says)
-          ∙ ap (λ (n : ℕ). faultOr n v (faultAlong c xs)) (f .number)
-          ∙ fault-only w i (faultAlong c xs) ValueCheck.Good
+          ∙ ap (λ (y : Reading). faultOr (f .which .at .number) y (faultAlong c xs)) (f .says)
+          ∙ ap (λ (n : ℕ). faultOr n (fault v) (faultAlong c xs)) (f .number)
+          ∙ fault-only v i (faultAlong c xs) ValueCheck.Good
       go (inr h) (inl k) ih = absurd (h .0 k)
       go (inr h) (inr p) ih =
           p (x .at .number) (faultAlong c xs)
           ∙ ih (record { which = f .which; first = h .1; says = f .says; number = f .number })
 
 module _ (c : Context) (ks : List Component) (i : ℕ) where
-  faulty-iff : {v : PropertyValue} → IsFault v → (valueFault c ks ≡ faultOr i v ValueCheck.Good) ↔ FirstFaulty c v ks i
-  faulty-iff w = (
+  faulty-iff : (v : ValueFault) → (valueFault c ks ≡ faultOr i (fault v) ValueCheck.Good) ↔ FirstFaulty c v ks i
+  faulty-iff v = (
     λ e.
-        let f = line-found c w i (readLines ks) (sym (along c ks) ∙ e) in
+        let f = line-found c v i (readLines ks) (sym (along c ks) ∙ e) in
         record { which = f .which; first = f .first; says = f .says; number = f .number },
     λ f.
         along c ks
-        ∙ found-line c w i (readLines ks) (record { which = f .which; first = f .first; says = f .says; number = f .number }),
+        ∙ found-line c v i (readLines ks) (record { which = f .which; first = f .first; says = f .says; number = f .number }),
   )
 
   -- 8: the first line with either has an unsupported thing; 9: it has a bad value
-  pub unsupported-iff : (valueFault c ks ≡ ValueCheck.Unsupported i) ↔ FirstFaulty c PropertyValue.Unsupported ks i
+  pub unsupported-iff : (valueFault c ks ≡ ValueCheck.Unsupported i) ↔ FirstFaulty c unsupported ks i
   unfolding faultOr
-  unsupported-iff = faulty-iff (inl refl)
+  unsupported-iff = faulty-iff unsupported
 
-  pub bad-value-iff : (valueFault c ks ≡ ValueCheck.Bad i) ↔ FirstFaulty c PropertyValue.Bad ks i
+  pub bad-value-iff : (valueFault c ks ≡ ValueCheck.Bad i) ↔ FirstFaulty c bad ks i
   unfolding faultOr
-  bad-value-iff = faulty-iff (inr refl)
+  bad-value-iff = faulty-iff bad
 
 -- ---- 10
 

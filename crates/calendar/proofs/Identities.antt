@@ -13,7 +13,7 @@ use Rattle.values.specs.declared.times.Time.{Time}
 use Rattle.values.proofs.TimeLists.{times-small}
 use Rattle.property.specs.Properties.{propertyValueOf, PropertyValueSmall}
 use Rattle.property.specs.declared.Scope.{Scope}
-use Rattle.property.specs.declared.PropertyValue.{PropertyValue}
+use Rattle.property.specs.Facts.{Reading, unread, fault, of, span, repeats, busy, identity, periods, uid, recurrenceId, exceptions}
 use Rattle.property.proofs.Properties.{propertyValueOf-small}
 use Rattle.nesting.specs.Components.{Numbered, Component, propertiesIn}
 use Rattle.calendar.specs.Identities.{Identity, uidsBy, recurrenceIdsBy, exceptionsBy, uidsIn, recurrenceIdsIn, exceptionsIn, identityIn, identityOf}
@@ -49,37 +49,29 @@ unfolding secondsOf
 second-among (u ∷ ts) t (List·Memᴰ·head q) = List·Memᴰ·head (ap (λ (y : Time). y .second) q)
 second-among (u ∷ ts) t (List·Memᴰ·tail m) = List·Memᴰ·tail (second-among ts t m)
 
-recurrence-id-small : (v : PropertyValue) → PropertyValueSmall v → (t : Time) → List·Memᴰ t (recurrenceIdsBy v) → t .second ≤ lastSecond
+recurrence-id-small : (v : Reading) → PropertyValueSmall v → (t : Time) → List·Memᴰ t (recurrenceIdsBy v) → t .second ≤ lastSecond
 unfolding recurrenceIdsBy
-recurrence-id-small PropertyValue.Nothing h t m = absurd (List·Memᴰ·not-nil m)
-recurrence-id-small PropertyValue.Unsupported h t m = absurd (List·Memᴰ·not-nil m)
-recurrence-id-small PropertyValue.Bad h t m = absurd (List·Memᴰ·not-nil m)
-recurrence-id-small (PropertyValue.Start u) h t m = absurd (List·Memᴰ·not-nil m)
-recurrence-id-small (PropertyValue.End u) h t m = absurd (List·Memᴰ·not-nil m)
-recurrence-id-small (PropertyValue.Lasts d) h t m = absurd (List·Memᴰ·not-nil m)
-recurrence-id-small (PropertyValue.Repeats r) h t m = absurd (List·Memᴰ·not-nil m)
-recurrence-id-small (PropertyValue.HasStatus s) h t m = absurd (List·Memᴰ·not-nil m)
-recurrence-id-small (PropertyValue.Transparent b) h t m = absurd (List·Memᴰ·not-nil m)
-recurrence-id-small PropertyValue.Uid h t m = absurd (List·Memᴰ·not-nil m)
-recurrence-id-small (PropertyValue.RecurrenceId u) h t m = let e = ap (λ (y : Time). y .second) (List·Memᴰ·eq-of-singleton m) in omega arith
-recurrence-id-small (PropertyValue.HasExceptions f) h t m = absurd (List·Memᴰ·not-nil m)
-recurrence-id-small (PropertyValue.HasPeriods b) h t m = absurd (List·Memᴰ·not-nil m)
+recurrence-id-small unread h t m = absurd (List·Memᴰ·not-nil m)
+recurrence-id-small (fault f) h t m = absurd (List·Memᴰ·not-nil m)
+recurrence-id-small (of (span f)) h t m = absurd (List·Memᴰ·not-nil m)
+recurrence-id-small (of (repeats r)) h t m = absurd (List·Memᴰ·not-nil m)
+recurrence-id-small (of (busy f)) h t m = absurd (List·Memᴰ·not-nil m)
+recurrence-id-small (of (identity uid)) h t m = absurd (List·Memᴰ·not-nil m)
+recurrence-id-small (of (identity (recurrenceId u))) h t m = let e = ap (λ (y : Time). y .second) (List·Memᴰ·eq-of-singleton m) in omega arith
+recurrence-id-small (of (identity (exceptions f))) h t m = absurd (List·Memᴰ·not-nil m)
+recurrence-id-small (of (periods b)) h t m = absurd (List·Memᴰ·not-nil m)
 
-exception-small : (c : Context) (v : PropertyValue) (x : ContentLine) (t : Time) → List·Memᴰ t (exceptionsBy c v x) → t .second ≤ lastSecond
+exception-small : (c : Context) (v : Reading) (x : ContentLine) (t : Time) → List·Memᴰ t (exceptionsBy c v x) → t .second ≤ lastSecond
 unfolding exceptionsBy
-exception-small c PropertyValue.Nothing x t m = absurd (List·Memᴰ·not-nil m)
-exception-small c PropertyValue.Unsupported x t m = absurd (List·Memᴰ·not-nil m)
-exception-small c PropertyValue.Bad x t m = absurd (List·Memᴰ·not-nil m)
-exception-small c (PropertyValue.Start u) x t m = absurd (List·Memᴰ·not-nil m)
-exception-small c (PropertyValue.End u) x t m = absurd (List·Memᴰ·not-nil m)
-exception-small c (PropertyValue.Lasts d) x t m = absurd (List·Memᴰ·not-nil m)
-exception-small c (PropertyValue.Repeats r) x t m = absurd (List·Memᴰ·not-nil m)
-exception-small c (PropertyValue.HasStatus s) x t m = absurd (List·Memᴰ·not-nil m)
-exception-small c (PropertyValue.Transparent b) x t m = absurd (List·Memᴰ·not-nil m)
-exception-small c PropertyValue.Uid x t m = absurd (List·Memᴰ·not-nil m)
-exception-small c (PropertyValue.RecurrenceId u) x t m = absurd (List·Memᴰ·not-nil m)
-exception-small c (PropertyValue.HasExceptions f) x t m = times-small c f (x .value) (t .second) (second-among (goodTimes (timeItems c f (x .value))) t m)
-exception-small c (PropertyValue.HasPeriods b) x t m = absurd (List·Memᴰ·not-nil m)
+exception-small c unread x t m = absurd (List·Memᴰ·not-nil m)
+exception-small c (fault f) x t m = absurd (List·Memᴰ·not-nil m)
+exception-small c (of (span f)) x t m = absurd (List·Memᴰ·not-nil m)
+exception-small c (of (repeats r)) x t m = absurd (List·Memᴰ·not-nil m)
+exception-small c (of (busy f)) x t m = absurd (List·Memᴰ·not-nil m)
+exception-small c (of (identity uid)) x t m = absurd (List·Memᴰ·not-nil m)
+exception-small c (of (identity (recurrenceId u))) x t m = absurd (List·Memᴰ·not-nil m)
+exception-small c (of (identity (exceptions f))) x t m = times-small c f (x .value) (t .second) (second-among (goodTimes (timeItems c f (x .value))) t m)
+exception-small c (of (periods b)) x t m = absurd (List·Memᴰ·not-nil m)
 
 -- a claim about every time of two lists
 either-list : {P : Time → Type 0} (a b : List Time) → ((t : Time) → List·Memᴰ t a → P t) → ((t : Time) → List·Memᴰ t b → P t)

@@ -13,11 +13,11 @@ use Rattle.time.specs.Duration.{readDuration}
 use Rattle.values.specs.Rule.{ruleOf}
 use Rattle.values.specs.Times.{formOf, timeOf}
 use Rattle.values.specs.declared.times.Context.{Context}
-use Rattle.property.specs.Properties.{propertyOf, timeIn, unlessZoned, typeValue, valueAs, beforeItems, withItems, propertyValueOf}
+use Rattle.property.specs.Properties.{propertyOf, timeIn, unlessZoned, typeValue, valueAs, beforeItems, itemsGood, withItems, propertyValueOf}
 use Rattle.property.specs.declared.Scope.{Scope}
 use Rattle.property.specs.declared.Property.{Property}
-use Rattle.property.specs.declared.PropertyValue.{PropertyValue}
-use Rattle.property.proofs.Properties.{start-keeps, end-keeps, duration-keeps, rule-keeps, recurrence-keeps, exceptions-keep, ranged-keeps, zoned-keeps, type-keeps, items-keep}
+use Rattle.property.specs.Facts.{Reading, unread, fault, of, unsupported, bad, span, identity, start, end, recurrenceId}
+use Rattle.property.proofs.Properties.{time-keeps, duration-keeps, rule-keeps, exceptions-keep, ranged-keeps, zoned-keeps, type-keeps, items-keep}
 use Rattle.nesting.specs.Components.{Numbered, Component, propertiesIn}
 use Rattle.events.specs.ComponentRules.{propertyName, countIf, linesNamed}
 use Rattle.calendar.specs.Meaning.{componentScope, propertyValuesIn, faultOr, faultIn, valueFault}
@@ -27,61 +27,42 @@ use Rattle.calendar.specs.declared.ValueCheck.{ValueCheck}
 -- ---- a good value
 
 -- neither unsupported nor bad
-abbrev Good : PropertyValue → Type 0
-Good PropertyValue.Nothing = Unit {0}
-Good PropertyValue.Unsupported = ⊥
-Good PropertyValue.Bad = ⊥
-Good (PropertyValue.Start t) = Unit {0}
-Good (PropertyValue.End t) = Unit {0}
-Good (PropertyValue.Lasts d) = Unit {0}
-Good (PropertyValue.Repeats r) = Unit {0}
-Good (PropertyValue.HasStatus s) = Unit {0}
-Good (PropertyValue.Transparent t) = Unit {0}
-Good PropertyValue.Uid = Unit {0}
-Good (PropertyValue.RecurrenceId t) = Unit {0}
-Good (PropertyValue.HasExceptions f) = Unit {0}
-Good (PropertyValue.HasPeriods b) = Unit {0}
+abbrev Good : Reading → Type 0
+Good unread = Unit {0}
+Good (fault f) = ⊥
+Good (of f) = Unit {0}
 
-fault-good : (n : ℕ) (s : PropertyValue) (r : ValueCheck) → faultOr n s r ≡ ValueCheck.Good → Good s × (r ≡ ValueCheck.Good)
+fault-good : (n : ℕ) (s : Reading) (r : ValueCheck) → faultOr n s r ≡ ValueCheck.Good → Good s × (r ≡ ValueCheck.Good)
 unfolding faultOr
-fault-good n PropertyValue.Nothing r e = (tt, e)
-fault-good n PropertyValue.Unsupported r e = let z : _≡_ {A = ℕ} 0 1 = cc in absurd (omega arith)
-fault-good n PropertyValue.Bad r e = let z : _≡_ {A = ℕ} 0 1 = cc in absurd (omega arith)
-fault-good n (PropertyValue.Start t) r e = (tt, e)
-fault-good n (PropertyValue.End t) r e = (tt, e)
-fault-good n (PropertyValue.Lasts d) r e = (tt, e)
-fault-good n (PropertyValue.Repeats x) r e = (tt, e)
-fault-good n (PropertyValue.HasStatus x) r e = (tt, e)
-fault-good n (PropertyValue.Transparent x) r e = (tt, e)
-fault-good n PropertyValue.Uid r e = (tt, e)
-fault-good n (PropertyValue.RecurrenceId t) r e = (tt, e)
-fault-good n (PropertyValue.HasExceptions f) r e = (tt, e)
-fault-good n (PropertyValue.HasPeriods b) r e = (tt, e)
+fault-good n unread r e = (tt, e)
+fault-good n (fault unsupported) r e = let z : _≡_ {A = ℕ} 0 1 = cc in absurd (omega arith)
+fault-good n (fault bad) r e = let z : _≡_ {A = ℕ} 0 1 = cc in absurd (omega arith)
+fault-good n (of f) r e = (tt, e)
 
 -- ---- the name of what a line says, where it is good
 
 module _ (c : Context) (s : Scope) (x : ContentLine) where
-  abbrev valueOfLine : Property → PropertyValue
+  abbrev valueOfLine : Property → Reading
   valueOfLine p = withItems c (x .value) (valueAs p c s x)
 
   -- where it is good, it has this name
-  abbrev NamedSo : List ℕ → PropertyValue → Type 0
+  abbrev NamedSo : List ℕ → Reading → Type 0
   NamedSo w v = Good v → propertyName v ≡ w
 
   -- looking at the items leaves the name
-  named-line : (w : List ℕ) (v : PropertyValue) → NamedSo w v → NamedSo w (withItems c (x .value) v)
+  named-line : (w : List ℕ) (v : Reading) → NamedSo w v → NamedSo w (withItems c (x .value) v)
   named-line w v h = items-keep (NamedSo w) (λ k. absurd k) c (x .value) v h
 
-  named-time : (w : List ℕ) (v : PropertyValue) → NamedSo w v → NamedSo w (withItems c (x .value) (unlessZoned x v))
+  named-time : (w : List ℕ) (v : Reading) → NamedSo w v → NamedSo w (withItems c (x .value) (unlessZoned x v))
   named-time w v h = named-line w (unlessZoned x v) (zoned-keeps (NamedSo w) (λ k. absurd k) x v h)
 
   start-name : NamedSo (ascii "DTSTART") (valueOfLine Property.Start)
   unfolding valueAs propertyName
-  start-name = named-time (ascii "DTSTART") _ (start-keeps (NamedSo (ascii "DTSTART")) (λ k. absurd k) (timeIn s (timeOf c x)) (λ t e h. refl))
+  start-name = named-time (ascii "DTSTART") _ (time-keeps (NamedSo (ascii "DTSTART")) (λ k. absurd k) (λ t. span (start t)) (timeIn s (timeOf c x)) (λ t e h. refl))
 
   end-name : NamedSo (ascii "DTEND") (valueOfLine Property.End)
   unfolding valueAs propertyName
-  end-name = named-time (ascii "DTEND") _ (end-keeps (NamedSo (ascii "DTEND")) (λ k. absurd k) (timeIn s (timeOf c x)) (λ t e h. refl))
+  end-name = named-time (ascii "DTEND") _ (time-keeps (NamedSo (ascii "DTEND")) (λ k. absurd k) (λ t. span (end t)) (timeIn s (timeOf c x)) (λ t e h. refl))
 
   duration-name : NamedSo (ascii "DURATION") (valueOfLine Property.Duration)
   unfolding valueAs propertyName
@@ -92,11 +73,11 @@ module _ (c : Context) (s : Scope) (x : ContentLine) where
   rule-name = named-line (ascii "RRULE") _ (rule-keeps (NamedSo (ascii "RRULE")) (λ k. absurd k) (λ k. absurd k) (ruleOf c (x .value)) (λ r e h. refl))
 
   status-name : propertyName (valueOfLine Property.Status) ≡ ascii "STATUS"
-  unfolding valueAs withItems propertyName
+  unfolding valueAs withItems itemsGood propertyName
   status-name = refl
 
   transparency-name : propertyName (valueOfLine Property.Transparency) ≡ ascii "TRANSP"
-  unfolding valueAs withItems propertyName
+  unfolding valueAs withItems itemsGood propertyName
   transparency-name = refl
 
   recurrence-name : NamedSo (ascii "RECURRENCE-ID") (valueOfLine Property.RecurrenceId)
@@ -104,7 +85,7 @@ module _ (c : Context) (s : Scope) (x : ContentLine) where
   recurrence-name =
       let so = NamedSo (ascii "RECURRENCE-ID") in
       named-line (ascii "RECURRENCE-ID") _
-      (ranged-keeps so (λ k. absurd k) x _ (zoned-keeps so (λ k. absurd k) x _ (recurrence-keeps so (λ k. absurd k) (timeOf c x) (λ t e h. refl))))
+      (ranged-keeps so (λ k. absurd k) x _ (zoned-keeps so (λ k. absurd k) x _ (time-keeps so (λ k. absurd k) (λ t. identity (recurrenceId t)) (timeOf c x) (λ t e h. refl))))
 
   exceptions-name : NamedSo (ascii "EXDATE") (valueOfLine Property.Exceptions)
   unfolding valueAs propertyName
@@ -117,7 +98,7 @@ module _ (c : Context) (s : Scope) (x : ContentLine) where
 -- ---- the name of the line, and the name of what it says
 
 -- words in capitals are compared as they stand
-word-name : (n u w : List ℕ) (v : PropertyValue) → map upper u ≡ u → map upper w ≡ w → sameName n u ≡ true → propertyName v ≡ u
+word-name : (n u w : List ℕ) (v : Reading) → map upper u ≡ u → map upper w ≡ w → sameName n u ≡ true → propertyName v ≡ u
     → sameBytes (propertyName v) w ≡ sameName n w
 unfolding sameName
 word-name n u w v p q e f =
@@ -127,7 +108,7 @@ word-name n u w v p q e f =
     ∙ ap (λ (a : List ℕ). sameBytes (map upper n) a) (sym q)
 
 -- what a line says has the line's name, as far as the rules of a VEVENT look at it
-record Agree (n : List ℕ) (v : PropertyValue) : Type 0 where
+record Agree (n : List ℕ) (v : Reading) : Type 0 where
   starts : sameBytes (propertyName v) (ascii "DTSTART") ≡ sameName n (ascii "DTSTART")
   ends : sameBytes (propertyName v) (ascii "DTEND") ≡ sameName n (ascii "DTEND")
   durations : sameBytes (propertyName v) (ascii "DURATION") ≡ sameName n (ascii "DURATION")
@@ -135,7 +116,7 @@ record Agree (n : List ℕ) (v : PropertyValue) : Type 0 where
   statuses : sameBytes (propertyName v) (ascii "STATUS") ≡ sameName n (ascii "STATUS")
   transparencies : sameBytes (propertyName v) (ascii "TRANSP") ≡ sameName n (ascii "TRANSP")
 
-agree : (n u : List ℕ) (v : PropertyValue) → map upper u ≡ u → sameName n u ≡ true → propertyName v ≡ u → Agree n v
+agree : (n u : List ℕ) (v : Reading) → map upper u ≡ u → sameName n u ≡ true → propertyName v ≡ u → Agree n v
 unfolding upper
 agree n u v p e f =
     record {
@@ -171,7 +152,7 @@ module _ (c : Context) (x : ContentLine) where
   event-agree-by : (s e d r t p i m o u : Bool) → named (ascii "DTSTART") ≡ s → named (ascii "DTEND") ≡ e → named (ascii "DURATION") ≡ d → named (ascii "RRULE") ≡ r
       → named (ascii "STATUS") ≡ t → named (ascii "TRANSP") ≡ p → named (ascii "UID") ≡ i → named (ascii "RECURRENCE-ID") ≡ m → named (ascii "EXDATE") ≡ o
       → AgreesBy (picked s e d r t p i m o (cond u Property.Unsupported Property.Unread))
-  unfolding upper valueAs withItems propertyName
+  unfolding upper valueAs withItems itemsGood propertyName
   event-agree-by true e d r t p i m o u es ee ed er et ep ei em eo h = agree (x .name) (ascii "DTSTART") _ refl es (start-name c Scope.Event x h)
   event-agree-by false true d r t p i m o u es ee ed er et ep ei em eo h = agree (x .name) (ascii "DTEND") _ refl ee (end-name c Scope.Event x h)
   event-agree-by false false true r t p i m o u es ee ed er et ep ei em eo h = agree (x .name) (ascii "DURATION") _ refl ed (duration-name c Scope.Event x h)
@@ -201,11 +182,11 @@ module _ (c : Context) (x : ContentLine) where
       (event-agree-by s e d r t p i m o (named (ascii "RDATE") || named (ascii "EXRULE")) refl refl refl refl refl refl refl refl refl) h
 
 -- the same in a VFREEBUSY, of DTSTART and DTEND
-record AgreeTimes (n : List ℕ) (v : PropertyValue) : Type 0 where
+record AgreeTimes (n : List ℕ) (v : Reading) : Type 0 where
   starts : sameBytes (propertyName v) (ascii "DTSTART") ≡ sameName n (ascii "DTSTART")
   ends : sameBytes (propertyName v) (ascii "DTEND") ≡ sameName n (ascii "DTEND")
 
-agree-times : (n u : List ℕ) (v : PropertyValue) → map upper u ≡ u → sameName n u ≡ true → propertyName v ≡ u → AgreeTimes n v
+agree-times : (n u : List ℕ) (v : Reading) → map upper u ≡ u → sameName n u ≡ true → propertyName v ≡ u → AgreeTimes n v
 agree-times n u v p e f = let a = agree n u v p e f in record { starts = a .starts; ends = a .ends }
 
 module _ (c : Context) (x : ContentLine) where
@@ -213,7 +194,7 @@ module _ (c : Context) (x : ContentLine) where
       → sameName (x .name) (ascii "FREEBUSY") ≡ p
       → Good (valueOfLine c Scope.FreeBusy x (cond s Property.Start (cond e Property.End (cond p Property.Periods Property.Unread))))
       → AgreeTimes (x .name) (valueOfLine c Scope.FreeBusy x (cond s Property.Start (cond e Property.End (cond p Property.Periods Property.Unread))))
-  unfolding upper valueAs withItems propertyName
+  unfolding upper valueAs withItems itemsGood propertyName
   block-agree-by true e p es ee ep h = agree-times (x .name) (ascii "DTSTART") _ refl es (start-name c Scope.FreeBusy x h)
   block-agree-by false true p es ee ep h = agree-times (x .name) (ascii "DTEND") _ refl ee (end-name c Scope.FreeBusy x h)
   block-agree-by false false true es ee ep h = agree-times (x .name) (ascii "FREEBUSY") _ refl ep (periods-name c Scope.FreeBusy x h)
@@ -226,7 +207,7 @@ module _ (c : Context) (x : ContentLine) where
 
 -- ---- all lines of a component
 
-count-step : (w : List ℕ) (s : PropertyValue) (ss : List PropertyValue) (x : Numbered) (xs : List Numbered)
+count-step : (w : List ℕ) (s : Reading) (ss : List Reading) (x : Numbered) (xs : List Numbered)
     → sameBytes (propertyName s) w ≡ sameName (x .line .name) w → linesNamed w ss ≡ linesCalled w xs → linesNamed w (s ∷ ss) ≡ linesCalled w (x ∷ xs)
 unfolding linesNamed linesCalled
 count-step w s ss x xs e h =

@@ -7,7 +7,7 @@ use Rattle.ascii.specs.Names.{sameName}
 use Rattle.ascii.specs.Words.{ascii}
 use Rattle.values.specs.declared.times.Context.{Context}
 use Rattle.property.specs.declared.Scope.{Scope}
-use Rattle.property.specs.declared.PropertyValue.{PropertyValue}
+use Rattle.property.specs.Facts.{Reading}
 use Rattle.nesting.specs.Components.{Numbered, Component, propertiesIn}
 use Rattle.events.specs.ComponentRules.{countIf, linesNamed, EventRules, BlockRules}
 use Rattle.overrides.specs.VEvents.{VEvent}
@@ -39,7 +39,7 @@ linesCalled n [] = 0
 linesCalled n (x ∷ xs) = countIf (sameName (x .line .name) n) (linesCalled n xs)
 
 -- in a VEVENT there are as many that say something of a property as there are lines with its name
-pub record EventCounts (xs : List Numbered) (ss : List PropertyValue) : Type 0 where
+pub record EventCounts (xs : List Numbered) (ss : List Reading) : Type 0 where
   pub starts : linesNamed (ascii "DTSTART") ss ≡ linesCalled (ascii "DTSTART") xs
   pub ends : linesNamed (ascii "DTEND") ss ≡ linesCalled (ascii "DTEND") xs
   pub durations : linesNamed (ascii "DURATION") ss ≡ linesCalled (ascii "DURATION") xs
@@ -48,6 +48,6 @@ pub record EventCounts (xs : List Numbered) (ss : List PropertyValue) : Type 0 w
   pub transparencies : linesNamed (ascii "TRANSP") ss ≡ linesCalled (ascii "TRANSP") xs
 
 -- the same in a VFREEBUSY
-pub record BlockCounts (xs : List Numbered) (ss : List PropertyValue) : Type 0 where
+pub record BlockCounts (xs : List Numbered) (ss : List Reading) : Type 0 where
   pub starts : linesNamed (ascii "DTSTART") ss ≡ linesCalled (ascii "DTSTART") xs
   pub ends : linesNamed (ascii "DTEND") ss ≡ linesCalled (ascii "DTEND") xs

@@ -1,12 +1,11 @@
 -- Refusals 8 to 10 for the reader (document 01, Refusal numbers): the first line with a fault of all that are read, and the first component that breaks a rule.
 use Prim.Native.Nat.{ℕ}
 use mathlib.Core.Path.{_≡_}
-use mathlib.Core.Logic.{_⊎_}
 use mathlib.Core.List.{List, [], _∷_, _++_, List·Memᴰ}
 use Rattle.values.specs.declared.times.Context.{Context}
+use Rattle.property.specs.Facts.{ValueFault, Reading}
 use Rattle.property.specs.Properties.{propertyValueOf}
 use Rattle.property.specs.declared.Scope.{Scope}
-use Rattle.property.specs.declared.PropertyValue.{PropertyValue}
 use Rattle.nesting.specs.Components.{Numbered, Component, propertiesIn}
 use Rattle.calendar.specs.Meaning.{componentScope}
 use Rattle.calendar.specs.ComponentRules.{Keeps}
@@ -36,18 +35,18 @@ readLines [] = []
 readLines (k ∷ ks) = linesWithin (componentScope k) (propertiesIn (k .items)) ++ readLines ks
 
 -- what such a line says
-unfoldable pub saysOf : Context → ReadLine → PropertyValue
+unfoldable pub saysOf : Context → ReadLine → Reading
 saysOf c x = propertyValueOf c (x .scope) (x .at .line)
 
 -- an unsupported thing or a bad value
 unfoldable pub Faulty : Context → ReadLine → Type 0
-Faulty c x = (saysOf c x ≡ PropertyValue.Unsupported) ⊎ (saysOf c x ≡ PropertyValue.Bad)
+Faulty c x = (f : ValueFault) × (saysOf c x ≡ Reading.fault f)
 
 -- line i is the first with either, and has this one
-pub record FirstFaulty (c : Context) (fault : PropertyValue) (ks : List Component) (i : ℕ) : Type 0 where
+pub record FirstFaulty (c : Context) (fault : ValueFault) (ks : List Component) (i : ℕ) : Type 0 where
   pub which : ReadLine
   pub first : First (Faulty c) (readLines ks) which
-  pub says : saysOf c which ≡ fault
+  pub says : saysOf c which ≡ Reading.fault fault
   pub number : which .at .number ≡ i
 
 -- ---- 10

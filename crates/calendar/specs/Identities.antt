@@ -8,7 +8,7 @@ use Rattle.values.specs.declared.times.Context.{Context}
 use Rattle.values.specs.declared.times.Time.{Time}
 use Rattle.property.specs.Properties.{propertyValueOf}
 use Rattle.property.specs.declared.Scope.{Scope}
-use Rattle.property.specs.declared.PropertyValue.{PropertyValue}
+use Rattle.property.specs.Facts.{Reading, unread, fault, of, span, repeats, busy, identity, periods, uid, recurrenceId, exceptions}
 use Rattle.nesting.specs.Components.{Numbered, Component, propertiesIn}
 
 -- the bytes of its UID lines, the times of its RECURRENCE-ID lines, and the times of all its EXDATE lines, each in file order
@@ -20,52 +20,40 @@ pub record Identity : Type 0 where
 -- ---- one line, by what it says
 
 -- the bytes of a UID: its value as it stands
-unfoldable pub uidsBy : PropertyValue → ContentLine → List (List ℕ)
-uidsBy PropertyValue.Nothing x = []
-uidsBy PropertyValue.Unsupported x = []
-uidsBy PropertyValue.Bad x = []
-uidsBy (PropertyValue.Start t) x = []
-uidsBy (PropertyValue.End t) x = []
-uidsBy (PropertyValue.Lasts d) x = []
-uidsBy (PropertyValue.Repeats r) x = []
-uidsBy (PropertyValue.HasStatus s) x = []
-uidsBy (PropertyValue.Transparent b) x = []
-uidsBy PropertyValue.Uid x = x .value ∷ []
-uidsBy (PropertyValue.RecurrenceId t) x = []
-uidsBy (PropertyValue.HasExceptions f) x = []
-uidsBy (PropertyValue.HasPeriods b) x = []
+unfoldable pub uidsBy : Reading → ContentLine → List (List ℕ)
+uidsBy unread x = []
+uidsBy (fault f) x = []
+uidsBy (of (span f)) x = []
+uidsBy (of (repeats r)) x = []
+uidsBy (of (busy f)) x = []
+uidsBy (of (identity uid)) x = x .value ∷ []
+uidsBy (of (identity (recurrenceId t))) x = []
+uidsBy (of (identity (exceptions f))) x = []
+uidsBy (of (periods b)) x = []
 
 -- the time of a RECURRENCE-ID
-unfoldable pub recurrenceIdsBy : PropertyValue → List Time
-recurrenceIdsBy PropertyValue.Nothing = []
-recurrenceIdsBy PropertyValue.Unsupported = []
-recurrenceIdsBy PropertyValue.Bad = []
-recurrenceIdsBy (PropertyValue.Start t) = []
-recurrenceIdsBy (PropertyValue.End t) = []
-recurrenceIdsBy (PropertyValue.Lasts d) = []
-recurrenceIdsBy (PropertyValue.Repeats r) = []
-recurrenceIdsBy (PropertyValue.HasStatus s) = []
-recurrenceIdsBy (PropertyValue.Transparent b) = []
-recurrenceIdsBy PropertyValue.Uid = []
-recurrenceIdsBy (PropertyValue.RecurrenceId t) = t ∷ []
-recurrenceIdsBy (PropertyValue.HasExceptions f) = []
-recurrenceIdsBy (PropertyValue.HasPeriods b) = []
+unfoldable pub recurrenceIdsBy : Reading → List Time
+recurrenceIdsBy unread = []
+recurrenceIdsBy (fault f) = []
+recurrenceIdsBy (of (span f)) = []
+recurrenceIdsBy (of (repeats r)) = []
+recurrenceIdsBy (of (busy f)) = []
+recurrenceIdsBy (of (identity uid)) = []
+recurrenceIdsBy (of (identity (recurrenceId t))) = t ∷ []
+recurrenceIdsBy (of (identity (exceptions f))) = []
+recurrenceIdsBy (of (periods b)) = []
 
 -- the times of an EXDATE
-unfoldable pub exceptionsBy : Context → PropertyValue → ContentLine → List Time
-exceptionsBy c PropertyValue.Nothing x = []
-exceptionsBy c PropertyValue.Unsupported x = []
-exceptionsBy c PropertyValue.Bad x = []
-exceptionsBy c (PropertyValue.Start t) x = []
-exceptionsBy c (PropertyValue.End t) x = []
-exceptionsBy c (PropertyValue.Lasts d) x = []
-exceptionsBy c (PropertyValue.Repeats r) x = []
-exceptionsBy c (PropertyValue.HasStatus s) x = []
-exceptionsBy c (PropertyValue.Transparent b) x = []
-exceptionsBy c PropertyValue.Uid x = []
-exceptionsBy c (PropertyValue.RecurrenceId t) x = []
-exceptionsBy c (PropertyValue.HasExceptions f) x = goodTimes (timeItems c f (x .value))
-exceptionsBy c (PropertyValue.HasPeriods b) x = []
+unfoldable pub exceptionsBy : Context → Reading → ContentLine → List Time
+exceptionsBy c unread x = []
+exceptionsBy c (fault f) x = []
+exceptionsBy c (of (span f)) x = []
+exceptionsBy c (of (repeats r)) x = []
+exceptionsBy c (of (busy f)) x = []
+exceptionsBy c (of (identity uid)) x = []
+exceptionsBy c (of (identity (recurrenceId t))) x = []
+exceptionsBy c (of (identity (exceptions f))) x = goodTimes (timeItems c f (x .value))
+exceptionsBy c (of (periods b)) x = []
 
 -- ---- the lines directly in a VEVENT, in file order
 

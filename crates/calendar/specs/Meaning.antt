@@ -9,9 +9,9 @@ use Rattle.line.specs.WellFormed.{lineCheck, LineCheck, allGood, badLine}
 use Rattle.delimiters.specs.Innermost.{isEvent, isFreeBusy}
 use Rattle.values.specs.Period.{periodItems, goodPeriods}
 use Rattle.values.specs.declared.times.Context.{Context}
+use Rattle.property.specs.Facts.{Reading, unread, of, unsupported, bad, span, repeats, busy, identity, periods}
 use Rattle.property.specs.Properties.{propertyValueOf}
 use Rattle.property.specs.declared.Scope.{Scope}
-use Rattle.property.specs.declared.PropertyValue.{PropertyValue}
 use Rattle.nesting.specs.Nesting.{nestingOf}
 use Rattle.nesting.specs.Components.{Numbered, Component, treeOf, itemsBelow, componentsIn, propertiesIn}
 use Rattle.nesting.specs.declared.Structure.{Structure}
@@ -37,27 +37,18 @@ unfoldable pub componentScope : Component → Scope
 componentScope k = scopeOf (k .begin .line .value)
 
 -- what each line directly in a component says, in order
-unfoldable pub propertyValuesIn : Context → Scope → List Numbered → List PropertyValue
+unfoldable pub propertyValuesIn : Context → Scope → List Numbered → List Reading
 propertyValuesIn c s [] = []
 propertyValuesIn c s (x ∷ xs) = propertyValueOf c s (x .line) ∷ propertyValuesIn c s xs
 
 -- ---- 8 and 9: the first line in file order with either
 
 -- a line's own fault, else what the lines after it have
-unfoldable pub faultOr : ℕ → PropertyValue → ValueCheck → ValueCheck
-faultOr n PropertyValue.Nothing r = r
-faultOr n PropertyValue.Unsupported r = ValueCheck.Unsupported n
-faultOr n PropertyValue.Bad r = ValueCheck.Bad n
-faultOr n (PropertyValue.Start t) r = r
-faultOr n (PropertyValue.End t) r = r
-faultOr n (PropertyValue.Lasts d) r = r
-faultOr n (PropertyValue.Repeats x) r = r
-faultOr n (PropertyValue.HasStatus x) r = r
-faultOr n (PropertyValue.Transparent x) r = r
-faultOr n PropertyValue.Uid r = r
-faultOr n (PropertyValue.RecurrenceId t) r = r
-faultOr n (PropertyValue.HasExceptions f) r = r
-faultOr n (PropertyValue.HasPeriods b) r = r
+unfoldable pub faultOr : ℕ → Reading → ValueCheck → ValueCheck
+faultOr n unread r = r
+faultOr n (Reading.fault unsupported) r = ValueCheck.Unsupported n
+faultOr n (Reading.fault bad) r = ValueCheck.Bad n
+faultOr n (of f) r = r
 
 -- the lines of one component, and then what is to follow
 unfoldable pub faultIn : Context → Scope → List Numbered → ValueCheck → ValueCheck
@@ -127,20 +118,14 @@ ruleFault c ks = firstFault c [] (vEvents c ks) ks
 -- ---- the meaning
 
 -- the periods that a line gives
-unfoldable pub periodsBy : PropertyValue → ContentLine → List BusyPeriod
-periodsBy PropertyValue.Nothing x = []
-periodsBy PropertyValue.Unsupported x = []
-periodsBy PropertyValue.Bad x = []
-periodsBy (PropertyValue.Start t) x = []
-periodsBy (PropertyValue.End t) x = []
-periodsBy (PropertyValue.Lasts d) x = []
-periodsBy (PropertyValue.Repeats r) x = []
-periodsBy (PropertyValue.HasStatus s) x = []
-periodsBy (PropertyValue.Transparent t) x = []
-periodsBy PropertyValue.Uid x = []
-periodsBy (PropertyValue.RecurrenceId t) x = []
-periodsBy (PropertyValue.HasExceptions f) x = []
-periodsBy (PropertyValue.HasPeriods b) x = typed b (goodPeriods (periodItems (x .value)))
+unfoldable pub periodsBy : Reading → ContentLine → List BusyPeriod
+periodsBy unread x = []
+periodsBy (Reading.fault f) x = []
+periodsBy (of (span f)) x = []
+periodsBy (of (repeats r)) x = []
+periodsBy (of (busy f)) x = []
+periodsBy (of (identity f)) x = []
+periodsBy (of (periods b)) x = typed b (goodPeriods (periodItems (x .value)))
 
 -- the periods of a block, in file order
 unfoldable pub blockPeriods : Context → List Numbered → List BusyPeriod

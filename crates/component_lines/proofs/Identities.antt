@@ -19,7 +19,7 @@ use Rattle.values.specs.declared.time_lists.Kinds.{Kinds}
 use Rattle.values.specs.declared.time_lists.TimesStored.{TimesStored}
 use Rattle.values.proofs.TimeLists.{times-stored, times-long, withKinds-append}
 use Rattle.property.specs.Properties.{propertyValueOf}
-use Rattle.property.specs.declared.PropertyValue.{PropertyValue}
+use Rattle.property.specs.Facts.{IdentityFact, Reading, unread, fault, of, span, repeats, busy, identity, periods, uid, recurrenceId}
 use Rattle.property.specs.declared.Scope.{Scope}
 use Rattle.nesting.specs.Components.{Numbered, Items, propertiesIn}
 use Rattle.index.specs.Index.{lineBytes, startIn, Entry, Indexed}
@@ -38,37 +38,25 @@ use Rattle.identities.specs.declared.IdentityRead.{IdentityRead}
 use Rattle.component_lines.proofs.Lines.{propertiesBy, next-property, next-inner, no-properties}
 
 -- it ties nothing: neither UID nor RECURRENCE-ID nor EXDATE
-abbrev pub Untied : PropertyValue → Type 0
-Untied PropertyValue.Nothing = Unit
-Untied PropertyValue.Unsupported = Unit
-Untied PropertyValue.Bad = Unit
-Untied (PropertyValue.Start t) = Unit
-Untied (PropertyValue.End t) = Unit
-Untied (PropertyValue.Lasts d) = Unit
-Untied (PropertyValue.Repeats r) = Unit
-Untied (PropertyValue.HasStatus x) = Unit
-Untied (PropertyValue.Transparent x) = Unit
-Untied PropertyValue.Uid = ⊥
-Untied (PropertyValue.RecurrenceId t) = ⊥
-Untied (PropertyValue.HasExceptions f) = ⊥
-Untied (PropertyValue.HasPeriods y) = Unit
+abbrev pub Untied : Reading → Type 0
+Untied unread = Unit
+Untied (fault f) = Unit
+Untied (of (span f)) = Unit
+Untied (of (repeats r)) = Unit
+Untied (of (busy f)) = Unit
+Untied (of (identity f)) = ⊥
+Untied (of (periods y)) = Unit
 
 -- it has no UID, no RECURRENCE-ID and no excluded second
-untied-so : (c : Context) (l : ContentLine) (v : PropertyValue) → Untied v → (uidsBy v l ≡ []) × (recurrenceIdsBy v ≡ []) × (exceptionsBy c v l ≡ [])
+untied-so : (c : Context) (l : ContentLine) (v : Reading) → Untied v → (uidsBy v l ≡ []) × (recurrenceIdsBy v ≡ []) × (exceptionsBy c v l ≡ [])
 unfolding uidsBy recurrenceIdsBy exceptionsBy
-untied-so c l PropertyValue.Nothing p = (refl, refl, refl)
-untied-so c l PropertyValue.Unsupported p = (refl, refl, refl)
-untied-so c l PropertyValue.Bad p = (refl, refl, refl)
-untied-so c l (PropertyValue.Start t) p = (refl, refl, refl)
-untied-so c l (PropertyValue.End t) p = (refl, refl, refl)
-untied-so c l (PropertyValue.Lasts d) p = (refl, refl, refl)
-untied-so c l (PropertyValue.Repeats r) p = (refl, refl, refl)
-untied-so c l (PropertyValue.HasStatus s) p = (refl, refl, refl)
-untied-so c l (PropertyValue.Transparent b) p = (refl, refl, refl)
-untied-so c l PropertyValue.Uid p = absurd p
-untied-so c l (PropertyValue.RecurrenceId t) p = absurd p
-untied-so c l (PropertyValue.HasExceptions f) p = absurd p
-untied-so c l (PropertyValue.HasPeriods b) p = (refl, refl, refl)
+untied-so c l unread p = (refl, refl, refl)
+untied-so c l (fault f) p = (refl, refl, refl)
+untied-so c l (of (span f)) p = (refl, refl, refl)
+untied-so c l (of (repeats r)) p = (refl, refl, refl)
+untied-so c l (of (busy f)) p = (refl, refl, refl)
+untied-so c l (of (identity f)) p = absurd p
+untied-so c l (of (periods b)) p = (refl, refl, refl)
 
 -- ---- one more
 
@@ -158,12 +146,12 @@ module _ {c : Context} {t : Scope} {s index : List ℕ} {xs : List Numbered} {e�
         few = z .few;
       }
 
-  module _ {rows : List ℕ} {row j m : ℕ} (h : PropertyAt s rows i row j m) {v : PropertyValue} (q : propertyValueOf c t (numberedLine s i .line) ≡ v) where
+  module _ {rows : List ℕ} {row j m : ℕ} (h : PropertyAt s rows i row j m) {v : Reading} (q : propertyValueOf c t (numberedLine s i .line) ≡ v) where
     excluded-here : excludedIn c t (propertiesBy s i) ≡ secondsOf (exceptionsBy c v (numberedLine s i .line)) ++ excludedIn c t (propertiesBy s (i + 1))
     unfolding excludedIn
     excluded-here =
         ap (excludedIn c t) (next-property h)
-        ∙ ap (λ (w : PropertyValue). secondsOf (exceptionsBy c w (numberedLine s i .line)) ++ excludedIn c t (propertiesBy s (i + 1))) q
+        ∙ ap (λ (w : Reading). secondsOf (exceptionsBy c w (numberedLine s i .line)) ++ excludedIn c t (propertiesBy s (i + 1))) q
 
     -- what the line adds, where it stands in an event
     tied-more : {y′ : IdentityRead} (o : t ≡ Scope.Event)
@@ -188,17 +176,17 @@ module _ {c : Context} {t : Scope} {s index : List ℕ} {xs : List Numbered} {e�
           so-far = g f;
           uids-left =
               append-assoc (f .uids) (uidsBy v l) (uidsIn c rest)
-              ∙ ap (λ (w : PropertyValue). f .uids ++ (uidsBy w l ++ uidsIn c rest)) (sym said)
+              ∙ ap (λ (w : Reading). f .uids ++ (uidsBy w l ++ uidsIn c rest)) (sym said)
               ∙ ap (λ (ys : List Numbered). f .uids ++ uidsIn c ys) (sym (next-property h))
               ∙ f .uids-left;
           recurrences-left =
               append-assoc (f .recurrences) (recurrenceIdsBy v) (recurrenceIdsIn c rest)
-              ∙ ap (λ (w : PropertyValue). f .recurrences ++ (recurrenceIdsBy w ++ recurrenceIdsIn c rest)) (sym said)
+              ∙ ap (λ (w : Reading). f .recurrences ++ (recurrenceIdsBy w ++ recurrenceIdsIn c rest)) (sym said)
               ∙ ap (λ (ys : List Numbered). f .recurrences ++ recurrenceIdsIn c ys) (sym (next-property h))
               ∙ f .recurrences-left;
           exceptions-left =
               append-assoc (f .exceptions) (exceptionsBy c v l) (exceptionsIn c rest)
-              ∙ ap (λ (w : PropertyValue). f .exceptions ++ (exceptionsBy c w l ++ exceptionsIn c rest)) (sym said)
+              ∙ ap (λ (w : Reading). f .exceptions ++ (exceptionsBy c w l ++ exceptionsIn c rest)) (sym said)
               ∙ ap (λ (ys : List Numbered). f .exceptions ++ exceptionsIn c ys) (sym (next-property h))
               ∙ f .exceptions-left;
         }
@@ -237,7 +225,7 @@ module _ {c : Context} {t : Scope} {s index : List ℕ} {xs : List Numbered} {e�
         (f .so-far)))
 
   module _ {rows : List ℕ} {row j m : ℕ} (h : PropertyAt s rows i row j m) where
-    pub ties-uid : {y′ : IdentityRead} → propertyValueOf c t (numberedLine s i .line) ≡ PropertyValue.Uid → y′ ≡ withUid y (i + 1) → ReadingTies c t s index xs e₀ h₀ e y′ (i + 1)
+    pub ties-uid : {y′ : IdentityRead} → propertyValueOf c t (numberedLine s i .line) ≡ of (identity uid) → y′ ≡ withUid y (i + 1) → ReadingTies c t s index xs e₀ h₀ e y′ (i + 1)
     unfolding withUid uidsBy recurrenceIdsBy exceptionsBy numberedLine lineOf
     ties-uid {y′} q p =
         ties-without h q (ap (λ (w : IdentityRead). w .held) p) refl
@@ -251,7 +239,7 @@ module _ {c : Context} {t : Scope} {s index : List ℕ} {xs : List Numbered} {e�
           kinds-are = f .so-far .kinds-are ∙ ap (withKinds Kinds.None) (sym (append-nil (f .exceptions)));
         })))
 
-    pub ties-recurrence : {y′ : IdentityRead} {x : Time} → propertyValueOf c t (numberedLine s i .line) ≡ PropertyValue.RecurrenceId x → y′ ≡ withRecurrence y x
+    pub ties-recurrence : {y′ : IdentityRead} {x : Time} → propertyValueOf c t (numberedLine s i .line) ≡ of (identity (recurrenceId x)) → y′ ≡ withRecurrence y x
         → ReadingTies c t s index xs e₀ h₀ e y′ (i + 1)
     unfolding withRecurrence uidsBy recurrenceIdsBy exceptionsBy
     ties-recurrence {y′} {x} q p =
@@ -294,7 +282,8 @@ module _ {c : Context} {t : Scope} {s index : List ℕ} {xs : List Numbered} {e�
   pub ties-room : length s ≤ 8 * length e₀ → 8 * y .held + length w ≤ 8 * length e
   ties-room u = omega (arith, value-before, k .entries i (h .inside) .between .inside, z .long, u)
 
-  pub ties-exceptions : {f : Form} {e′ : List ℕ} {r : TimesStored} (n : ℕ) (ks : Kinds) {y′ : IdentityRead} → length s ≤ 8 * length e₀ → propertyValueOf c t (numberedLine s i .line) ≡ PropertyValue.HasExceptions f
+  pub ties-exceptions : {f : Form} {e′ : List ℕ} {r : TimesStored} (n : ℕ) (ks : Kinds) {y′ : IdentityRead} → length s ≤ 8 * length e₀
+      → propertyValueOf c t (numberedLine s i .line) ≡ of (identity (IdentityFact.exceptions f))
       → TimesAre c f w (y .kinds) e (y .held) e′ r → r ≡ TimesStored.Of n ks → y′ ≡ withExceptions y ks n → ReadingTies c t s index xs e₀ h₀ e′ y′ (i + 1)
   unfolding withExceptions uidsBy recurrenceIdsBy exceptionsBy
   ties-exceptions {f} {e′} n ks {y′} long v u b d =

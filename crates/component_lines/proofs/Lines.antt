@@ -15,7 +15,8 @@ use Rattle.values.specs.declared.times.Time.{Time}
 use Rattle.periods.specs.declared.BusyType.{BusyType}
 use Rattle.periods.specs.declared.Period.{Period}
 use Rattle.periods.specs.BusyTypes.{BusyPeriod, typed}
-use Rattle.property.specs.Properties.{beforeItems, withItems, propertyValueOf, givesPeriods}
+use Rattle.property.specs.Facts.{ValueFault, Reading, unread, fault, of, span, repeats, busy, identity, periods, uid, recurrenceId, exceptions, readingOf}
+use Rattle.property.specs.Properties.{beforeItems, itemsGood, withItems, propertyValueOf, givesPeriods}
 use Rattle.property.specs.declared.PropertyValue.{PropertyValue}
 use Rattle.property.specs.declared.Scope.{Scope}
 use Rattle.property.proofs.Properties.{event-periods}
@@ -44,72 +45,64 @@ use Rattle.component_lines.proofs.LinesStoring.{Left, left-start, left-
 -- ---- a line by what it says
 
 -- it says something that is neither a fault nor a period: a line that is not read, and all that an event or a block is made of
-abbrev pub Plain : PropertyValue → Type 0
-Plain PropertyValue.Nothing = Unit
-Plain PropertyValue.Unsupported = ⊥
-Plain PropertyValue.Bad = ⊥
-Plain (PropertyValue.Start t) = Unit
-Plain (PropertyValue.End t) = Unit
-Plain (PropertyValue.Lasts d) = Unit
-Plain (PropertyValue.Repeats r) = Unit
-Plain (PropertyValue.HasStatus x) = Unit
-Plain (PropertyValue.Transparent x) = Unit
-Plain PropertyValue.Uid = Unit
-Plain (PropertyValue.RecurrenceId t) = Unit
-Plain (PropertyValue.HasExceptions f) = ⊥
-Plain (PropertyValue.HasPeriods y) = ⊥
+abbrev pub Plain : Reading → Type 0
+Plain unread = Unit
+Plain (fault f) = ⊥
+Plain (of (span f)) = Unit
+Plain (of (repeats r)) = Unit
+Plain (of (busy f)) = Unit
+Plain (of (identity uid)) = Unit
+Plain (of (identity (recurrenceId t))) = Unit
+Plain (of (identity (exceptions f))) = ⊥
+Plain (of (periods y)) = ⊥
 
 module _ (n : ℕ) (r : ValueCheck) (x : ContentLine) (c : Context) (w : List ℕ) where
   -- it is no fault, gives no period, and stays as it is
-  plain-so : (v : PropertyValue) → Plain v → (faultOr n v r ≡ r) × (periodsBy v x ≡ []) × (withItems c w v ≡ v)
-  unfolding faultOr periodsBy withItems
-  plain-so PropertyValue.Nothing p = (refl, refl, refl)
-  plain-so PropertyValue.Unsupported p = absurd p
-  plain-so PropertyValue.Bad p = absurd p
-  plain-so (PropertyValue.Start t) p = (refl, refl, refl)
-  plain-so (PropertyValue.End t) p = (refl, refl, refl)
-  plain-so (PropertyValue.Lasts d) p = (refl, refl, refl)
-  plain-so (PropertyValue.Repeats q) p = (refl, refl, refl)
-  plain-so (PropertyValue.HasStatus s) p = (refl, refl, refl)
-  plain-so (PropertyValue.Transparent t) p = (refl, refl, refl)
-  plain-so PropertyValue.Uid p = (refl, refl, refl)
-  plain-so (PropertyValue.RecurrenceId t) p = (refl, refl, refl)
-  plain-so (PropertyValue.HasExceptions f) p = absurd p
-  plain-so (PropertyValue.HasPeriods y) p = absurd p
+  plain-so : (v : Reading) → Plain v → (faultOr n v r ≡ r) × (periodsBy v x ≡ []) × (withItems c w v ≡ v)
+  unfolding faultOr periodsBy withItems itemsGood
+  plain-so unread p = (refl, refl, refl)
+  plain-so (fault f) p = absurd p
+  plain-so (of (span f)) p = (refl, refl, refl)
+  plain-so (of (repeats q)) p = (refl, refl, refl)
+  plain-so (of (busy f)) p = (refl, refl, refl)
+  plain-so (of (identity uid)) p = (refl, refl, refl)
+  plain-so (of (identity (recurrenceId t))) p = (refl, refl, refl)
+  plain-so (of (identity (exceptions f))) p = absurd p
+  plain-so (of (periods y)) p = absurd p
 
-pub nothing-said : (g : ComponentProperties) → g ≡ withProperty g PropertyValue.Nothing
+pub nothing-said : (g : ComponentProperties) → g ≡ withProperty g unread
 unfolding withProperty
 nothing-said g = refl
 
 -- neither UID nor RECURRENCE-ID is a part of the event
-pub uid-said : (g : ComponentProperties) → g ≡ withProperty g PropertyValue.Uid
+pub uid-said : (g : ComponentProperties) → g ≡ withProperty g (of (identity uid))
 unfolding withProperty
 uid-said g = refl
 
-pub recurrence-said : (g : ComponentProperties) (t : Time) → g ≡ withProperty g (PropertyValue.RecurrenceId t)
+pub recurrence-said : (g : ComponentProperties) (t : Time) → g ≡ withProperty g (of (identity (recurrenceId t)))
 unfolding withProperty
 recurrence-said g t = refl
 
 -- what a line says, by what it says before its periods are looked at
-module _ (c : Context) (o : Scope) (l : List ℕ) {u : PropertyValue} (q : u ≡ beforeItems c o (lineOf l)) where
-  value-as : (v : PropertyValue) → u ≡ v → propertyValueOf c o (lineOf l) ≡ withItems c (valueOf l) v
+module _ (c : Context) (o : Scope) (l : List ℕ) {u : PropertyValue} (q : readingOf u ≡ beforeItems c o (lineOf l)) where
+  value-as : (v : PropertyValue) → u ≡ v → propertyValueOf c o (lineOf l) ≡ withItems c (valueOf l) (readingOf v)
   unfolding propertyValueOf lineOf
-  value-as v e = ap (withItems c (valueOf l)) (sym q ∙ e)
+  value-as v e = ap (withItems c (valueOf l)) (sym q ∙ ap readingOf e)
 
-  value-unsupported : u ≡ PropertyValue.Unsupported → propertyValueOf c o (lineOf l) ≡ PropertyValue.Unsupported
-  unfolding withItems
+  value-unsupported : u ≡ PropertyValue.Unsupported → propertyValueOf c o (lineOf l) ≡ fault ValueFault.unsupported
+  unfolding withItems readingOf
   value-unsupported e = value-as PropertyValue.Unsupported e
 
-  value-bad : u ≡ PropertyValue.Bad → propertyValueOf c o (lineOf l) ≡ PropertyValue.Bad
-  unfolding withItems
+  value-bad : u ≡ PropertyValue.Bad → propertyValueOf c o (lineOf l) ≡ fault ValueFault.bad
+  unfolding withItems readingOf
   value-bad e = value-as PropertyValue.Bad e
 
   module _ (y : BusyType) (e : u ≡ PropertyValue.HasPeriods y) {w : List ℕ} (f : w ≡ valueOf l) where
-    periods-by : (t : Bool) → allPeriods (periodItems w) ≡ t → propertyValueOf c o (lineOf l) ≡ cond t (PropertyValue.HasPeriods y) PropertyValue.Bad
-    unfolding withItems
+    periods-by : (t : Bool) → allPeriods (periodItems w) ≡ t → propertyValueOf c o (lineOf l) ≡ cond t (of (periods y)) (fault ValueFault.bad)
+    unfolding withItems itemsGood readingOf
     periods-by t h =
         value-as (PropertyValue.HasPeriods y) e
-        ∙ ap (λ (k : Bool). cond k (PropertyValue.HasPeriods y) PropertyValue.Bad) (ap (λ (k : List ℕ). allPeriods (periodItems k)) (sym f) ∙ h)
+        ∙ ap (λ (k : Bool). cond k (of (periods y)) (fault ValueFault.bad)) (ap (λ (k : List ℕ). allPeriods (periodItems k)) (sym f) ∙ h)
 
 -- ---- from line to line
 
@@ -145,7 +138,7 @@ pub record LineHere (c : Context) (t : Scope) (s rows : List ℕ) (xs : List Num
   pub reading : ReadingLines c t s rows xs a b o₀ n₀ o n g i row j m
   pub here : PropertyAt s rows i row j m
   pub line : l ≡ lineBytes s i
-  pub value : u ≡ beforeItems c t (lineOf l)
+  pub value : readingOf u ≡ beforeItems c t (lineOf l)
 
 module _ (c : Context) (t : Scope) {s rows : List ℕ} {k : ℕ} (r : RowOf s rows k) (a b : ℕ) {o : List ℕ} {n : ℕ} (room : Room o) (few : n ≤ 513) where
   pub reading-start : {g : ComponentProperties} (first behind last : ℕ) → g ≡ noProperties → first ≡ getD rows (4 * k) 0 → behind ≡ getD rows (4 * k + 1) 0
@@ -188,14 +181,14 @@ module _ {c : Context} {t : Scope} {s rows : List ℕ} {xs : List Numbered} {a b
   line-entry q e x = x .entries i (property-at (z .items) q e .inside)
 
   -- its value is read
-  pub line-read : {r : Item} {l : List ℕ} {u : PropertyValue} → r ≡ itemBy rows i row j m → r ≡ Item.Property → l ≡ lineBytes s i → u ≡ beforeItems c t (lineOf l)
+  pub line-read : {r : Item} {l : List ℕ} {u : PropertyValue} → r ≡ itemBy rows i row j m → r ≡ Item.Property → l ≡ lineBytes s i → readingOf u ≡ beforeItems c t (lineOf l)
       → LineHere c t s rows xs a b o₀ n₀ o n g i row j m l u
   line-read q e p f = record { reading = z; here = property-at (z .items) q e; line = p; value = f }
 
 module _ {c : Context} {t : Scope} {s rows : List ℕ} {xs : List Numbered} {a b : ℕ} {o₀ : List ℕ} {n₀ : ℕ} {o : List ℕ} {n : ℕ} {g : ComponentProperties} {i row j m : ℕ} {l : List ℕ}
     {u : PropertyValue} (z : LineHere c t s rows xs a b o₀ n₀ o n g i row j m l u) where
   -- what it says
-  module _ {v : PropertyValue} (q : propertyValueOf c t (lineOf l) ≡ v) where
+  module _ {v : Reading} (q : propertyValueOf c t (lineOf l) ≡ v) where
     value-here : propertyValueOf c t (numberedLine s i .line) ≡ v
     unfolding numberedLine
     value-here = ap (λ (y : List ℕ). propertyValueOf c t (lineOf y)) (sym (z .line)) ∙ q
@@ -203,14 +196,14 @@ module _ {c : Context} {t : Scope} {s rows : List ℕ} {xs : List Numbered} {a b
     fault-here : faultOr (i + 1) v (linesFault c t (propertiesBy s (i + 1))) ≡ linesFault c t xs
     unfolding linesFault faultIn numberedLine
     fault-here =
-        ap (λ (u : PropertyValue). faultOr (i + 1) u (linesFault c t (propertiesBy s (i + 1)))) (sym value-here)
+        ap (λ (u : Reading). faultOr (i + 1) u (linesFault c t (propertiesBy s (i + 1)))) (sym value-here)
         ∙ ap (linesFault c t) (sym (next-property (z .here)))
         ∙ z .reading .fault
 
     say-here : withProperties (withProperty g v) (propertyValuesIn c t (propertiesBy s (i + 1))) ≡ together c t xs
     unfolding withProperties propertyValuesIn
     say-here =
-        ap (λ (u : PropertyValue). withProperties (withProperty g u) (propertyValuesIn c t (propertiesBy s (i + 1)))) (sym value-here)
+        ap (λ (u : Reading). withProperties (withProperty g u) (propertyValuesIn c t (propertiesBy s (i + 1)))) (sym value-here)
         ∙ ap (λ (ys : List Numbered). withProperties g (propertyValuesIn c t ys)) (sym (next-property (z .here)))
         ∙ z .reading .say
 
@@ -219,7 +212,7 @@ module _ {c : Context} {t : Scope} {s rows : List ℕ} {xs : List Numbered} {a b
     pieces-here =
         ap (λ (ys : List Numbered). piecesOf a b (periodsIn c t ys)) (next-property (z .here))
         ∙ ap (λ (y : List ℕ). piecesOf a b (periodsBy (propertyValueOf c t (lineOf y)) (lineOf y) ++ periodsIn c t (propertiesBy s (i + 1)))) (sym (z .line))
-        ∙ ap (λ (y : PropertyValue). piecesOf a b (periodsBy y (lineOf l) ++ periodsIn c t (propertiesBy s (i + 1)))) q
+        ∙ ap (λ (y : Reading). piecesOf a b (periodsBy y (lineOf l) ++ periodsIn c t (propertiesBy s (i + 1)))) q
         ∙ piecesOf-append a b (periodsBy v (lineOf l)) (periodsIn c t (propertiesBy s (i + 1)))
 
   pub reading-unsupported : u ≡ PropertyValue.Unsupported → linesFault c t xs ≡ ValueCheck.Unsupported (i + 1)
@@ -230,10 +223,10 @@ module _ {c : Context} {t : Scope} {s rows : List ℕ} {xs : List Numbered} {a b
   unfolding faultOr
   reading-bad e = sym (fault-here (value-bad c t l (z .value) e))
 
-  pub reading-plain : {v : PropertyValue} {g′ : ComponentProperties} → u ≡ v → g′ ≡ withProperty g v → Plain v → ReadingLines c t s rows xs a b o₀ n₀ o n g′ (i + 1) row j m
+  pub reading-plain : {v : PropertyValue} {g′ : ComponentProperties} → u ≡ v → g′ ≡ withProperty g (readingOf v) → Plain (readingOf v) → ReadingLines c t s rows xs a b o₀ n₀ o n g′ (i + 1) row j m
   reading-plain {v} e f y =
-      let so = plain-so (i + 1) (linesFault c t (propertiesBy s (i + 1))) (lineOf l) c (valueOf l) v y in
-      let w : propertyValueOf c t (lineOf l) ≡ v = value-as c t l (z .value) v e ∙ so .2 in
+      let so = plain-so (i + 1) (linesFault c t (propertiesBy s (i + 1))) (lineOf l) c (valueOf l) (readingOf v) y in
+      let w : propertyValueOf c t (lineOf l) ≡ readingOf v = value-as c t l (z .value) v e ∙ so .2 in
       record {
         items = z .here .rest;
         fault = sym (so .0) ∙ fault-here w;
@@ -254,7 +247,7 @@ module _ {c : Context} {t : Scope} {s rows : List ℕ} {xs : List Numbered} {a b
     unfolding faultOr withProperty periodsBy lineOf valuePeriods
     reading-periods n′ x =
         let (d, st) = value-stored k n′ x in
-        let v : propertyValueOf c t (lineOf l) ≡ PropertyValue.HasPeriods y = periods-by c t l (z .value) y e f true d in
+        let v : propertyValueOf c t (lineOf l) ≡ of (periods y) = periods-by c t l (z .value) y e f true d in
         record {
           items = z .here .rest;
           fault = fault-here v;
@@ -270,17 +263,17 @@ module _ {c : Context} {t : Scope} {s rows : List ℕ} {xs : List Numbered} {a b
 
   -- the times of an EXDATE line: bad where one is, else the line says no more of the event
   module _ {x : Form} (e : u ≡ PropertyValue.HasExceptions x) {w : List ℕ} (f : w ≡ valueOf l) where
-    times-by : (y : Bool) → allTimes (timeItems c x w) ≡ y → propertyValueOf c t (lineOf l) ≡ cond y (PropertyValue.HasExceptions x) PropertyValue.Bad
-    unfolding withItems
+    times-by : (y : Bool) → allTimes (timeItems c x w) ≡ y → propertyValueOf c t (lineOf l) ≡ cond y (of (identity (exceptions x))) (fault ValueFault.bad)
+    unfolding withItems itemsGood readingOf
     times-by y h =
         value-as c t l (z .value) (PropertyValue.HasExceptions x) e
-        ∙ ap (λ (k : Bool). cond k (PropertyValue.HasExceptions x) PropertyValue.Bad) (ap (λ (k : List ℕ). allTimes (timeItems c x k)) (sym f) ∙ h)
+        ∙ ap (λ (k : Bool). cond k (of (identity (exceptions x))) (fault ValueFault.bad)) (ap (λ (k : List ℕ). allTimes (timeItems c x k)) (sym f) ∙ h)
 
     pub reading-bad-time : allTimes (timeItems c x w) ≡ false → linesFault c t xs ≡ ValueCheck.Bad (i + 1)
     unfolding faultOr
     reading-bad-time h = sym (fault-here (times-by false h))
 
-    pub exceptions-said : allTimes (timeItems c x w) ≡ true → propertyValueOf c t (numberedLine s i .line) ≡ PropertyValue.HasExceptions x
+    pub exceptions-said : allTimes (timeItems c x w) ≡ true → propertyValueOf c t (numberedLine s i .line) ≡ of (identity (exceptions x))
     exceptions-said h = value-here (times-by true h)
 
     pub reading-exceptions : allTimes (timeItems c x w) ≡ true → ReadingLines c t s rows xs a b o₀ n₀ o n g (i + 1) row j m
@@ -297,11 +290,11 @@ module _ {c : Context} {t : Scope} {s rows : List ℕ} {xs : List Numbered} {a b
         }
 
   -- what the other lines say
-  pub plain-said : {v : PropertyValue} → u ≡ v → Plain v → propertyValueOf c t (numberedLine s i .line) ≡ v
-  plain-said {v} e y = value-here (value-as c t l (z .value) v e ∙ plain-so (i + 1) ValueCheck.Good (lineOf l) c (valueOf l) v y .2)
+  pub plain-said : {v : PropertyValue} → u ≡ v → Plain (readingOf v) → propertyValueOf c t (numberedLine s i .line) ≡ readingOf v
+  plain-said {v} e y = value-here (value-as c t l (z .value) v e ∙ plain-so (i + 1) ValueCheck.Good (lineOf l) c (valueOf l) (readingOf v) y .2)
 
   pub periods-said : {y : BusyType} → u ≡ PropertyValue.HasPeriods y → {w : List ℕ} → w ≡ valueOf l → allPeriods (periodItems w) ≡ true
-      → propertyValueOf c t (numberedLine s i .line) ≡ PropertyValue.HasPeriods y
+      → propertyValueOf c t (numberedLine s i .line) ≡ of (periods y)
   periods-said {y} e f h = value-here (periods-by c t l (z .value) y e f true h)
 
 -- ---- what the answers say
@@ -334,21 +327,15 @@ module _ {c : Context} {t : Scope} {s index : List ℕ} {xs : List Numbered} {st
 
 -- ---- the periods of an event's lines, which has none, and of a block's
 
-no-periods-by : (v : PropertyValue) (x : ContentLine) → givesPeriods v ≡ false → periodsBy v x ≡ []
+no-periods-by : (v : Reading) (x : ContentLine) → givesPeriods v ≡ false → periodsBy v x ≡ []
 unfolding givesPeriods periodsBy
-no-periods-by PropertyValue.Nothing x h = refl
-no-periods-by PropertyValue.Unsupported x h = refl
-no-periods-by PropertyValue.Bad x h = refl
-no-periods-by (PropertyValue.Start t) x h = refl
-no-periods-by (PropertyValue.End t) x h = refl
-no-periods-by (PropertyValue.Lasts d) x h = refl
-no-periods-by (PropertyValue.Repeats r) x h = refl
-no-periods-by (PropertyValue.HasStatus s) x h = refl
-no-periods-by (PropertyValue.Transparent t) x h = refl
-no-periods-by PropertyValue.Uid x h = refl
-no-periods-by (PropertyValue.RecurrenceId t) x h = refl
-no-periods-by (PropertyValue.HasExceptions f) x h = refl
-no-periods-by (PropertyValue.HasPeriods b) x h = absurd (true≢false h)
+no-periods-by unread x h = refl
+no-periods-by (fault f) x h = refl
+no-periods-by (of (span f)) x h = refl
+no-periods-by (of (repeats r)) x h = refl
+no-periods-by (of (busy f)) x h = refl
+no-periods-by (of (identity f)) x h = refl
+no-periods-by (of (periods b)) x h = absurd (true≢false h)
 
 pub periods-event : (c : Context) (xs : List Numbered) → periodsIn c Scope.Event xs ≡ []
 unfolding periodsIn

@@ -11,7 +11,7 @@ use lib.Seq.{sets, length-sets}
 use Rattle.ascii.proofs.Bools.{clash, or-by-right}
 use Rattle.values.specs.declared.times.Context.{Context}
 use Rattle.property.specs.Properties.{propertyOf, valueAs, beforeItems, withItems, propertyValueOf}
-use Rattle.property.specs.declared.PropertyValue.{PropertyValue}
+use Rattle.property.specs.Facts.{Reading, unread}
 use Rattle.property.specs.declared.Scope.{Scope}
 use Rattle.periods.specs.BusyTypes.{BusyPeriod}
 use Rattle.nesting.specs.Components.{Numbered, Component, propertiesIn}
@@ -353,20 +353,20 @@ module _ (c : Context) (s index : List ℕ) (x : Component) (w : componentScope 
 
 -- ---- any other component: nothing of it is read
 
-other-value : (c : Context) (x : Numbered) → propertyValueOf c Scope.Other (x .line) ≡ PropertyValue.Nothing
+other-value : (c : Context) (x : Numbered) → propertyValueOf c Scope.Other (x .line) ≡ unread
 unfolding propertyValueOf beforeItems propertyOf valueAs withItems
 other-value c x = refl
 
 other-lines : (c : Context) (xs : List Numbered) → linesFault c Scope.Other xs ≡ ValueCheck.Good
 unfolding linesFault faultIn faultOr
 other-lines c [] = refl
-other-lines c (x ∷ xs) = ap (λ (v : PropertyValue). faultOr (x .number) v (faultIn c Scope.Other xs ValueCheck.Good)) (other-value c x) ∙ other-lines c xs
+other-lines c (x ∷ xs) = ap (λ (v : Reading). faultOr (x .number) v (faultIn c Scope.Other xs ValueCheck.Good)) (other-value c x) ∙ other-lines c xs
 
 other-excluded : (c : Context) (xs : List Numbered) → excludedIn c Scope.Other xs ≡ []
 unfolding excludedIn secondsOf exceptionsBy
 other-excluded c [] = refl
 other-excluded c (x ∷ xs) =
-    ap (λ (v : PropertyValue). secondsOf (exceptionsBy c v (x .line)) ++ excludedIn c Scope.Other xs) (other-value c x) ∙ other-excluded c xs
+    ap (λ (v : Reading). secondsOf (exceptionsBy c v (x .line)) ++ excludedIn c Scope.Other xs) (other-value c x) ∙ other-excluded c xs
 
 module _ (c : Context) (s rows : List ℕ) (k : ℕ) (w : componentScope (componentBy s rows k) ≡ Scope.Other) where
   none-excluded : secondsIn c (componentBy s rows k) ≡ []

@@ -11,7 +11,7 @@ use Rattle.values.specs.declared.times.Time.{Time}
 use Rattle.values.specs.declared.rule.Limit.{Limit}
 use Rattle.values.specs.declared.rule.Rule.{Rule}
 use Rattle.property.specs.declared.Status.{Status}
-use Rattle.property.specs.declared.PropertyValue.{PropertyValue}
+use Rattle.property.specs.Facts.{Reading, of, repeats, busy, status, transparent}
 use Rattle.periods.specs.declared.BusyType.{BusyType}
 use Rattle.events.specs.ComponentProperties.{noProperties, withProperties}
 use Rattle.events.specs.ComponentRules.{linesNamed, EventRules, BlockRules, BlockLines}
@@ -104,8 +104,8 @@ by-status TransparencyGiven.Absent s n = refl
 
 -- ---- a VEVENT: what is read of it is what its lines say
 
-module _ (ss : List PropertyValue) (m : Made (together ss)) where
-  not-transparent : (List·Memᴰ (PropertyValue.Transparent true) ss → ⊥)
+module _ (ss : List Reading) (m : Made (together ss)) where
+  not-transparent : (List·Memᴰ (of (busy (transparent true))) ss → ⊥)
       → busyBy (together ss .busy .transparency) (together ss .busy .status) ≡ busyByStatus (together ss .busy .status)
   not-transparent n = by-status _ _ (λ q. n (transparency-laws ss .said true q))
 
@@ -113,7 +113,7 @@ module _ (ss : List PropertyValue) (m : Made (together ss)) where
   unfolding eventMade daysBy intervalBy busyBy busyByStatus
   made-is =
       let few = few-lines ss (m .not-twice) in
-      let the-rule : (r : Rule) → List·Memᴰ (PropertyValue.Repeats r) ss → repeatBy (m .start) (RuleGiven.Given r) ≡ RepeatRead.Of (m .repeat) =
+      let the-rule : (r : Rule) → List·Memᴰ (of (repeats r)) ss → repeatBy (m .start) (RuleGiven.Given r) ≡ RepeatRead.Of (m .repeat) =
       λ r k. ap (repeatBy (m .start)) (sym (repeats-laws ss .holds r k (few .3))) ∙ m .repeat-read in
       record {
         kind-is = λ s k. ap (λ (t : Time). t .kind) (the-start ss m s k);
@@ -142,7 +142,7 @@ module _ (ss : List PropertyValue) (m : Made (together ss)) where
         no-status-busy = λ n k. not-transparent n ∙ ap busyByStatus (status-laws ss .absent k);
       }
 
-read-is : (ss : List PropertyValue) (e : Event) → eventBy (together ss) ≡ EventRead.Of e → EventIs ss e
+read-is : (ss : List Reading) (e : Event) → eventBy (together ss) ≡ EventRead.Of e → EventIs ss e
 read-is ss e h =
     let m = made (together ss) e h in
     subst (λ (x : Event). EventIs ss x) (event-of (sym (made-event (together ss) m) ∙ h)) (made-is ss m)
@@ -154,7 +154,7 @@ event-same : (a b : Event) → a .kind ≡ b .kind → a .start ≡ b .start →
 event-same a b k s y d i z u =
     λ j. record { kind = k j; start = s j; ending = y j; days = d j; interval = i j; repeat = z j; busy = u j }
 
-module _ (ss : List PropertyValue) (w : EventRules ss) (a b : Event) (p : EventIs ss a) (q : EventIs ss b) where
+module _ (ss : List Reading) (w : EventRules ss) (a b : Event) (p : EventIs ss a) (q : EventIs ss b) where
   same-ending : a .ending ≡ b .ending
   same-ending =
       ⊎-elim
@@ -164,7 +164,7 @@ module _ (ss : List PropertyValue) (w : EventRules ss) (a b : Event) (p : EventI
       (λ t. p .end-is (t .0) (t .1) ∙ sym (q .end-is (t .0) (t .1))) (none-or (linesNamed (ascii "DTEND") ss) (end-laws ss .line))
 
   -- a rule, or none
-  some-rule : (linesNamed (ascii "RRULE") ss ≡ 0) ⊎ ((r : Rule) × List·Memᴰ (PropertyValue.Repeats r) ss)
+  some-rule : (linesNamed (ascii "RRULE") ss ≡ 0) ⊎ ((r : Rule) × List·Memᴰ (of (repeats r)) ss)
   some-rule = none-or (linesNamed (ascii "RRULE") ss) (repeats-laws ss .line)
 
   same-days : a .days ≡ b .days
@@ -174,7 +174,7 @@ module _ (ss : List PropertyValue) (w : EventRules ss) (a b : Event) (p : EventI
   same-interval =
       ⊎-elim (λ n. p .no-rule-interval n ∙ sym (q .no-rule-interval n)) (λ r. p .interval-is (r .0) (r .1) ∙ sym (q .interval-is (r .0) (r .1))) some-rule
 
-  by-limit : (r : Rule) → List·Memᴰ (PropertyValue.Repeats r) ss → (l : Limit) → r .limit ≡ l → a .repeat ≡ b .repeat
+  by-limit : (r : Rule) → List·Memᴰ (of (repeats r)) ss → (l : Limit) → r .limit ≡ l → a .repeat ≡ b .repeat
   by-limit r k Limit.Forever e = p .forever r k e ∙ sym (q .forever r k e)
   by-limit r k (Limit.Count n) e = p .count-is r n k e ∙ sym (q .count-is r n k e)
   by-limit r k (Limit.Until t) e = p .until-is r t k e ∙ sym (q .until-is r t k e)
@@ -182,12 +182,12 @@ module _ (ss : List PropertyValue) (w : EventRules ss) (a b : Event) (p : EventI
   same-repeat : a .repeat ≡ b .repeat
   same-repeat = ⊎-elim (λ n. p .no-rule-once n ∙ sym (q .no-rule-once n)) (λ r. by-limit (r .0) (r .1) (r .0 .limit) refl) some-rule
 
-  by-stated : (List·Memᴰ (PropertyValue.Transparent true) ss → ⊥) → (s : Status) → List·Memᴰ (PropertyValue.HasStatus s) ss → a .busy ≡ b .busy
+  by-stated : (List·Memᴰ (of (busy (transparent true))) ss → ⊥) → (s : Status) → List·Memᴰ (of (busy (status s))) ss → a .busy ≡ b .busy
   by-stated n Status.Cancelled k = p .cancelled-free k ∙ sym (q .cancelled-free k)
   by-stated n Status.Tentative k = p .tentative-so n k ∙ sym (q .tentative-so n k)
   by-stated n Status.Other k = p .other-busy n k ∙ sym (q .other-busy n k)
 
-  opaque-busy : (List·Memᴰ (PropertyValue.Transparent true) ss → ⊥) → a .busy ≡ b .busy
+  opaque-busy : (List·Memᴰ (of (busy (transparent true))) ss → ⊥) → a .busy ≡ b .busy
   opaque-busy n =
       ⊎-elim (λ k. p .no-status-busy n k ∙ sym (q .no-status-busy n k)) (λ s. by-stated n (s .0) (s .1))
       (none-or (linesNamed (ascii "STATUS") ss) (status-laws ss .line))
@@ -208,7 +208,7 @@ module _ (ss : List PropertyValue) (w : EventRules ss) (a b : Event) (p : EventI
       same-days same-interval same-repeat (by-transparency (together ss .busy .transparency) refl)
 
 -- THE THEOREM of which event: an event is read exactly where the lines keep the rules of a VEVENT and say this event
-pub event-is-iff : (ss : List PropertyValue) (e : Event) → (eventBy (withProperties noProperties ss) ≡ EventRead.Of e) ↔ (EventRules ss × EventIs ss e)
+pub event-is-iff : (ss : List Reading) (e : Event) → (eventBy (withProperties noProperties ss) ≡ EventRead.Of e) ↔ (EventRules ss × EventIs ss e)
 event-is-iff ss e = (
   λ h. (event-iff ss .0 (e, h), read-is ss e h),
   λ w.
@@ -232,7 +232,7 @@ block-gives (TimeGiven.Given s) (TimeGiven.Given t) x h =
     let e = block-of (sym (later-between (s .second) (t .second) (between-later (s .second) (t .second) x h)) ∙ h) in
     (ap (λ (y : Block). y .start) (sym e), ap (λ (y : Block). y .end) (sym e))
 
-read-block-is : (ss : List PropertyValue) (b : Block) → blockBy (together ss) ≡ BlockRead.Of b → BlockIs ss b
+read-block-is : (ss : List Reading) (b : Block) → blockBy (together ss) ≡ BlockRead.Of b → BlockIs ss b
 read-block-is ss b h =
     let w = block-by (together ss) b h in
     let few = few-lines ss (w .0) in
@@ -247,7 +247,7 @@ read-block-is ss b h =
 block-same : (a b : Block) → a .start ≡ b .start → a .end ≡ b .end → a ≡ b
 block-same a b s t = λ j. record { start = s j; end = t j }
 
-block-is-one : (ss : List PropertyValue) (a b : Block) → BlockIs ss a → BlockIs ss b → a ≡ b
+block-is-one : (ss : List Reading) (a b : Block) → BlockIs ss a → BlockIs ss b → a ≡ b
 block-is-one ss a b p q =
     block-same a b
     (⊎-elim (λ n. p .no-start n ∙ sym (q .no-start n)) (λ s. p .start-is (s .0) (s .1) ∙ sym (q .start-is (s .0) (s .1)))
@@ -256,7 +256,7 @@ block-is-one ss a b p q =
     (none-or (linesNamed (ascii "DTEND") ss) (end-laws ss .line)))
 
 -- THE THEOREM of which block: of lines as a VFREEBUSY has them, a block is read exactly where they keep its rules and say this block
-pub block-is-iff : (ss : List PropertyValue) → BlockLines ss → (b : Block)
+pub block-is-iff : (ss : List Reading) → BlockLines ss → (b : Block)
     → (blockBy (withProperties noProperties ss) ≡ BlockRead.Of b) ↔ (BlockRules ss × BlockIs ss b)
 block-is-iff ss n b = (
   λ h. (block-iff ss n .0 (b, h), read-block-is ss b h),

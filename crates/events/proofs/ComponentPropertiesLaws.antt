@@ -5,7 +5,7 @@ use Rattle.time.specs.Limits.{lastSecond}
 use Rattle.values.specs.Period.{DurationSmall}
 use Rattle.values.specs.Rule.{RuleSmall}
 use Rattle.property.specs.Properties.{PropertyValueSmall}
-use Rattle.property.specs.declared.PropertyValue.{PropertyValue}
+use Rattle.property.specs.Facts.{Reading, unread, fault, of, span, repeats, busy, identity, periods, start, end, lasts, status, transparent}
 use Rattle.events.specs.ComponentProperties.{noProperties, withSpan, withBusy, withProperty, withProperties}
 use Rattle.events.specs.declared.ComponentProperties.{ComponentProperties}
 use Rattle.events.specs.declared.TimeGiven.{TimeGiven}
@@ -34,34 +34,31 @@ pub nothing-small : ComponentPropertiesSmall noProperties
 unfolding noProperties
 nothing-small = record { start-small = tt; end-small = tt; lasts-small = tt; repeats-small = tt }
 
-with-small : (g : ComponentProperties) (x : PropertyValue) → ComponentPropertiesSmall g → PropertyValueSmall x → ComponentPropertiesSmall (withProperty g x)
+with-small : (g : ComponentProperties) (x : Reading) → ComponentPropertiesSmall g → PropertyValueSmall x → ComponentPropertiesSmall (withProperty g x)
 unfolding withProperty withSpan withBusy
-with-small g PropertyValue.Nothing r h = r
-with-small g PropertyValue.Unsupported r h = r
-with-small g PropertyValue.Bad r h = r
-with-small g (PropertyValue.Start t) r h =
+with-small g unread r h = r
+with-small g (fault f) r h = r
+with-small g (of (span (start t))) r h =
     record { start-small = h; end-small = r .end-small; lasts-small = r .lasts-small; repeats-small = r .repeats-small }
-with-small g (PropertyValue.End t) r h =
+with-small g (of (span (end t))) r h =
     record { start-small = r .start-small; end-small = h; lasts-small = r .lasts-small; repeats-small = r .repeats-small }
-with-small g (PropertyValue.Lasts d) r h =
+with-small g (of (span (lasts d))) r h =
     record { start-small = r .start-small; end-small = r .end-small; lasts-small = h; repeats-small = r .repeats-small }
-with-small g (PropertyValue.Repeats x) r h =
+with-small g (of (repeats x)) r h =
     record { start-small = r .start-small; end-small = r .end-small; lasts-small = r .lasts-small; repeats-small = h }
-with-small g (PropertyValue.HasStatus x) r h =
+with-small g (of (busy (status x))) r h =
     record { start-small = r .start-small; end-small = r .end-small; lasts-small = r .lasts-small; repeats-small = r .repeats-small }
-with-small g (PropertyValue.Transparent x) r h =
+with-small g (of (busy (transparent x))) r h =
     record { start-small = r .start-small; end-small = r .end-small; lasts-small = r .lasts-small; repeats-small = r .repeats-small }
-with-small g PropertyValue.Uid r h = r
-with-small g (PropertyValue.RecurrenceId t) r h = r
-with-small g (PropertyValue.HasExceptions f) r h = r
-with-small g (PropertyValue.HasPeriods b) r h = r
+with-small g (of (identity f)) r h = r
+with-small g (of (periods b)) r h = r
 
 -- each line says something small
-pub data AllSmall : List PropertyValue → Type 0 where
+pub data AllSmall : List Reading → Type 0 where
   none : AllSmall []
-  then : {x : PropertyValue} {ss : List PropertyValue} → PropertyValueSmall x → AllSmall ss → AllSmall (x ∷ ss)
+  then : {x : Reading} {ss : List Reading} → PropertyValueSmall x → AllSmall ss → AllSmall (x ∷ ss)
 
-pub with-properties-small : (ss : List PropertyValue) (g : ComponentProperties) → ComponentPropertiesSmall g → AllSmall ss → ComponentPropertiesSmall (withProperties g ss)
+pub with-properties-small : (ss : List Reading) (g : ComponentProperties) → ComponentPropertiesSmall g → AllSmall ss → ComponentPropertiesSmall (withProperties g ss)
 unfolding withProperties
 with-properties-small [] g r AllSmall.none = r
 with-properties-small (x ∷ ss) g r (AllSmall.then h k) = with-properties-small ss (withProperty g x) (with-small g x r h) k

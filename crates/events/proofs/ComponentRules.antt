@@ -16,7 +16,8 @@ use Rattle.values.specs.declared.times.Time.{Time}
 use Rattle.values.specs.declared.rule.Limit.{Limit}
 use Rattle.values.specs.declared.rule.Rule.{Rule}
 use Rattle.property.specs.declared.Status.{Status}
-use Rattle.property.specs.declared.PropertyValue.{PropertyValue}
+use Rattle.property.specs.Facts.{Reading, unread, fault, of, span, repeats, busy, identity, periods}
+use Rattle.property.specs.Facts.{start, end, lasts, status, transparent, uid, recurrenceId, exceptions}
 use Rattle.events.specs.ComponentProperties.{noProperties, timeGiven, durationGiven, ruleGiven, statusGiven, transparencyGiven, withSpan, withBusy, withProperty, withProperties}
 use Rattle.events.specs.ComponentRules.{propertyName, countIf, linesNamed, EndFits, DurationFits, UntilFits, EventRules, BlockRules, BlockLines}
 use Rattle.events.specs.EntryRows.{kindOf}
@@ -53,7 +54,7 @@ one-less : (b : Bool) (n : ℕ) → countIf b (suc n) ≤ 1 → suc n ≤ 1
 one-less true n h = omega arith
 one-less false n h = h
 
-abbrev Counts : ComponentProperties → List PropertyValue → Type 0
+abbrev Counts : ComponentProperties → List Reading → Type 0
 Counts g ss =
     (g .repeated ≡ false)
     × (countIf (timeGiven (g .span .start)) (linesNamed (ascii "DTSTART") ss) ≤ 1)
@@ -63,49 +64,47 @@ Counts g ss =
     × (countIf (statusGiven (g .busy .status)) (linesNamed (ascii "STATUS") ss) ≤ 1)
     × (countIf (transparencyGiven (g .busy .transparency)) (linesNamed (ascii "TRANSP") ss) ≤ 1)
 
-step-counts : (g : ComponentProperties) (s : PropertyValue) (ss : List PropertyValue) → Counts (withProperty g s) ss → Counts g (s ∷ ss)
+step-counts : (g : ComponentProperties) (s : Reading) (ss : List Reading) → Counts (withProperty g s) ss → Counts g (s ∷ ss)
 unfolding withProperty withSpan withBusy timeGiven durationGiven ruleGiven statusGiven transparencyGiven linesNamed propertyName
-step-counts g PropertyValue.Nothing ss h = h
-step-counts g PropertyValue.Unsupported ss h = h
-step-counts g PropertyValue.Bad ss h = h
-step-counts g PropertyValue.Uid ss h = h
-step-counts g (PropertyValue.RecurrenceId t) ss h = h
-step-counts g (PropertyValue.HasExceptions f) ss h = h
-step-counts g (PropertyValue.HasPeriods b) ss h = h
-step-counts g (PropertyValue.Start t) ss h =
+step-counts g unread ss h = h
+step-counts g (fault f) ss h = h
+step-counts g (of (identity uid)) ss h = h
+step-counts g (of (identity (recurrenceId t))) ss h = h
+step-counts g (of (identity (exceptions f))) ss h = h
+step-counts g (of (periods b)) ss h = h
+step-counts g (of (span (start t))) ss h =
     (or-left (g .repeated) _ (h .0), once-more (g .repeated) _ _ (h .0) (h .1), h .2, h .3, h .4, h .5, h .6)
-step-counts g (PropertyValue.End t) ss h =
+step-counts g (of (span (end t))) ss h =
     (or-left (g .repeated) _ (h .0), h .1, once-more (g .repeated) _ _ (h .0) (h .2), h .3, h .4, h .5, h .6)
-step-counts g (PropertyValue.Lasts d) ss h =
+step-counts g (of (span (lasts d))) ss h =
     (or-left (g .repeated) _ (h .0), h .1, h .2, once-more (g .repeated) _ _ (h .0) (h .3), h .4, h .5, h .6)
-step-counts g (PropertyValue.Repeats r) ss h =
+step-counts g (of (repeats r)) ss h =
     (or-left (g .repeated) _ (h .0), h .1, h .2, h .3, once-more (g .repeated) _ _ (h .0) (h .4), h .5, h .6)
-step-counts g (PropertyValue.HasStatus x) ss h =
+step-counts g (of (busy (status x))) ss h =
     (or-left (g .repeated) _ (h .0), h .1, h .2, h .3, h .4, once-more (g .repeated) _ _ (h .0) (h .5), h .6)
-step-counts g (PropertyValue.Transparent x) ss h =
+step-counts g (of (busy (transparent x))) ss h =
     (or-left (g .repeated) _ (h .0), h .1, h .2, h .3, h .4, h .5, once-more (g .repeated) _ _ (h .0) (h .6))
 
-counts-step : (g : ComponentProperties) (s : PropertyValue) (ss : List PropertyValue) → Counts g (s ∷ ss) → Counts (withProperty g s) ss
+counts-step : (g : ComponentProperties) (s : Reading) (ss : List Reading) → Counts g (s ∷ ss) → Counts (withProperty g s) ss
 unfolding withProperty withSpan withBusy timeGiven durationGiven ruleGiven statusGiven transparencyGiven linesNamed propertyName
-counts-step g PropertyValue.Nothing ss h = h
-counts-step g PropertyValue.Unsupported ss h = h
-counts-step g PropertyValue.Bad ss h = h
-counts-step g PropertyValue.Uid ss h = h
-counts-step g (PropertyValue.RecurrenceId t) ss h = h
-counts-step g (PropertyValue.HasExceptions f) ss h = h
-counts-step g (PropertyValue.HasPeriods b) ss h = h
-counts-step g (PropertyValue.Start t) ss h = (still-once (g .repeated) _ _ (h .0) (h .1), one-less (timeGiven (g .span .start)) _ (h .1), h .2, h .3, h .4, h .5, h .6)
-counts-step g (PropertyValue.End t) ss h = (still-once (g .repeated) _ _ (h .0) (h .2), h .1, one-less (timeGiven (g .span .end)) _ (h .2), h .3, h .4, h .5, h .6)
-counts-step g (PropertyValue.Lasts d) ss h = (still-once (g .repeated) _ _ (h .0) (h .3), h .1, h .2, one-less (durationGiven (g .span .lasts)) _ (h .3), h .4, h .5, h .6)
-counts-step g (PropertyValue.Repeats r) ss h = (still-once (g .repeated) _ _ (h .0) (h .4), h .1, h .2, h .3, one-less (ruleGiven (g .repeats)) _ (h .4), h .5, h .6)
-counts-step g (PropertyValue.HasStatus x) ss h = (still-once (g .repeated) _ _ (h .0) (h .5), h .1, h .2, h .3, h .4, one-less (statusGiven (g .busy .status)) _ (h .5), h .6)
-counts-step g (PropertyValue.Transparent x) ss h = (still-once (g .repeated) _ _ (h .0) (h .6), h .1, h .2, h .3, h .4, h .5, one-less (transparencyGiven (g .busy .transparency)) _ (h .6))
+counts-step g unread ss h = h
+counts-step g (fault f) ss h = h
+counts-step g (of (identity uid)) ss h = h
+counts-step g (of (identity (recurrenceId t))) ss h = h
+counts-step g (of (identity (exceptions f))) ss h = h
+counts-step g (of (periods b)) ss h = h
+counts-step g (of (span (start t))) ss h = (still-once (g .repeated) _ _ (h .0) (h .1), one-less (timeGiven (g .span .start)) _ (h .1), h .2, h .3, h .4, h .5, h .6)
+counts-step g (of (span (end t))) ss h = (still-once (g .repeated) _ _ (h .0) (h .2), h .1, one-less (timeGiven (g .span .end)) _ (h .2), h .3, h .4, h .5, h .6)
+counts-step g (of (span (lasts d))) ss h = (still-once (g .repeated) _ _ (h .0) (h .3), h .1, h .2, one-less (durationGiven (g .span .lasts)) _ (h .3), h .4, h .5, h .6)
+counts-step g (of (repeats r)) ss h = (still-once (g .repeated) _ _ (h .0) (h .4), h .1, h .2, h .3, one-less (ruleGiven (g .repeats)) _ (h .4), h .5, h .6)
+counts-step g (of (busy (status x))) ss h = (still-once (g .repeated) _ _ (h .0) (h .5), h .1, h .2, h .3, h .4, one-less (statusGiven (g .busy .status)) _ (h .5), h .6)
+counts-step g (of (busy (transparent x))) ss h = (still-once (g .repeated) _ _ (h .0) (h .6), h .1, h .2, h .3, h .4, h .5, one-less (transparencyGiven (g .busy .transparency)) _ (h .6))
 
 count-one : (b : Bool) → countIf b 0 ≤ 1
 count-one true = omega arith
 count-one false = omega arith
 
-not-repeated : (ss : List PropertyValue) (g : ComponentProperties) → withProperties g ss .repeated ≡ false → Counts g ss
+not-repeated : (ss : List Reading) (g : ComponentProperties) → withProperties g ss .repeated ≡ false → Counts g ss
 unfolding withProperties linesNamed
 not-repeated [] g e = (
   e,
@@ -118,7 +117,7 @@ not-repeated [] g e = (
 )
 not-repeated (s ∷ ss) g e = step-counts g s ss (not-repeated ss (withProperty g s) e)
 
-counted : (ss : List PropertyValue) (g : ComponentProperties) → Counts g ss → withProperties g ss .repeated ≡ false
+counted : (ss : List Reading) (g : ComponentProperties) → Counts g ss → withProperties g ss .repeated ≡ false
 unfolding withProperties
 counted [] g h = h .0
 counted (s ∷ ss) g h = counted ss (withProperty g s) (counts-step g s ss h)
@@ -126,7 +125,7 @@ counted (s ∷ ss) g h = counted ss (withProperty g s) (counts-step g s ss h)
 -- ---- one property: what the lines say of it, and what is kept of them
 
 -- a line s is of the property, or of another, and then its part of what is kept stays
-abbrev Step : (A O : Type 0) → List ℕ → (A → PropertyValue) → (ComponentProperties → O) → ComponentProperties → PropertyValue → Type 0
+abbrev Step : (A O : Type 0) → List ℕ → (A → Reading) → (ComponentProperties → O) → ComponentProperties → Reading → Type 0
 Step A O name con field g s = ((sameBytes (propertyName s) name ≡ false) × (field (withProperty g s) ≡ field g)) ⊎ ((a : A) × (s ≡ con a))
 
 -- the part of a property in what is kept: what a line says of it, or none
@@ -142,27 +141,27 @@ record Tells {A O : Type 0} (p : Part A O) : Type 0 where
 -- a property: `con` makes what a line of it says, and `field` is its part
 record Kept (A O : Type 0) (p : Part A O) : Type 0 where
   name : List ℕ
-  con : A → PropertyValue
+  con : A → Reading
   field : ComponentProperties → O
   tells : Tells p
   named : (a : A) → sameBytes (propertyName (con a)) name ≡ true
   first : field noProperties ≡ p .none
   sets : (g : ComponentProperties) (a : A) → field (withProperty g (con a)) ≡ p .given a
-  step : (g : ComponentProperties) (s : PropertyValue) → Step A O name con field g s
+  step : (g : ComponentProperties) (s : Reading) → Step A O name con field g s
 
-abbrev kept-of : {A O : Type 0} {p : Part A O} (name : List ℕ) (con : A → PropertyValue) (field : ComponentProperties → O) → Tells p
+abbrev kept-of : {A O : Type 0} {p : Part A O} (name : List ℕ) (con : A → Reading) (field : ComponentProperties → O) → Tells p
     → ((a : A) → sameBytes (propertyName (con a)) name ≡ true) → field noProperties ≡ p .none
     → ((g : ComponentProperties) (a : A) → field (withProperty g (con a)) ≡ p .given a)
-    → ((g : ComponentProperties) (s : PropertyValue) → Step A O name con field g s) → Kept A O p
+    → ((g : ComponentProperties) (s : Reading) → Step A O name con field g s) → Kept A O p
 kept-of name con field tells named first sets step =
     record { name = name; con = con; field = field; tells = tells; named = named; first = first; sets = sets; step = step }
 
 -- what the lines of a component say together
-abbrev pub together : List PropertyValue → ComponentProperties
+abbrev pub together : List Reading → ComponentProperties
 together ss = withProperties noProperties ss
 
 -- THE LAWS of a property: its part of what the lines say together, by the lines of it
-pub record KeptLaws {A O : Type 0} (p : Part A O) (name : List ℕ) (con : A → PropertyValue) (part : O) (ss : List PropertyValue) : Type 0 where
+pub record KeptLaws {A O : Type 0} (p : Part A O) (name : List ℕ) (con : A → Reading) (part : O) (ss : List Reading) : Type 0 where
   pub said : (a : A) → part ≡ p .given a → List·Memᴰ (con a) ss
   pub holds : (a : A) → List·Memᴰ (con a) ss → linesNamed name ss ≤ 1 → part ≡ p .given a
   pub absent : linesNamed name ss ≡ 0 → part ≡ p .none
@@ -173,19 +172,19 @@ module _ {A O : Type 0} {p : Part A O} (k : Kept A O p) where
   open Part p using (given)
   open Kept k using (name, con, field, tells, named, first, sets, step)
 
-  abbrev many : List PropertyValue → ℕ
+  abbrev many : List Reading → ℕ
   many ss = linesNamed name ss
 
   -- a line of it, and one that is not
-  many-more : (a : A) (s : PropertyValue) (ss : List PropertyValue) → s ≡ con a → many (s ∷ ss) ≡ suc (many ss)
+  many-more : (a : A) (s : Reading) (ss : List Reading) → s ≡ con a → many (s ∷ ss) ≡ suc (many ss)
   unfolding linesNamed
   many-more a s ss e = rw (e, named a)
 
-  many-same : (s : PropertyValue) (ss : List PropertyValue) → sameBytes (propertyName s) name ≡ false → many (s ∷ ss) ≡ many ss
+  many-same : (s : Reading) (ss : List Reading) → sameBytes (propertyName s) name ≡ false → many (s ∷ ss) ≡ many ss
   unfolding linesNamed
   many-same s ss e = rw e
 
-  many-less : (s : PropertyValue) (ss : List PropertyValue) → many ss ≤ many (s ∷ ss)
+  many-less : (s : Reading) (ss : List Reading) → many ss ≤ many (s ∷ ss)
   unfolding linesNamed
   many-less s ss = go (sameBytes (propertyName s) name)
     where
@@ -194,14 +193,14 @@ module _ {A O : Type 0} {p : Part A O} (k : Kept A O p) where
       go false = omega arith
 
   -- without a line of it, what is kept stays
-  stays : (ss : List PropertyValue) (g : ComponentProperties) → many ss ≤ 0 → field (withProperties g ss) ≡ field g
+  stays : (ss : List Reading) (g : ComponentProperties) → many ss ≤ 0 → field (withProperties g ss) ≡ field g
   unfolding withProperties
   stays [] g h = refl
   stays (s ∷ ss) g h =
       ⊎-elim (λ w. stays ss (withProperty g s) (omega (arith, many-less s ss)) ∙ w .1) (λ w. absurd (omega (arith, many-more (w .0) s ss (w .1)))) (step g s)
 
   -- what is kept was said by a line
-  said-by : (ss : List PropertyValue) (g : ComponentProperties) (a : A) → field (withProperties g ss) ≡ given a → (field g ≡ given a) ⊎ List·Memᴰ (con a) ss
+  said-by : (ss : List Reading) (g : ComponentProperties) (a : A) → field (withProperties g ss) ≡ given a → (field g ≡ given a) ⊎ List·Memᴰ (con a) ss
   unfolding withProperties
   said-by [] g a e = inl e
   said-by (s ∷ ss) g a e =
@@ -209,32 +208,32 @@ module _ {A O : Type 0} {p : Part A O} (k : Kept A O p) where
       (λ h.
       ⊎-elim (λ w. inl (sym (w .1) ∙ h))
       (λ w.
-      let q : field (withProperty g s) ≡ given (w .0) = ap (λ (x : PropertyValue). field (withProperty g x)) (w .1) ∙ sets g (w .0) in
+      let q : field (withProperty g s) ≡ given (w .0) = ap (λ (x : Reading). field (withProperty g x)) (w .1) ∙ sets g (w .0) in
       let z : w .0 ≡ a = tells .same (w .0) a (sym q ∙ h) in
       inr (List·Memᴰ·head (ap con (sym z) ∙ sym (w .1))))
       (step g s))
       (λ m. inr (List·Memᴰ·tail m)) (said-by ss (withProperty g s) a e)
 
   -- what a line says is kept, where there is one line at most
-  kept : (ss : List PropertyValue) (g : ComponentProperties) (a : A) → List·Memᴰ (con a) ss → many ss ≤ 1 → field (withProperties g ss) ≡ given a
+  kept : (ss : List Reading) (g : ComponentProperties) (a : A) → List·Memᴰ (con a) ss → many ss ≤ 1 → field (withProperties g ss) ≡ given a
   unfolding withProperties
   kept (s ∷ ss) g a (List·Memᴰ·head e) h =
-      stays ss (withProperty g s) (omega (arith, many-more a s ss (sym e))) ∙ ap (λ (x : PropertyValue). field (withProperty g x)) (sym e) ∙ sets g a
+      stays ss (withProperty g s) (omega (arith, many-more a s ss (sym e))) ∙ ap (λ (x : Reading). field (withProperty g x)) (sym e) ∙ sets g a
   kept (s ∷ ss) g a (List·Memᴰ·tail m) h = kept ss (withProperty g s) a m (omega (arith, many-less s ss))
 
   -- lines, and how many they are
-  some-line : (g : ComponentProperties) (ss : List PropertyValue) → 1 ≤ many ss → (a : A) × List·Memᴰ (con a) ss
+  some-line : (g : ComponentProperties) (ss : List Reading) → 1 ≤ many ss → (a : A) × List·Memᴰ (con a) ss
   unfolding linesNamed
   some-line g [] h = absurd (omega arith)
   some-line g (s ∷ ss) h =
       ⊎-elim (λ w. let r = some-line g ss (omega (arith, many-same s ss (w .0))) in (r .0, List·Memᴰ·tail (r .1)))
       (λ w. (w .0, List·Memᴰ·head (sym (w .1)))) (step g s)
 
-  line-counts : (ss : List PropertyValue) (a : A) → List·Memᴰ (con a) ss → 1 ≤ many ss
+  line-counts : (ss : List Reading) (a : A) → List·Memᴰ (con a) ss → 1 ≤ many ss
   line-counts (s ∷ ss) a (List·Memᴰ·head e) = omega (arith, many-more a s ss (sym e))
   line-counts (s ∷ ss) a (List·Memᴰ·tail m) = omega (arith, many-less s ss, line-counts ss a m)
 
-  kept-laws : (ss : List PropertyValue) → KeptLaws p name con (field (together ss)) ss
+  kept-laws : (ss : List Reading) → KeptLaws p name con (field (together ss)) ss
   kept-laws ss =
       record {
         said = λ a e. ⊎-elim (λ h. absurd (tells .apart a (sym first ∙ h))) (λ m. m) (said-by ss noProperties a e);
@@ -247,27 +246,26 @@ module _ {A O : Type 0} {p : Part A O} (k : Kept A O p) where
 -- ---- the six properties of an event
 
 -- a line is of one of them, or of none
-steps : (g : ComponentProperties) (s : PropertyValue)
-    → Step Time TimeGiven (ascii "DTSTART") (λ a. PropertyValue.Start a) (λ x. x .span .start) g s
-    × Step Time TimeGiven (ascii "DTEND") (λ a. PropertyValue.End a) (λ x. x .span .end) g s
-    × Step Duration DurationGiven (ascii "DURATION") (λ a. PropertyValue.Lasts a) (λ x. x .span .lasts) g s
-    × Step Rule RuleGiven (ascii "RRULE") (λ a. PropertyValue.Repeats a) (λ x. x .repeats) g s
-    × Step Status StatusGiven (ascii "STATUS") (λ a. PropertyValue.HasStatus a) (λ x. x .busy .status) g s
-    × Step Bool TransparencyGiven (ascii "TRANSP") (λ a. PropertyValue.Transparent a) (λ x. x .busy .transparency) g s
+steps : (g : ComponentProperties) (s : Reading)
+    → Step Time TimeGiven (ascii "DTSTART") (λ a. of (span (start a))) (λ x. x .span .start) g s
+    × Step Time TimeGiven (ascii "DTEND") (λ a. of (span (end a))) (λ x. x .span .end) g s
+    × Step Duration DurationGiven (ascii "DURATION") (λ a. of (span (lasts a))) (λ x. x .span .lasts) g s
+    × Step Rule RuleGiven (ascii "RRULE") (λ a. of (repeats a)) (λ x. x .repeats) g s
+    × Step Status StatusGiven (ascii "STATUS") (λ a. of (busy (status a))) (λ x. x .busy .status) g s
+    × Step Bool TransparencyGiven (ascii "TRANSP") (λ a. of (busy (transparent a))) (λ x. x .busy .transparency) g s
 unfolding withProperty withSpan withBusy propertyName
-steps g PropertyValue.Nothing = (inl (refl, refl), inl (refl, refl), inl (refl, refl), inl (refl, refl), inl (refl, refl), inl (refl, refl))
-steps g PropertyValue.Unsupported = (inl (refl, refl), inl (refl, refl), inl (refl, refl), inl (refl, refl), inl (refl, refl), inl (refl, refl))
-steps g PropertyValue.Bad = (inl (refl, refl), inl (refl, refl), inl (refl, refl), inl (refl, refl), inl (refl, refl), inl (refl, refl))
-steps g (PropertyValue.Start t) = (inr (t, refl), inl (refl, refl), inl (refl, refl), inl (refl, refl), inl (refl, refl), inl (refl, refl))
-steps g (PropertyValue.End t) = (inl (refl, refl), inr (t, refl), inl (refl, refl), inl (refl, refl), inl (refl, refl), inl (refl, refl))
-steps g (PropertyValue.Lasts d) = (inl (refl, refl), inl (refl, refl), inr (d, refl), inl (refl, refl), inl (refl, refl), inl (refl, refl))
-steps g (PropertyValue.Repeats r) = (inl (refl, refl), inl (refl, refl), inl (refl, refl), inr (r, refl), inl (refl, refl), inl (refl, refl))
-steps g (PropertyValue.HasStatus x) = (inl (refl, refl), inl (refl, refl), inl (refl, refl), inl (refl, refl), inr (x, refl), inl (refl, refl))
-steps g (PropertyValue.Transparent x) = (inl (refl, refl), inl (refl, refl), inl (refl, refl), inl (refl, refl), inl (refl, refl), inr (x, refl))
-steps g PropertyValue.Uid = (inl (refl, refl), inl (refl, refl), inl (refl, refl), inl (refl, refl), inl (refl, refl), inl (refl, refl))
-steps g (PropertyValue.RecurrenceId t) = (inl (refl, refl), inl (refl, refl), inl (refl, refl), inl (refl, refl), inl (refl, refl), inl (refl, refl))
-steps g (PropertyValue.HasExceptions f) = (inl (refl, refl), inl (refl, refl), inl (refl, refl), inl (refl, refl), inl (refl, refl), inl (refl, refl))
-steps g (PropertyValue.HasPeriods b) = (inl (refl, refl), inl (refl, refl), inl (refl, refl), inl (refl, refl), inl (refl, refl), inl (refl, refl))
+steps g unread = (inl (refl, refl), inl (refl, refl), inl (refl, refl), inl (refl, refl), inl (refl, refl), inl (refl, refl))
+steps g (fault f) = (inl (refl, refl), inl (refl, refl), inl (refl, refl), inl (refl, refl), inl (refl, refl), inl (refl, refl))
+steps g (of (span (start t))) = (inr (t, refl), inl (refl, refl), inl (refl, refl), inl (refl, refl), inl (refl, refl), inl (refl, refl))
+steps g (of (span (end t))) = (inl (refl, refl), inr (t, refl), inl (refl, refl), inl (refl, refl), inl (refl, refl), inl (refl, refl))
+steps g (of (span (lasts d))) = (inl (refl, refl), inl (refl, refl), inr (d, refl), inl (refl, refl), inl (refl, refl), inl (refl, refl))
+steps g (of (repeats r)) = (inl (refl, refl), inl (refl, refl), inl (refl, refl), inr (r, refl), inl (refl, refl), inl (refl, refl))
+steps g (of (busy (status x))) = (inl (refl, refl), inl (refl, refl), inl (refl, refl), inl (refl, refl), inr (x, refl), inl (refl, refl))
+steps g (of (busy (transparent x))) = (inl (refl, refl), inl (refl, refl), inl (refl, refl), inl (refl, refl), inl (refl, refl), inr (x, refl))
+steps g (of (identity uid)) = (inl (refl, refl), inl (refl, refl), inl (refl, refl), inl (refl, refl), inl (refl, refl), inl (refl, refl))
+steps g (of (identity (recurrenceId t))) = (inl (refl, refl), inl (refl, refl), inl (refl, refl), inl (refl, refl), inl (refl, refl), inl (refl, refl))
+steps g (of (identity (exceptions f))) = (inl (refl, refl), inl (refl, refl), inl (refl, refl), inl (refl, refl), inl (refl, refl), inl (refl, refl))
+steps g (of (periods b)) = (inl (refl, refl), inl (refl, refl), inl (refl, refl), inl (refl, refl), inl (refl, refl), inl (refl, refl))
 
 -- the parts, by what they hold
 abbrev pub time-part : Part Time TimeGiven
@@ -303,27 +301,27 @@ transparency-tells = record { same = λ a b e. cc; apart = λ a e. let z : _≡_
 -- each property, with its name and its place
 start-kept : Kept Time TimeGiven time-part
 unfolding noProperties withProperty withSpan propertyName
-start-kept = kept-of (ascii "DTSTART") (λ a. PropertyValue.Start a) (λ g. g .span .start) time-tells (λ a. refl) refl (λ g a. refl) (λ g s. steps g s .0)
+start-kept = kept-of (ascii "DTSTART") (λ a. of (span (start a))) (λ g. g .span .start) time-tells (λ a. refl) refl (λ g a. refl) (λ g s. steps g s .0)
 
 end-kept : Kept Time TimeGiven time-part
 unfolding noProperties withProperty withSpan propertyName
-end-kept = kept-of (ascii "DTEND") (λ a. PropertyValue.End a) (λ g. g .span .end) time-tells (λ a. refl) refl (λ g a. refl) (λ g s. steps g s .1)
+end-kept = kept-of (ascii "DTEND") (λ a. of (span (end a))) (λ g. g .span .end) time-tells (λ a. refl) refl (λ g a. refl) (λ g s. steps g s .1)
 
 lasts-kept : Kept Duration DurationGiven duration-part
 unfolding noProperties withProperty withSpan propertyName
-lasts-kept = kept-of (ascii "DURATION") (λ a. PropertyValue.Lasts a) (λ g. g .span .lasts) duration-tells (λ a. refl) refl (λ g a. refl) (λ g s. steps g s .2)
+lasts-kept = kept-of (ascii "DURATION") (λ a. of (span (lasts a))) (λ g. g .span .lasts) duration-tells (λ a. refl) refl (λ g a. refl) (λ g s. steps g s .2)
 
 repeats-kept : Kept Rule RuleGiven rule-part
 unfolding noProperties withProperty propertyName
-repeats-kept = kept-of (ascii "RRULE") (λ a. PropertyValue.Repeats a) (λ g. g .repeats) rule-tells (λ a. refl) refl (λ g a. refl) (λ g s. steps g s .3)
+repeats-kept = kept-of (ascii "RRULE") (λ a. of (repeats a)) (λ g. g .repeats) rule-tells (λ a. refl) refl (λ g a. refl) (λ g s. steps g s .3)
 
 status-kept : Kept Status StatusGiven status-part
 unfolding noProperties withProperty withBusy propertyName
-status-kept = kept-of (ascii "STATUS") (λ a. PropertyValue.HasStatus a) (λ g. g .busy .status) status-tells (λ a. refl) refl (λ g a. refl) (λ g s. steps g s .4)
+status-kept = kept-of (ascii "STATUS") (λ a. of (busy (status a))) (λ g. g .busy .status) status-tells (λ a. refl) refl (λ g a. refl) (λ g s. steps g s .4)
 
 transparency-kept : Kept Bool TransparencyGiven transparency-part
 unfolding noProperties withProperty withBusy propertyName
-transparency-kept = kept-of (ascii "TRANSP") (λ a. PropertyValue.Transparent a) (λ g. g .busy .transparency) transparency-tells (λ a. refl) refl (λ g a. refl) (λ g s. steps g s .5)
+transparency-kept = kept-of (ascii "TRANSP") (λ a. of (busy (transparent a))) (λ g. g .busy .transparency) transparency-tells (λ a. refl) refl (λ g a. refl) (λ g s. steps g s .5)
 
 -- ---- kinds, and the tests of DTEND, DURATION and UNTIL
 
@@ -493,7 +491,7 @@ module _ (s : Time) where
   repeat-made (RuleGiven.Given r) p = limit-made (r .limit) (λ t q. p r t refl q)
 
 -- the lines of a component, from none read
-module _ (ss : List PropertyValue) where
+module _ (ss : List Reading) where
   -- at most one line of each property, where none stands twice, and the other way round
   pub few-lines : together ss .repeated ≡ false
       → (linesNamed (ascii "DTSTART") ss ≤ 1)
@@ -511,27 +509,27 @@ module _ (ss : List PropertyValue) where
   lines-few a b c d e f = counted ss noProperties (refl, a, b, c, d, e, f)
 
   -- the laws of each of the six properties
-  pub start-laws : KeptLaws time-part (ascii "DTSTART") (λ a. PropertyValue.Start a) (together ss .span .start) ss
+  pub start-laws : KeptLaws time-part (ascii "DTSTART") (λ a. of (span (start a))) (together ss .span .start) ss
   unfolding start-kept
   start-laws = kept-laws start-kept ss
 
-  pub end-laws : KeptLaws time-part (ascii "DTEND") (λ a. PropertyValue.End a) (together ss .span .end) ss
+  pub end-laws : KeptLaws time-part (ascii "DTEND") (λ a. of (span (end a))) (together ss .span .end) ss
   unfolding end-kept
   end-laws = kept-laws end-kept ss
 
-  pub lasts-laws : KeptLaws duration-part (ascii "DURATION") (λ a. PropertyValue.Lasts a) (together ss .span .lasts) ss
+  pub lasts-laws : KeptLaws duration-part (ascii "DURATION") (λ a. of (span (lasts a))) (together ss .span .lasts) ss
   unfolding lasts-kept
   lasts-laws = kept-laws lasts-kept ss
 
-  pub repeats-laws : KeptLaws rule-part (ascii "RRULE") (λ a. PropertyValue.Repeats a) (together ss .repeats) ss
+  pub repeats-laws : KeptLaws rule-part (ascii "RRULE") (λ a. of (repeats a)) (together ss .repeats) ss
   unfolding repeats-kept
   repeats-laws = kept-laws repeats-kept ss
 
-  pub status-laws : KeptLaws status-part (ascii "STATUS") (λ a. PropertyValue.HasStatus a) (together ss .busy .status) ss
+  pub status-laws : KeptLaws status-part (ascii "STATUS") (λ a. of (busy (status a))) (together ss .busy .status) ss
   unfolding status-kept
   status-laws = kept-laws status-kept ss
 
-  pub transparency-laws : KeptLaws transparency-part (ascii "TRANSP") (λ a. PropertyValue.Transparent a) (together ss .busy .transparency) ss
+  pub transparency-laws : KeptLaws transparency-part (ascii "TRANSP") (λ a. of (busy (transparent a))) (together ss .busy .transparency) ss
   unfolding transparency-kept
   transparency-laws = kept-laws transparency-kept ss
 
@@ -545,7 +543,7 @@ module _ (ss : List PropertyValue) where
     few = few-lines (m .not-twice)
 
     -- a DTSTART line says the start
-    pub the-start : (s : Time) → List·Memᴰ (PropertyValue.Start s) ss → m .start ≡ s
+    pub the-start : (s : Time) → List·Memᴰ (of (span (start s))) ss → m .start ≡ s
     the-start s k = let q : TimeGiven.Given (m .start) ≡ TimeGiven.Given s = sym (m .start-given) ∙ start-laws .holds s k (few .0) in cc
 
     made-not-both : (a b : ℕ) → linesNamed (ascii "DTEND") ss ≡ a → linesNamed (ascii "DURATION") ss ≡ b → a ≤ 1 → b ≤ 1 → a + b ≤ 1
@@ -558,17 +556,17 @@ module _ (ss : List PropertyValue) where
         let g : together ss .span .lasts ≡ DurationGiven.Given (d .0) = lasts-laws .holds (d .0) (d .1) (few .2) in
         both-read (m .start) (e .0) (d .0) (m .ending) (rw (f, g) at (m .ending-read))
 
-    made-end : (s e : Time) → List·Memᴰ (PropertyValue.Start s) ss → List·Memᴰ (PropertyValue.End e) ss → EndFits s e
+    made-end : (s e : Time) → List·Memᴰ (of (span (start s))) ss → List·Memᴰ (of (span (end e))) ss → EndFits s e
     made-end s e k l =
         let f : together ss .span .end ≡ TimeGiven.Given e = end-laws .holds e l (few .1) in
         subst (λ (x : Time). EndFits x e) (the-start s k) (end-read (m .start) e (together ss .span .lasts) (m .ending) (rw f at (m .ending-read)))
 
-    made-duration : (s : Time) (d : Duration) → List·Memᴰ (PropertyValue.Start s) ss → List·Memᴰ (PropertyValue.Lasts d) ss → DurationFits s d
+    made-duration : (s : Time) (d : Duration) → List·Memᴰ (of (span (start s))) ss → List·Memᴰ (of (span (lasts d))) ss → DurationFits s d
     made-duration s d k l =
         let f : together ss .span .lasts ≡ DurationGiven.Given d = lasts-laws .holds d l (few .2) in
         subst (λ (x : Time). DurationFits x d) (the-start s k) (duration-read (m .start) (together ss .span .end) d (m .ending) (rw f at (m .ending-read)))
 
-    made-until : (s : Time) (r : Rule) (t : Time) → List·Memᴰ (PropertyValue.Start s) ss → List·Memᴰ (PropertyValue.Repeats r) ss → r .limit ≡ Limit.Until t → UntilFits s t
+    made-until : (s : Time) (r : Rule) (t : Time) → List·Memᴰ (of (span (start s))) ss → List·Memᴰ (of (repeats r)) ss → r .limit ≡ Limit.Until t → UntilFits s t
     made-until s r t k l q =
         let f : together ss .repeats ≡ RuleGiven.Given r = repeats-laws .holds r l (few .3) in
         subst (λ (x : Time). UntilFits x t) (the-start s k) (until-read (m .start) r t (m .repeat) q (rw f at (m .repeat-read)))
@@ -614,14 +612,14 @@ module _ (ss : List PropertyValue) where
         }
 
 -- THE THEOREM of events: an event is read exactly where the lines keep the rules of a VEVENT
-pub event-iff : (ss : List PropertyValue) → ((x : Event) × (eventBy (withProperties noProperties ss) ≡ EventRead.Of x)) ↔ EventRules ss
+pub event-iff : (ss : List Reading) → ((x : Event) × (eventBy (withProperties noProperties ss) ≡ EventRead.Of x)) ↔ EventRules ss
 event-iff ss = (
   λ h. made-rules ss (made (together ss) (h .0) (h .1)),
   λ w. (_, made-event (together ss) (rules-made ss w)),
 )
 
 -- and otherwise it is broken
-pub event-broken-iff : (ss : List PropertyValue) → (eventBy (withProperties noProperties ss) ≡ EventRead.Broken) ↔ (EventRules ss → ⊥)
+pub event-broken-iff : (ss : List Reading) → (eventBy (withProperties noProperties ss) ≡ EventRead.Broken) ↔ (EventRules ss → ⊥)
 event-broken-iff ss = (
   λ e w. let x = event-iff ss .1 w in event-broken (together ss) (x .0) (sym e ∙ x .1),
   λ h. go h (eventBy (together ss)) refl,
@@ -675,7 +673,7 @@ by-block : (g : ComponentProperties) (x : Block) → g .repeated ≡ false → b
 unfolding blockBy
 by-block g x e h = ap (λ (b : Bool). cond b BlockRead.Broken (blockFrom (g .span .start) (g .span .end))) e ∙ h
 
-module _ (ss : List PropertyValue) where
+module _ (ss : List Reading) where
   block-rules : (x : Block) → blockBy (together ss) ≡ BlockRead.Of x → BlockRules ss
   block-rules x h =
       let w = block-by (together ss) x h in
@@ -697,11 +695,11 @@ module _ (ss : List PropertyValue) where
       (b .0, by-block (together ss) (b .0) t (b .1))
 
 -- THE THEOREM of blocks: of lines as a VFREEBUSY has them, a block is read exactly where they keep its rules
-pub block-iff : (ss : List PropertyValue) → BlockLines ss → ((x : Block) × (blockBy (withProperties noProperties ss) ≡ BlockRead.Of x)) ↔ BlockRules ss
+pub block-iff : (ss : List Reading) → BlockLines ss → ((x : Block) × (blockBy (withProperties noProperties ss) ≡ BlockRead.Of x)) ↔ BlockRules ss
 block-iff ss n = (λ h. block-rules ss (h .0) (h .1), λ w. rules-block ss n w)
 
 -- and otherwise it is broken
-pub block-broken-iff : (ss : List PropertyValue) → BlockLines ss → (blockBy (withProperties noProperties ss) ≡ BlockRead.Broken) ↔ (BlockRules ss → ⊥)
+pub block-broken-iff : (ss : List Reading) → BlockLines ss → (blockBy (withProperties noProperties ss) ≡ BlockRead.Broken) ↔ (BlockRules ss → ⊥)
 block-broken-iff ss n = (λ e w. let x = rules-block ss n w in block-broken (sym e ∙ x .1), λ h. go h (blockBy (together ss)) refl)
   where
     go : (BlockRules ss → ⊥) → (a : BlockRead) → blockBy (together ss) ≡ a → a ≡ BlockRead.Broken

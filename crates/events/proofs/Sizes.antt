@@ -8,7 +8,7 @@ use Rattle.time.specs.Limits.{lastSecond}
 use Rattle.values.specs.Rule.{LimitSmall}
 use Rattle.values.specs.declared.times.Time.{Time}
 use Rattle.values.specs.declared.rule.Limit.{Limit}
-use Rattle.property.specs.declared.PropertyValue.{PropertyValue}
+use Rattle.property.specs.Facts.{Reading}
 use Rattle.events.specs.ComponentProperties.{noProperties, withProperties}
 use Rattle.events.specs.Events.{endingBy, limitBy, repeatBy, daysBy, intervalBy, eventMade, eventWith, eventFrom, eventBy}
 use Rattle.events.specs.Sizes.{EndingSmall, RepeatSmall, EventSmall}
@@ -110,7 +110,7 @@ eventBy-small g e r q = go (g .repeated) q
     go true k = let z : _≡_ {A = ℕ} 0 1 = cc in absurd (omega arith)
     go false k = from-small (g .span .start) g e (r .start-small) r k
 
-pub event-small : (ss : List PropertyValue) (e : Event) → AllSmall ss → eventBy (withProperties noProperties ss) ≡ EventRead.Of e → EventSmall e
+pub event-small : (ss : List Reading) (e : Event) → AllSmall ss → eventBy (withProperties noProperties ss) ≡ EventRead.Of e → EventSmall e
 event-small ss e h q = eventBy-small _ e (with-properties-small ss noProperties nothing-small h) q
 
 -- ---- the block

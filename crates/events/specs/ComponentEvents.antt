@@ -11,7 +11,7 @@ use Rattle.values.specs.declared.times.Time.{Time}
 use Rattle.values.specs.declared.rule.Limit.{Limit}
 use Rattle.values.specs.declared.rule.Rule.{Rule}
 use Rattle.property.specs.declared.Status.{Status}
-use Rattle.property.specs.declared.PropertyValue.{PropertyValue}
+use Rattle.property.specs.Facts.{Reading, of, span, repeats, busy, start, end, lasts, status, transparent}
 use Rattle.periods.specs.declared.BusyType.{BusyType}
 use Rattle.events.specs.ComponentRules.{linesNamed}
 use Rattle.events.specs.declared.Ending.{Ending}
@@ -21,34 +21,34 @@ use Rattle.events.specs.declared.Bound.{Bound}
 use Rattle.events.specs.declared.Block.{Block}
 
 -- the event of a VEVENT
-pub record EventIs (ss : List PropertyValue) (e : Event) : Type 0 where
+pub record EventIs (ss : List Reading) (e : Event) : Type 0 where
   -- DTSTART s
-  pub kind-is : (s : Time) → List·Memᴰ (PropertyValue.Start s) ss → e .kind ≡ s .kind
-  pub start-is : (s : Time) → List·Memᴰ (PropertyValue.Start s) ss → e .start ≡ s .second
+  pub kind-is : (s : Time) → List·Memᴰ (of (span (start s))) ss → e .kind ≡ s .kind
+  pub start-is : (s : Time) → List·Memᴰ (of (span (start s))) ss → e .start ≡ s .second
   -- DTEND t, DURATION d, neither
-  pub end-is : (t : Time) → List·Memᴰ (PropertyValue.End t) ss → e .ending ≡ Ending.End (t .second)
-  pub duration-is : (d : Duration) → List·Memᴰ (PropertyValue.Lasts d) ss → e .ending ≡ Ending.Lasts d
+  pub end-is : (t : Time) → List·Memᴰ (of (span (end t))) ss → e .ending ≡ Ending.End (t .second)
+  pub duration-is : (d : Duration) → List·Memᴰ (of (span (lasts d))) ss → e .ending ≡ Ending.Lasts d
   pub no-ending : linesNamed (ascii "DTEND") ss ≡ 0 → linesNamed (ascii "DURATION") ss ≡ 0 → e .ending ≡ Ending.None
   -- RRULE r, by its limit, and none
-  pub days-are : (r : Rule) → List·Memᴰ (PropertyValue.Repeats r) ss → e .days ≡ r .days
-  pub interval-is : (r : Rule) → List·Memᴰ (PropertyValue.Repeats r) ss → e .interval ≡ r .interval
-  pub forever : (r : Rule) → List·Memᴰ (PropertyValue.Repeats r) ss → r .limit ≡ Limit.Forever → e .repeat ≡ Repeat.Forever
-  pub count-is : (r : Rule) (n : ℕ) → List·Memᴰ (PropertyValue.Repeats r) ss → r .limit ≡ Limit.Count n → e .repeat ≡ Repeat.Count n
-  pub until-is : (r : Rule) (t : Time) → List·Memᴰ (PropertyValue.Repeats r) ss → r .limit ≡ Limit.Until t → e .repeat ≡ Repeat.Until (t .second)
+  pub days-are : (r : Rule) → List·Memᴰ (of (repeats r)) ss → e .days ≡ r .days
+  pub interval-is : (r : Rule) → List·Memᴰ (of (repeats r)) ss → e .interval ≡ r .interval
+  pub forever : (r : Rule) → List·Memᴰ (of (repeats r)) ss → r .limit ≡ Limit.Forever → e .repeat ≡ Repeat.Forever
+  pub count-is : (r : Rule) (n : ℕ) → List·Memᴰ (of (repeats r)) ss → r .limit ≡ Limit.Count n → e .repeat ≡ Repeat.Count n
+  pub until-is : (r : Rule) (t : Time) → List·Memᴰ (of (repeats r)) ss → r .limit ≡ Limit.Until t → e .repeat ≡ Repeat.Until (t .second)
   pub no-rule-days : linesNamed (ascii "RRULE") ss ≡ 0 → e .days ≡ 1
   pub no-rule-interval : linesNamed (ascii "RRULE") ss ≡ 0 → e .interval ≡ 1
   pub no-rule-once : linesNamed (ascii "RRULE") ss ≡ 0 → e .repeat ≡ Repeat.Once
   -- TRANSP:TRANSPARENT is free, whatever STATUS says, and STATUS CANCELLED is free, whatever TRANSP says; otherwise by STATUS
-  pub transparent-free : List·Memᴰ (PropertyValue.Transparent true) ss → e .busy ≡ BusyType.Free
-  pub cancelled-free : List·Memᴰ (PropertyValue.HasStatus Status.Cancelled) ss → e .busy ≡ BusyType.Free
-  pub tentative-so : (List·Memᴰ (PropertyValue.Transparent true) ss → ⊥) → List·Memᴰ (PropertyValue.HasStatus Status.Tentative) ss
+  pub transparent-free : List·Memᴰ (of (busy (transparent true))) ss → e .busy ≡ BusyType.Free
+  pub cancelled-free : List·Memᴰ (of (busy (status Status.Cancelled))) ss → e .busy ≡ BusyType.Free
+  pub tentative-so : (List·Memᴰ (of (busy (transparent true))) ss → ⊥) → List·Memᴰ (of (busy (status Status.Tentative))) ss
       → e .busy ≡ BusyType.Tentative
-  pub other-busy : (List·Memᴰ (PropertyValue.Transparent true) ss → ⊥) → List·Memᴰ (PropertyValue.HasStatus Status.Other) ss → e .busy ≡ BusyType.Busy
-  pub no-status-busy : (List·Memᴰ (PropertyValue.Transparent true) ss → ⊥) → linesNamed (ascii "STATUS") ss ≡ 0 → e .busy ≡ BusyType.Busy
+  pub other-busy : (List·Memᴰ (of (busy (transparent true))) ss → ⊥) → List·Memᴰ (of (busy (status Status.Other))) ss → e .busy ≡ BusyType.Busy
+  pub no-status-busy : (List·Memᴰ (of (busy (transparent true))) ss → ⊥) → linesNamed (ascii "STATUS") ss ≡ 0 → e .busy ≡ BusyType.Busy
 
 -- the block of a VFREEBUSY
-pub record BlockIs (ss : List PropertyValue) (b : Block) : Type 0 where
-  pub start-is : (s : Time) → List·Memᴰ (PropertyValue.Start s) ss → b .start ≡ Bound.At (s .second)
+pub record BlockIs (ss : List Reading) (b : Block) : Type 0 where
+  pub start-is : (s : Time) → List·Memᴰ (of (span (start s))) ss → b .start ≡ Bound.At (s .second)
   pub no-start : linesNamed (ascii "DTSTART") ss ≡ 0 → b .start ≡ Bound.None
-  pub end-is : (t : Time) → List·Memᴰ (PropertyValue.End t) ss → b .end ≡ Bound.At (t .second)
+  pub end-is : (t : Time) → List·Memᴰ (of (span (end t))) ss → b .end ≡ Bound.At (t .second)
   pub no-end : linesNamed (ascii "DTEND") ss ≡ 0 → b .end ≡ Bound.None

@@ -1,7 +1,7 @@
 -- What the lines directly in a component say together: each property once, and whether one stands twice that may not.
 use mathlib.Core.Bool.{Bool, true, false, _||_}
 use mathlib.Core.List.{List, [], _∷_}
-use Rattle.property.specs.declared.PropertyValue.{PropertyValue}
+use Rattle.property.specs.Facts.{Reading, unread, fault, of, span, repeats, busy, identity, periods, start, end, lasts, status, transparent}
 use Rattle.events.specs.declared.ComponentProperties.{ComponentProperties}
 use Rattle.events.specs.declared.SpanProperties.{SpanProperties}
 use Rattle.events.specs.declared.BusyProperties.{BusyProperties}
@@ -50,27 +50,24 @@ withBusy g again x = record { repeated = g .repeated || again; span = g .span; r
 
 -- one line more; no more than one may stand of DTSTART, DTEND, DURATION, RRULE, STATUS, TRANSP.
 -- What ties a VEVENT to others (UID, RECURRENCE-ID, EXDATE) is no part of its event: its rules are stated beside the event
-unfoldable pub withProperty : ComponentProperties → PropertyValue → ComponentProperties
-withProperty g PropertyValue.Nothing = g
-withProperty g PropertyValue.Unsupported = g
-withProperty g PropertyValue.Bad = g
-withProperty g (PropertyValue.Start t) =
+unfoldable pub withProperty : ComponentProperties → Reading → ComponentProperties
+withProperty g unread = g
+withProperty g (fault f) = g
+withProperty g (of (span (start t))) =
     withSpan g (timeGiven (g .span .start)) (record { start = TimeGiven.Given t; end = g .span .end; lasts = g .span .lasts })
-withProperty g (PropertyValue.End t) =
+withProperty g (of (span (end t))) =
     withSpan g (timeGiven (g .span .end)) (record { start = g .span .start; end = TimeGiven.Given t; lasts = g .span .lasts })
-withProperty g (PropertyValue.Lasts d) =
+withProperty g (of (span (lasts d))) =
     withSpan g (durationGiven (g .span .lasts)) (record { start = g .span .start; end = g .span .end; lasts = DurationGiven.Given d })
-withProperty g (PropertyValue.Repeats r) =
+withProperty g (of (repeats r)) =
     record { repeated = g .repeated || ruleGiven (g .repeats); span = g .span; repeats = RuleGiven.Given r; busy = g .busy }
-withProperty g (PropertyValue.HasStatus s) =
+withProperty g (of (busy (status s))) =
     withBusy g (statusGiven (g .busy .status)) (record { status = StatusGiven.Given s; transparency = g .busy .transparency })
-withProperty g (PropertyValue.Transparent t) =
+withProperty g (of (busy (transparent t))) =
     withBusy g (transparencyGiven (g .busy .transparency)) (record { status = g .busy .status; transparency = TransparencyGiven.Given t })
-withProperty g PropertyValue.Uid = g
-withProperty g (PropertyValue.RecurrenceId t) = g
-withProperty g (PropertyValue.HasExceptions f) = g
-withProperty g (PropertyValue.HasPeriods b) = g
+withProperty g (of (identity f)) = g
+withProperty g (of (periods b)) = g
 
-unfoldable pub withProperties : ComponentProperties → List PropertyValue → ComponentProperties
+unfoldable pub withProperties : ComponentProperties → List Reading → ComponentProperties
 withProperties g [] = g
 withProperties g (s ∷ ss) = withProperties (withProperty g s) ss

@@ -13,23 +13,23 @@ use Rattle.time.specs.declared.duration.Duration.{Duration}
 use Rattle.values.specs.declared.times.Time.{Time}
 use Rattle.values.specs.declared.rule.Limit.{Limit}
 use Rattle.values.specs.declared.rule.Rule.{Rule}
-use Rattle.property.specs.declared.PropertyValue.{PropertyValue}
+use Rattle.property.specs.Facts.{Reading, unread, fault, of, span, repeats, busy, identity, periods}
+use Rattle.property.specs.Facts.{start, end, lasts, status, transparent, uid, recurrenceId, exceptions}
 
 -- the name of the property that says it; none, where nothing is read
-unfoldable pub propertyName : PropertyValue → List ℕ
-propertyName PropertyValue.Nothing = []
-propertyName PropertyValue.Unsupported = []
-propertyName PropertyValue.Bad = []
-propertyName (PropertyValue.Start t) = ascii "DTSTART"
-propertyName (PropertyValue.End t) = ascii "DTEND"
-propertyName (PropertyValue.Lasts d) = ascii "DURATION"
-propertyName (PropertyValue.Repeats r) = ascii "RRULE"
-propertyName (PropertyValue.HasStatus s) = ascii "STATUS"
-propertyName (PropertyValue.Transparent t) = ascii "TRANSP"
-propertyName PropertyValue.Uid = ascii "UID"
-propertyName (PropertyValue.RecurrenceId t) = ascii "RECURRENCE-ID"
-propertyName (PropertyValue.HasExceptions f) = ascii "EXDATE"
-propertyName (PropertyValue.HasPeriods b) = ascii "FREEBUSY"
+unfoldable pub propertyName : Reading → List ℕ
+propertyName unread = []
+propertyName (fault f) = []
+propertyName (of (span (start t))) = ascii "DTSTART"
+propertyName (of (span (end t))) = ascii "DTEND"
+propertyName (of (span (lasts d))) = ascii "DURATION"
+propertyName (of (repeats r)) = ascii "RRULE"
+propertyName (of (busy (status s))) = ascii "STATUS"
+propertyName (of (busy (transparent t))) = ascii "TRANSP"
+propertyName (of (identity uid)) = ascii "UID"
+propertyName (of (identity (recurrenceId t))) = ascii "RECURRENCE-ID"
+propertyName (of (identity (exceptions f))) = ascii "EXDATE"
+propertyName (of (periods b)) = ascii "FREEBUSY"
 
 -- one more, where the test holds
 abbrev pub countIf : Bool → ℕ → ℕ
@@ -37,7 +37,7 @@ countIf true n = suc n
 countIf false n = n
 
 -- how many of the lines are of this property
-unfoldable pub linesNamed : List ℕ → List PropertyValue → ℕ
+unfoldable pub linesNamed : List ℕ → List Reading → ℕ
 linesNamed n [] = 0
 linesNamed n (s ∷ ss) = countIf (sameBytes (propertyName s) n) (linesNamed n ss)
 
@@ -56,7 +56,7 @@ pub record UntilFits (s t : Time) : Type 0 where
   pub not-before : s .second ≤ t .second
 
 -- what the lines of a VEVENT must be: one DTSTART, at most one each of five others, and what a DTEND, a DURATION and an UNTIL must be
-pub record EventRules (ss : List PropertyValue) : Type 0 where
+pub record EventRules (ss : List Reading) : Type 0 where
   pub one-start : linesNamed (ascii "DTSTART") ss ≡ 1
   pub few-ends : linesNamed (ascii "DTEND") ss ≤ 1
   pub few-durations : linesNamed (ascii "DURATION") ss ≤ 1
@@ -64,19 +64,19 @@ pub record EventRules (ss : List PropertyValue) : Type 0 where
   pub few-statuses : linesNamed (ascii "STATUS") ss ≤ 1
   pub few-transparencies : linesNamed (ascii "TRANSP") ss ≤ 1
   pub not-both : linesNamed (ascii "DTEND") ss + linesNamed (ascii "DURATION") ss ≤ 1
-  pub end-fits : (s e : Time) → List·Memᴰ (PropertyValue.Start s) ss → List·Memᴰ (PropertyValue.End e) ss → EndFits s e
-  pub duration-fits : (s : Time) (d : Duration) → List·Memᴰ (PropertyValue.Start s) ss → List·Memᴰ (PropertyValue.Lasts d) ss → DurationFits s d
-  pub until-fits : (s : Time) (r : Rule) (t : Time) → List·Memᴰ (PropertyValue.Start s) ss → List·Memᴰ (PropertyValue.Repeats r) ss
+  pub end-fits : (s e : Time) → List·Memᴰ (of (span (start s))) ss → List·Memᴰ (of (span (end e))) ss → EndFits s e
+  pub duration-fits : (s : Time) (d : Duration) → List·Memᴰ (of (span (start s))) ss → List·Memᴰ (of (span (lasts d))) ss → DurationFits s d
+  pub until-fits : (s : Time) (r : Rule) (t : Time) → List·Memᴰ (of (span (start s))) ss → List·Memᴰ (of (repeats r)) ss
       → r .limit ≡ Limit.Until t → UntilFits s t
 
 -- what the lines of a VFREEBUSY must be: at most one DTSTART and one DTEND, and with both, the second is later
-pub record BlockRules (ss : List PropertyValue) : Type 0 where
+pub record BlockRules (ss : List Reading) : Type 0 where
   pub few-starts : linesNamed (ascii "DTSTART") ss ≤ 1
   pub few-ends : linesNamed (ascii "DTEND") ss ≤ 1
-  pub end-later : (s e : Time) → List·Memᴰ (PropertyValue.Start s) ss → List·Memᴰ (PropertyValue.End e) ss → s .second < e .second
+  pub end-later : (s e : Time) → List·Memᴰ (of (span (start s))) ss → List·Memᴰ (of (span (end e))) ss → s .second < e .second
 
 -- only what a line of a VFREEBUSY can say: no DURATION, RRULE, STATUS or TRANSP is read there
-pub record BlockLines (ss : List PropertyValue) : Type 0 where
+pub record BlockLines (ss : List Reading) : Type 0 where
   pub no-durations : linesNamed (ascii "DURATION") ss ≡ 0
   pub no-rules : linesNamed (ascii "RRULE") ss ≡ 0
   pub no-statuses : linesNamed (ascii "STATUS") ss ≡ 0

@@ -13,7 +13,7 @@ use time::duration::Duration;
 use values::rule::Rule;
 use values::times::Time;
 ghost use mathlib.Core.Path.{_≡_};
-ghost use Rattle.property.specs.declared.PropertyValue.{PropertyValue};
+ghost use Rattle.property.specs.Facts.{SpanFact, BusyFact, Fact, Reading};
 ghost use Rattle.events.specs.ComponentProperties.{timeGiven, durationGiven, ruleGiven, statusGiven, transparencyGiven, noProperties, withSpan, withBusy, withProperty};
 
 pub fn no_properties() -> ComponentProperties
@@ -112,7 +112,7 @@ fn with_busy(g: ComponentProperties, again: bool, busy: BusyProperties) -> Compo
 }
 
 pub fn with_start(g: ComponentProperties, t: Time) -> ComponentProperties
-    ensures { λ r. ⌜ r ≡ withProperty g (PropertyValue.Start t) ⌝ }
+    ensures { λ r. ⌜ r ≡ withProperty g (Reading.of (Fact.span (SpanFact.start t))) ⌝ }
 {
     let span = g.span;
     let start = span.start;
@@ -127,7 +127,7 @@ pub fn with_start(g: ComponentProperties, t: Time) -> ComponentProperties
 }
 
 pub fn with_end(g: ComponentProperties, t: Time) -> ComponentProperties
-    ensures { λ r. ⌜ r ≡ withProperty g (PropertyValue.End t) ⌝ }
+    ensures { λ r. ⌜ r ≡ withProperty g (Reading.of (Fact.span (SpanFact.end t))) ⌝ }
 {
     let span = g.span;
     let start = span.start;
@@ -142,7 +142,7 @@ pub fn with_end(g: ComponentProperties, t: Time) -> ComponentProperties
 }
 
 pub fn with_lasts(g: ComponentProperties, d: Duration) -> ComponentProperties
-    ensures { λ r. ⌜ r ≡ withProperty g (PropertyValue.Lasts d) ⌝ }
+    ensures { λ r. ⌜ r ≡ withProperty g (Reading.of (Fact.span (SpanFact.lasts d))) ⌝ }
 {
     let span = g.span;
     let start = span.start;
@@ -157,7 +157,7 @@ pub fn with_lasts(g: ComponentProperties, d: Duration) -> ComponentProperties
 }
 
 pub fn with_repeats(g: ComponentProperties, x: Rule) -> ComponentProperties
-    ensures { λ r. ⌜ r ≡ withProperty g (PropertyValue.Repeats x) ⌝ }
+    ensures { λ r. ⌜ r ≡ withProperty g (Reading.of (Fact.repeats x)) ⌝ }
 {
     let repeated = g.repeated;
     let span = g.span;
@@ -172,7 +172,7 @@ pub fn with_repeats(g: ComponentProperties, x: Rule) -> ComponentProperties
 }
 
 pub fn with_status(g: ComponentProperties, x: Status) -> ComponentProperties
-    ensures { λ r. ⌜ r ≡ withProperty g (PropertyValue.HasStatus x) ⌝ }
+    ensures { λ r. ⌜ r ≡ withProperty g (Reading.of (Fact.busy (BusyFact.status x))) ⌝ }
 {
     let busy = g.busy;
     let status = busy.status;
@@ -185,7 +185,7 @@ pub fn with_status(g: ComponentProperties, x: Status) -> ComponentProperties
 }
 
 pub fn with_transparency(g: ComponentProperties, x: bool) -> ComponentProperties
-    ensures { λ r. ⌜ r ≡ withProperty g (PropertyValue.Transparent x) ⌝ }
+    ensures { λ r. ⌜ r ≡ withProperty g (Reading.of (Fact.busy (BusyFact.transparent x))) ⌝ }
 {
     let busy = g.busy;
     let status = busy.status;

@@ -20,7 +20,7 @@ use Rattle.values.specs.declared.times.Context.{Context}
 use Rattle.periods.specs.declared.Period.{Period}
 use Rattle.property.specs.Properties.{propertyValueOf, givesPeriods}
 use Rattle.property.specs.declared.Scope.{Scope}
-use Rattle.property.specs.declared.PropertyValue.{PropertyValue}
+use Rattle.property.specs.Facts.{Reading, unread, fault, of, span, repeats, busy, identity, periods}
 use Rattle.delimiters.specs.Innermost.{isEvent, isFreeBusy}
 use Rattle.nesting.specs.Components.{Numbered, propertiesIn, Component}
 use Rattle.index.specs.Index.{lineBytes}
@@ -76,38 +76,26 @@ module _ {a b : ℕ} {v : List ℕ} {at : ℕ} (r : Overlapping a b v at) where
 
 -- ---- one line
 
-given-overlap : (a b : ℕ) (o : PropertyValue) (x : ContentLine) → givesPeriods o ≡ true
+given-overlap : (a b : ℕ) (o : Reading) (x : ContentLine) → givesPeriods o ≡ true
     → periodsOverlap a b (goodPeriods (periodItems (x .value))) ≡ periodsOverlap a b (periodsOf (periodsBy o x))
 unfolding givesPeriods periodsBy
-given-overlap a b PropertyValue.Nothing x h = clash h refl
-given-overlap a b PropertyValue.Unsupported x h = clash h refl
-given-overlap a b PropertyValue.Bad x h = clash h refl
-given-overlap a b (PropertyValue.Start t) x h = clash h refl
-given-overlap a b (PropertyValue.End t) x h = clash h refl
-given-overlap a b (PropertyValue.Lasts d) x h = clash h refl
-given-overlap a b (PropertyValue.Repeats r) x h = clash h refl
-given-overlap a b (PropertyValue.HasStatus s) x h = clash h refl
-given-overlap a b (PropertyValue.Transparent t) x h = clash h refl
-given-overlap a b PropertyValue.Uid x h = clash h refl
-given-overlap a b (PropertyValue.RecurrenceId t) x h = clash h refl
-given-overlap a b (PropertyValue.HasExceptions f) x h = clash h refl
-given-overlap a b (PropertyValue.HasPeriods t) x h = ap (periodsOverlap a b) (sym (periodsOf-typed t (goodPeriods (periodItems (x .value)))))
+given-overlap a b unread x h = clash h refl
+given-overlap a b (fault f) x h = clash h refl
+given-overlap a b (of (span f)) x h = clash h refl
+given-overlap a b (of (repeats r)) x h = clash h refl
+given-overlap a b (of (busy f)) x h = clash h refl
+given-overlap a b (of (identity f)) x h = clash h refl
+given-overlap a b (of (periods t)) x h = ap (periodsOverlap a b) (sym (periodsOf-typed t (goodPeriods (periodItems (x .value)))))
 
-ungiven-overlap : (a b : ℕ) (o : PropertyValue) (x : ContentLine) → givesPeriods o ≡ false → false ≡ periodsOverlap a b (periodsOf (periodsBy o x))
+ungiven-overlap : (a b : ℕ) (o : Reading) (x : ContentLine) → givesPeriods o ≡ false → false ≡ periodsOverlap a b (periodsOf (periodsBy o x))
 unfolding givesPeriods periodsBy periodsOverlap
-ungiven-overlap a b PropertyValue.Nothing x h = refl
-ungiven-overlap a b PropertyValue.Unsupported x h = refl
-ungiven-overlap a b PropertyValue.Bad x h = refl
-ungiven-overlap a b (PropertyValue.Start t) x h = refl
-ungiven-overlap a b (PropertyValue.End t) x h = refl
-ungiven-overlap a b (PropertyValue.Lasts d) x h = refl
-ungiven-overlap a b (PropertyValue.Repeats r) x h = refl
-ungiven-overlap a b (PropertyValue.HasStatus s) x h = refl
-ungiven-overlap a b (PropertyValue.Transparent t) x h = refl
-ungiven-overlap a b PropertyValue.Uid x h = refl
-ungiven-overlap a b (PropertyValue.RecurrenceId t) x h = refl
-ungiven-overlap a b (PropertyValue.HasExceptions f) x h = refl
-ungiven-overlap a b (PropertyValue.HasPeriods t) x h = clash refl h
+ungiven-overlap a b unread x h = refl
+ungiven-overlap a b (fault f) x h = refl
+ungiven-overlap a b (of (span f)) x h = refl
+ungiven-overlap a b (of (repeats r)) x h = refl
+ungiven-overlap a b (of (busy f)) x h = refl
+ungiven-overlap a b (of (identity f)) x h = refl
+ungiven-overlap a b (of (periods t)) x h = clash refl h
 
 module _ (c : Context) (a b : ℕ) where
   module _ (l : List ℕ) {t : Bool} (q : t ≡ givesPeriods (propertyValueOf c Scope.FreeBusy (lineOf l))) where

@@ -40,9 +40,10 @@ use Rattle.values.proofs.RuleLaws.{ruleOf-small}
 use Rattle.values.proofs.PeriodLaws.{readDuration-small}
 use Rattle.property.specs.declared.Scope.{Scope}
 use Rattle.property.specs.declared.Property.{Property}
-use Rattle.property.specs.declared.PropertyValue.{PropertyValue}
-use Rattle.property.specs.Properties.{PropertyWord, picked, wordsIn, propertyOf, valueAs, beforeItems, withItems, propertyValueOf, isStart, timeIn, startBy}
-use Rattle.property.specs.Properties.{endBy, recurrenceBy, exceptionsBy, unlessZoned, unlessRanged, durationBy, ruleValue, busyOf, typeValue, givesPeriods, PropertyValueSmall, busyNamed}
+use Rattle.property.specs.Facts.{SpanFact, IdentityFact, Fact, Reading, unread, fault, of, unsupported, bad, span, repeats, busy, identity, periods}
+use Rattle.property.specs.Facts.{lasts, uid, recurrenceId, exceptions}
+use Rattle.property.specs.Properties.{PropertyWord, picked, wordsIn, propertyOf, valueAs, beforeItems, withItems, propertyValueOf, isStart, timeIn, timeFact}
+use Rattle.property.specs.Properties.{exceptionsBy, itemsGood, unlessZoned, unlessRanged, durationBy, ruleValue, busyOf, typeValue, givesPeriods, PropertyValueSmall, busyNamed}
 use Rattle.property.proofs.Property.{the-type}
 
 -- ---- which property a name is, by its length: only the words that are as long can be meant
@@ -148,7 +149,7 @@ module _ (x : ContentLine) (e : x .parameters ≡ []) where
   unfolding busyOf firstValue valuesNamed pooled parametersNamed
   plain-busy = rw e unnamed-busy
 
-  pub plain-type : PropertyValue.HasPeriods BusyType.Busy ≡ typeValue x
+  pub plain-type : of (periods BusyType.Busy) ≡ typeValue x
   unfolding typeValue hasTwice hasList parametersNamed someList
   plain-type = rw (plain-busy, e)
 
@@ -167,108 +168,107 @@ one-parameter l h at e q p k w z =
     ∙ ap (λ (ps : List Parameter). parameterOf (take (e - (at + 1)) (drop (at + 1) h)) ∷ ps) (parameters-end h e z)
 
 module _ (t : List ℕ) (x : ContentLine) (e : x .parameters ≡ parameterOf t ∷ []) where
-  pub one-other : isNamed (ascii "FBTYPE") t ≡ false → PropertyValue.HasPeriods BusyType.Busy ≡ typeValue x
+  pub one-other : isNamed (ascii "FBTYPE") t ≡ false → of (periods BusyType.Busy) ≡ typeValue x
   unfolding typeValue hasTwice hasList parametersNamed someList busyOf firstValue valuesNamed pooled parameterOf isNamed
-  one-other h = rw (e, h) (ap PropertyValue.HasPeriods (sym unnamed-busy))
+  one-other h = rw (e, h) (ap (λ (y : BusyType). of (periods y)) (sym unnamed-busy))
 
   module _ (h : isNamed (ascii "FBTYPE") t ≡ true) {n : ℕ} (k : n ≡ length (valuesOf t)) where
-    pub one-list : 1 < n → PropertyValue.Bad ≡ typeValue x
+    pub one-list : 1 < n → fault bad ≡ typeValue x
     unfolding typeValue hasTwice hasList parametersNamed someList parameterOf isNamed
     one-list z = rw (e, h, lt-ltb 1 (length (valuesOf t)) (omega (arith, z, k)))
 
-    pub one-type : n ≤ 1 → {w : List ℕ} {b : BusyType} → w ≡ getD (valuesOf t) 0 [] → b ≡ busyNamed w → PropertyValue.HasPeriods b ≡ typeValue x
+    pub one-type : n ≤ 1 → {w : List ℕ} {b : BusyType} → w ≡ getD (valuesOf t) 0 [] → b ≡ busyNamed w → of (periods b) ≡ typeValue x
     unfolding typeValue hasTwice hasList parametersNamed someList busyOf firstValue valuesNamed pooled parameterOf isNamed
     one-type z {w} {b} p q =
         rw (e, h, le-ltb 1 (length (valuesOf t)) (omega (arith, z, k)))
-        (ap PropertyValue.HasPeriods (q ∙ ap busyNamed (p ∙ first-only (valuesOf t))))
+        (ap (λ (y : BusyType). of (periods y)) (q ∙ ap busyNamed (p ∙ first-only (valuesOf t))))
 
 -- a name that is not read
-pub unread-line : (c : Context) (s : Scope) (l : List ℕ) → propertyOf s (nameOf l) ≡ Property.Unread → PropertyValue.Nothing ≡ beforeItems c s (lineOf l)
+pub unread-line : (c : Context) (s : Scope) (l : List ℕ) → propertyOf s (nameOf l) ≡ Property.Unread → unread ≡ beforeItems c s (lineOf l)
 unfolding beforeItems valueAs lineOf
 unread-line c s l h = rw h
 
 -- ---- a time, with TZID and without it
 
+-- DTSTART or DTEND
+abbrev pub timed : Bool → TimeRead → Reading
+timed first r = cond first (timeFact (λ t. span (SpanFact.start t)) r) (timeFact (λ t. span (SpanFact.end t)) r)
+
 -- where it cannot be read, the line is bad, whichever it is
-pub both-bad : (start : Bool) → PropertyValue.Bad ≡ cond start (startBy TimeRead.Bad) (endBy TimeRead.Bad)
-unfolding startBy endBy
+pub both-bad : (start : Bool) → fault bad ≡ timed start TimeRead.Bad
+unfolding timeFact
 both-bad true = refl
 both-bad false = refl
 
 module _ (l : List ℕ) (start : Bool) (c : Context) (s : Scope) (t : Bool) (e : t ≡ hasParameter (ascii "TZID") (lineOf l)) where
-  pub zoned : t ≡ true → PropertyValue.Unsupported ≡ valueAs (cond start Property.Start Property.End) c s (lineOf l)
+  pub zoned : t ≡ true → fault unsupported ≡ valueAs (cond start Property.Start Property.End) c s (lineOf l)
   unfolding valueAs unlessZoned
   zoned h = go start
     where
-      go : (b : Bool) → PropertyValue.Unsupported ≡ valueAs (cond b Property.Start Property.End) c s (lineOf l)
+      go : (b : Bool) → fault unsupported ≡ valueAs (cond b Property.Start Property.End) c s (lineOf l)
       go true = rw (sym e ∙ h)
       go false = rw (sym e ∙ h)
 
-  pub unzoned : t ≡ false → {q : PropertyValue} {r : TimeRead} → r ≡ timeIn s (timeOf c (lineOf l)) → q ≡ cond start (startBy r) (endBy r)
+  pub unzoned : t ≡ false → {q : Reading} {r : TimeRead} → r ≡ timeIn s (timeOf c (lineOf l)) → q ≡ timed start r
       → q ≡ valueAs (cond start Property.Start Property.End) c s (lineOf l)
   unfolding valueAs unlessZoned
-  unzoned h g f = f ∙ ap (λ (y : TimeRead). cond start (startBy y) (endBy y)) g ∙ go start
+  unzoned h g f = f ∙ ap (λ (y : TimeRead). timed start y) g ∙ go start
     where
-      go : (b : Bool) → cond b (startBy (timeIn s (timeOf c (lineOf l)))) (endBy (timeIn s (timeOf c (lineOf l))))
+      go : (b : Bool) → timed b (timeIn s (timeOf c (lineOf l)))
           ≡ valueAs (cond b Property.Start Property.End) c s (lineOf l)
       go true = rw (sym e ∙ h)
       go false = rw (sym e ∙ h)
 
+-- ---- a claim about what a line says holds where it holds of what each reading can come to
+
+module _ (P : Reading → Type 0) where
+  pub time-keeps : P (fault bad) → (f : Time → Fact) (r : TimeRead) → ((t : Time) → r ≡ TimeRead.Of t → P (of (f t))) → P (timeFact f r)
+  unfolding timeFact
+  time-keeps b f (TimeRead.Of t) h = h t refl
+  time-keeps b f TimeRead.Bad h = b
+
+  pub exceptions-keep : P (fault bad) → (f : Form) → P (of (identity (exceptions f))) → P (exceptionsBy f)
+  unfolding exceptionsBy
+  exceptions-keep b Form.DateTime h = h
+  exceptions-keep b Form.Date h = h
+  exceptions-keep b Form.Wrong h = b
+
+  pub duration-keeps : P (fault bad) → (r : DurationRead) → ((d : Duration) → r ≡ DurationRead.Of d → P (of (span (lasts d)))) → P (durationBy r)
+  unfolding durationBy
+  duration-keeps b (DurationRead.Of d) h = h d refl
+  duration-keeps b DurationRead.Bad h = b
+
+  pub rule-keeps : P (fault unsupported) → P (fault bad) → (q : RuleRead) → ((r : Rule) → q ≡ RuleRead.Of r → P (of (repeats r))) → P (ruleValue q)
+  unfolding ruleValue
+  rule-keeps u b (RuleRead.Of r) h = h r refl
+  rule-keeps u b RuleRead.Unsupported h = u
+  rule-keeps u b RuleRead.Bad h = b
+
+  either-keeps : (t : Bool) (a b : Reading) → P a → P b → P (cond t a b)
+  either-keeps true a b h k = h
+  either-keeps false a b h k = k
+
+  pub zoned-keeps : P (fault unsupported) → (x : ContentLine) (v : Reading) → P v → P (unlessZoned x v)
+  unfolding unlessZoned
+  zoned-keeps u x v h = either-keeps (hasParameter (ascii "TZID") x) _ _ u h
+
+  pub ranged-keeps : P (fault unsupported) → (x : ContentLine) (v : Reading) → P v → P (unlessRanged x v)
+  unfolding unlessRanged
+  ranged-keeps u x v h = either-keeps (hasParameter (ascii "RANGE") x) _ _ u h
+
+  pub type-keeps : P (fault bad) → (x : ContentLine) → P (of (periods (busyOf x))) → P (typeValue x)
+  unfolding typeValue
+  type-keeps b x h = either-keeps (hasTwice (ascii "FBTYPE") x || hasList (ascii "FBTYPE") x) _ _ b h
+
+  pub items-keep : P (fault bad) → (c : Context) (w : List ℕ) (v : Reading) → P v → P (withItems c w v)
+  unfolding withItems
+  items-keep b c w unread h = h
+  items-keep b c w (fault f) h = h
+  items-keep b c w (of f) h = either-keeps (itemsGood c w f) _ _ h b
+
 -- ---- periods
 
--- a time is no period, and neither is a line that is not read
-none-by : (c : Context) (v : List ℕ) (x : ContentLine) (z : Bool) (r : TimeRead) (start : Bool)
-    → givesPeriods (withItems c v (cond z PropertyValue.Unsupported (cond start (startBy r) (endBy r)))) ≡ false
-unfolding startBy endBy withItems givesPeriods
-none-by c v x true r start = refl
-none-by c v x false (TimeRead.Of t) true = refl
-none-by c v x false (TimeRead.Of t) false = refl
-none-by c v x false TimeRead.Bad true = refl
-none-by c v x false TimeRead.Bad false = refl
-
-time-none : (start : Bool) (c : Context) (s : Scope) (x : ContentLine) (v : List ℕ)
-    → givesPeriods (withItems c v (valueAs (cond start Property.Start Property.End) c s x)) ≡ false
-unfolding valueAs unlessZoned
-time-none true c s x v = none-by c v x (hasParameter (ascii "TZID") x) (timeIn s (timeOf c x)) true
-time-none false c s x v = none-by c v x (hasParameter (ascii "TZID") x) (timeIn s (timeOf c x)) false
-
-unread-none : (c : Context) (s : Scope) (x : ContentLine) (v : List ℕ) → false ≡ givesPeriods (withItems c v (valueAs Property.Unread c s x))
-unfolding valueAs withItems givesPeriods
-unread-none c s x v = refl
-
--- what a line says as FREEBUSY, and as anything else
-same-length : (m w : List ℕ) → sameName m w ≡ true → length m ≡ length w
-same-length m w h = sym (length-map m upper) ∙ ap length (sameName-iff m w .0 h) ∙ length-map w upper
-
-module _ (c : Context) (l : List ℕ) where
-  free-busy-named : sameName (nameOf l) (ascii "FREEBUSY") ≡ true → propertyOf Scope.FreeBusy (nameOf l) ≡ Property.Periods
-  free-busy-named h = by-length Scope.FreeBusy (nameOf l) 8 (same-length (nameOf l) (ascii "FREEBUSY") h) ∙ rw h
-
-  module _ (t : Bool) (e : t ≡ (hasTwice (ascii "FBTYPE") (lineOf l) || hasList (ascii "FBTYPE") (lineOf l))) (h : sameName (nameOf l) (ascii "FREEBUSY") ≡ true) where
-    pub bad-type : t ≡ true → false ≡ givesPeriods (propertyValueOf c Scope.FreeBusy (lineOf l))
-    unfolding propertyValueOf beforeItems valueAs typeValue withItems givesPeriods lineOf
-    bad-type k = rw (free-busy-named h, sym e ∙ k)
-
-    pub good-type : t ≡ false → (v : List ℕ) → v ≡ valueOf l → (b : Bool) → b ≡ allPeriods (periodItems v) → b ≡ givesPeriods (propertyValueOf c Scope.FreeBusy (lineOf l))
-    unfolding propertyValueOf beforeItems valueAs typeValue withItems givesPeriods lineOf
-    good-type k v f b q = rw (free-busy-named h, sym e ∙ k) (go (allPeriods (periodItems (valueOf l))) (q ∙ ap (λ (w : List ℕ). allPeriods (periodItems w)) f))
-      where
-        go : (y : Bool) → b ≡ y → b ≡ givesPeriods (cond y (PropertyValue.HasPeriods (busyOf (lineOf l))) PropertyValue.Bad)
-        go true z = z
-        go false z = z
-
-  pub other-name : sameName (nameOf l) (ascii "FREEBUSY") ≡ false → false ≡ givesPeriods (propertyValueOf c Scope.FreeBusy (lineOf l))
-  unfolding propertyValueOf beforeItems propertyOf lineOf
-  other-name h = go (sameName (nameOf l) (ascii "DTSTART")) (sameName (nameOf l) (ascii "DTEND")) (sameName (nameOf l) (ascii "FREEBUSY")) h
-    where
-      go : (x y z : Bool) → z ≡ false
-          → false ≡ givesPeriods (withItems c (valueOf l) (valueAs (cond x Property.Start (cond y Property.End (cond z Property.Periods Property.Unread))) c Scope.FreeBusy (lineOf l)))
-      go true y z k = sym (time-none true c Scope.FreeBusy (lineOf l) (valueOf l))
-      go false true z k = sym (time-none false c Scope.FreeBusy (lineOf l) (valueOf l))
-      go false false true k = absurd (true≢false k)
-      go false false false k = unread-none c Scope.FreeBusy (lineOf l) (valueOf l)
-
--- only FREEBUSY gives periods, so a line directly in a VEVENT gives none
+-- only FREEBUSY gives periods
 abbrev isPeriods : Property → Bool
 isPeriods Property.Start = false
 isPeriods Property.End = false
@@ -283,52 +283,62 @@ isPeriods Property.Periods = true
 isPeriods Property.Unsupported = false
 isPeriods Property.Unread = false
 
-duration-none : (c : Context) (v : List ℕ) (r : DurationRead) → givesPeriods (withItems c v (durationBy r)) ≡ false
-unfolding durationBy withItems givesPeriods
-duration-none c v (DurationRead.Of d) = refl
-duration-none c v DurationRead.Bad = refl
+abbrev GivesNone : Reading → Type 0
+GivesNone v = givesPeriods v ≡ false
 
-rule-none : (c : Context) (v : List ℕ) (r : RuleRead) → givesPeriods (withItems c v (ruleValue r)) ≡ false
-unfolding ruleValue withItems givesPeriods
-rule-none c v (RuleRead.Of x) = refl
-rule-none c v RuleRead.Unsupported = refl
-rule-none c v RuleRead.Bad = refl
+none-as : (p : Property) (c : Context) (s : Scope) (x : ContentLine) → isPeriods p ≡ false → GivesNone (valueAs p c s x)
+unfolding valueAs givesPeriods
+none-as Property.Start c s x h = zoned-keeps GivesNone refl x _ (time-keeps GivesNone refl (λ t. span (SpanFact.start t)) (timeIn s (timeOf c x)) (λ t e. refl))
+none-as Property.End c s x h = zoned-keeps GivesNone refl x _ (time-keeps GivesNone refl (λ t. span (SpanFact.end t)) (timeIn s (timeOf c x)) (λ t e. refl))
+none-as Property.Duration c s x h = duration-keeps GivesNone refl (readDuration (x .value)) (λ d e. refl)
+none-as Property.Rule c s x h = rule-keeps GivesNone refl refl (ruleOf c (x .value)) (λ r e. refl)
+none-as Property.Status c s x h = refl
+none-as Property.Transparency c s x h = refl
+none-as Property.Uid c s x h = refl
+none-as Property.RecurrenceId c s x h =
+    ranged-keeps GivesNone refl x _ (zoned-keeps GivesNone refl x _ (time-keeps GivesNone refl (λ t. identity (recurrenceId t)) (timeOf c x) (λ t e. refl)))
+none-as Property.Exceptions c s x h = zoned-keeps GivesNone refl x _ (exceptions-keep GivesNone refl (formOf x) refl)
+none-as Property.Periods c s x h = absurd (true≢false h)
+none-as Property.Unsupported c s x h = refl
+none-as Property.Unread c s x h = refl
 
--- neither of two gives periods, whichever stands
-either-none : (t : Bool) (a b : PropertyValue) → givesPeriods a ≡ false → givesPeriods b ≡ false → givesPeriods (cond t a b) ≡ false
-either-none true a b h k = h
-either-none false a b h k = k
+no-periods : (p : Property) (c : Context) (s : Scope) (x : ContentLine) (v : List ℕ) → isPeriods p ≡ false → GivesNone (withItems c v (valueAs p c s x))
+unfolding givesPeriods
+no-periods p c s x v h = items-keep GivesNone refl c v (valueAs p c s x) (none-as p c s x h)
 
-recurrence-none : (c : Context) (v : List ℕ) (r z : Bool) (t : TimeRead)
-    → givesPeriods (withItems c v (cond r PropertyValue.Unsupported (cond z PropertyValue.Unsupported (recurrenceBy t)))) ≡ false
-unfolding recurrenceBy withItems givesPeriods
-recurrence-none c v true z t = refl
-recurrence-none c v false true t = refl
-recurrence-none c v false false (TimeRead.Of t) = refl
-recurrence-none c v false false TimeRead.Bad = refl
+-- what a line says as FREEBUSY, and as anything else
+same-length : (m w : List ℕ) → sameName m w ≡ true → length m ≡ length w
+same-length m w h = sym (length-map m upper) ∙ ap length (sameName-iff m w .0 h) ∙ length-map w upper
 
-exceptions-none : (c : Context) (v : List ℕ) (z : Bool) (f : Form) → givesPeriods (withItems c v (cond z PropertyValue.Unsupported (exceptionsBy f))) ≡ false
-unfolding exceptionsBy withItems givesPeriods
-exceptions-none c v true f = refl
-exceptions-none c v false Form.DateTime = either-none (allTimes (timeItems c Form.DateTime v)) _ _ refl refl
-exceptions-none c v false Form.Date = either-none (allTimes (timeItems c Form.Date v)) _ _ refl refl
-exceptions-none c v false Form.Wrong = refl
+module _ (c : Context) (l : List ℕ) where
+  free-busy-named : sameName (nameOf l) (ascii "FREEBUSY") ≡ true → propertyOf Scope.FreeBusy (nameOf l) ≡ Property.Periods
+  free-busy-named h = by-length Scope.FreeBusy (nameOf l) 8 (same-length (nameOf l) (ascii "FREEBUSY") h) ∙ rw h
 
-no-periods : (p : Property) (c : Context) (s : Scope) (x : ContentLine) (v : List ℕ) → isPeriods p ≡ false → givesPeriods (withItems c v (valueAs p c s x)) ≡ false
-unfolding valueAs unlessRanged unlessZoned withItems givesPeriods
-no-periods Property.Start c s x v h = time-none true c s x v
-no-periods Property.End c s x v h = time-none false c s x v
-no-periods Property.Duration c s x v h = duration-none c v (readDuration (x .value))
-no-periods Property.Rule c s x v h = rule-none c v (ruleOf c (x .value))
-no-periods Property.Status c s x v h = refl
-no-periods Property.Transparency c s x v h = refl
-no-periods Property.Uid c s x v h = refl
-no-periods Property.RecurrenceId c s x v h = recurrence-none c v (hasParameter (ascii "RANGE") x) (hasParameter (ascii "TZID") x) (timeOf c x)
-no-periods Property.Exceptions c s x v h = exceptions-none c v (hasParameter (ascii "TZID") x) (formOf x)
-no-periods Property.Periods c s x v h = absurd (true≢false h)
-no-periods Property.Unsupported c s x v h = refl
-no-periods Property.Unread c s x v h = refl
+  module _ (t : Bool) (e : t ≡ (hasTwice (ascii "FBTYPE") (lineOf l) || hasList (ascii "FBTYPE") (lineOf l))) (h : sameName (nameOf l) (ascii "FREEBUSY") ≡ true) where
+    pub bad-type : t ≡ true → false ≡ givesPeriods (propertyValueOf c Scope.FreeBusy (lineOf l))
+    unfolding propertyValueOf beforeItems valueAs typeValue withItems itemsGood givesPeriods lineOf
+    bad-type k = rw (free-busy-named h, sym e ∙ k)
 
+    pub good-type : t ≡ false → (v : List ℕ) → v ≡ valueOf l → (b : Bool) → b ≡ allPeriods (periodItems v) → b ≡ givesPeriods (propertyValueOf c Scope.FreeBusy (lineOf l))
+    unfolding propertyValueOf beforeItems valueAs typeValue withItems itemsGood givesPeriods lineOf
+    good-type k v f b q = rw (free-busy-named h, sym e ∙ k) (go (allPeriods (periodItems (valueOf l))) (q ∙ ap (λ (w : List ℕ). allPeriods (periodItems w)) f))
+      where
+        go : (y : Bool) → b ≡ y → b ≡ givesPeriods (cond y (of (periods (busyOf (lineOf l)))) (fault bad))
+        go true z = z
+        go false z = z
+
+  pub other-name : sameName (nameOf l) (ascii "FREEBUSY") ≡ false → false ≡ givesPeriods (propertyValueOf c Scope.FreeBusy (lineOf l))
+  unfolding propertyValueOf beforeItems propertyOf lineOf
+  other-name h = go (sameName (nameOf l) (ascii "DTSTART")) (sameName (nameOf l) (ascii "DTEND")) (sameName (nameOf l) (ascii "FREEBUSY")) h
+    where
+      go : (x y z : Bool) → z ≡ false
+          → false ≡ givesPeriods (withItems c (valueOf l) (valueAs (cond x Property.Start (cond y Property.End (cond z Property.Periods Property.Unread))) c Scope.FreeBusy (lineOf l)))
+      go true y z k = sym (no-periods Property.Start c Scope.FreeBusy (lineOf l) (valueOf l) refl)
+      go false true z k = sym (no-periods Property.End c Scope.FreeBusy (lineOf l) (valueOf l) refl)
+      go false false true k = absurd (true≢false k)
+      go false false false k = sym (no-periods Property.Unread c Scope.FreeBusy (lineOf l) (valueOf l) refl)
+
+-- so a line directly in a VEVENT gives none
 -- no word of a table that has no such word means it
 abbrev noneMeans : List PropertyWord → Type 0
 noneMeans [] = Unit {0}
@@ -347,73 +357,6 @@ unfolding propertyValueOf beforeItems propertyOf
 event-periods c x =
     no-periods (propertyOf Scope.Event (x .name)) c Scope.Event x (x .value)
     (picked-none (x .name) (wordsIn Scope.Event) (refl, (refl, (refl, (refl, (refl, (refl, (refl, (refl, (refl, (refl, (refl, tt))))))))))))
-
--- ---- a claim about what a line says holds where it holds of what each reading can come to
-
-module _ (P : PropertyValue → Type 0) where
-  pub start-keeps : P PropertyValue.Bad → (r : TimeRead) → ((t : Time) → r ≡ TimeRead.Of t → P (PropertyValue.Start t)) → P (startBy r)
-  unfolding startBy
-  start-keeps b (TimeRead.Of t) h = h t refl
-  start-keeps b TimeRead.Bad h = b
-
-  pub end-keeps : P PropertyValue.Bad → (r : TimeRead) → ((t : Time) → r ≡ TimeRead.Of t → P (PropertyValue.End t)) → P (endBy r)
-  unfolding endBy
-  end-keeps b (TimeRead.Of t) h = h t refl
-  end-keeps b TimeRead.Bad h = b
-
-  pub recurrence-keeps : P PropertyValue.Bad → (r : TimeRead) → ((t : Time) → r ≡ TimeRead.Of t → P (PropertyValue.RecurrenceId t)) → P (recurrenceBy r)
-  unfolding recurrenceBy
-  recurrence-keeps b (TimeRead.Of t) h = h t refl
-  recurrence-keeps b TimeRead.Bad h = b
-
-  pub exceptions-keep : P PropertyValue.Bad → (f : Form) → P (PropertyValue.HasExceptions f) → P (exceptionsBy f)
-  unfolding exceptionsBy
-  exceptions-keep b Form.DateTime h = h
-  exceptions-keep b Form.Date h = h
-  exceptions-keep b Form.Wrong h = b
-
-  pub duration-keeps : P PropertyValue.Bad → (r : DurationRead) → ((d : Duration) → r ≡ DurationRead.Of d → P (PropertyValue.Lasts d)) → P (durationBy r)
-  unfolding durationBy
-  duration-keeps b (DurationRead.Of d) h = h d refl
-  duration-keeps b DurationRead.Bad h = b
-
-  pub rule-keeps : P PropertyValue.Unsupported → P PropertyValue.Bad → (q : RuleRead) → ((r : Rule) → q ≡ RuleRead.Of r → P (PropertyValue.Repeats r)) → P (ruleValue q)
-  unfolding ruleValue
-  rule-keeps u b (RuleRead.Of r) h = h r refl
-  rule-keeps u b RuleRead.Unsupported h = u
-  rule-keeps u b RuleRead.Bad h = b
-
-  either-keeps : (t : Bool) (a b : PropertyValue) → P a → P b → P (cond t a b)
-  either-keeps true a b h k = h
-  either-keeps false a b h k = k
-
-  pub zoned-keeps : P PropertyValue.Unsupported → (x : ContentLine) (v : PropertyValue) → P v → P (unlessZoned x v)
-  unfolding unlessZoned
-  zoned-keeps u x v h = either-keeps (hasParameter (ascii "TZID") x) _ _ u h
-
-  pub ranged-keeps : P PropertyValue.Unsupported → (x : ContentLine) (v : PropertyValue) → P v → P (unlessRanged x v)
-  unfolding unlessRanged
-  ranged-keeps u x v h = either-keeps (hasParameter (ascii "RANGE") x) _ _ u h
-
-  pub type-keeps : P PropertyValue.Bad → (x : ContentLine) → P (PropertyValue.HasPeriods (busyOf x)) → P (typeValue x)
-  unfolding typeValue
-  type-keeps b x h = either-keeps (hasTwice (ascii "FBTYPE") x || hasList (ascii "FBTYPE") x) _ _ b h
-
-  pub items-keep : P PropertyValue.Bad → (c : Context) (w : List ℕ) (v : PropertyValue) → P v → P (withItems c w v)
-  unfolding withItems
-  items-keep b c w PropertyValue.Nothing h = h
-  items-keep b c w PropertyValue.Unsupported h = h
-  items-keep b c w PropertyValue.Bad h = h
-  items-keep b c w (PropertyValue.Start t) h = h
-  items-keep b c w (PropertyValue.End t) h = h
-  items-keep b c w (PropertyValue.Lasts d) h = h
-  items-keep b c w (PropertyValue.Repeats r) h = h
-  items-keep b c w (PropertyValue.HasStatus x) h = h
-  items-keep b c w (PropertyValue.Transparent x) h = h
-  items-keep b c w PropertyValue.Uid h = h
-  items-keep b c w (PropertyValue.RecurrenceId t) h = h
-  items-keep b c w (PropertyValue.HasExceptions f) h = either-keeps (allTimes (timeItems c f w)) _ _ h b
-  items-keep b c w (PropertyValue.HasPeriods x) h = either-keeps (allPeriods (periodItems w)) _ _ h b
 
 -- ---- how large what a line says can be
 
@@ -434,15 +377,15 @@ timeIn-small c s x t e = timeOf-small c x t (timeIn-same s (timeOf c x) t e)
 valueAs-small : (p : Property) (c : Context) (s : Scope) (x : ContentLine) → PropertyValueSmall (valueAs p c s x)
 unfolding valueAs
 valueAs-small Property.Start c s x =
-    zoned-keeps PropertyValueSmall tt x _ (start-keeps PropertyValueSmall tt (timeIn s (timeOf c x)) (λ t. timeIn-small c s x t))
-valueAs-small Property.End c s x = zoned-keeps PropertyValueSmall tt x _ (end-keeps PropertyValueSmall tt (timeIn s (timeOf c x)) (λ t. timeIn-small c s x t))
+    zoned-keeps PropertyValueSmall tt x _ (time-keeps PropertyValueSmall tt (λ t. span (SpanFact.start t)) (timeIn s (timeOf c x)) (λ t. timeIn-small c s x t))
+valueAs-small Property.End c s x = zoned-keeps PropertyValueSmall tt x _ (time-keeps PropertyValueSmall tt (λ t. span (SpanFact.end t)) (timeIn s (timeOf c x)) (λ t. timeIn-small c s x t))
 valueAs-small Property.Duration c s x = duration-keeps PropertyValueSmall tt (readDuration (x .value)) (λ d. readDuration-small (x .value) d)
 valueAs-small Property.Rule c s x = rule-keeps PropertyValueSmall tt tt (ruleOf c (x .value)) (λ r. ruleOf-small c (x .value) r)
 valueAs-small Property.Status c s x = tt
 valueAs-small Property.Transparency c s x = tt
 valueAs-small Property.Uid c s x = tt
 valueAs-small Property.RecurrenceId c s x =
-    ranged-keeps PropertyValueSmall tt x _ (zoned-keeps PropertyValueSmall tt x _ (recurrence-keeps PropertyValueSmall tt (timeOf c x) (λ t. timeOf-small c x t)))
+    ranged-keeps PropertyValueSmall tt x _ (zoned-keeps PropertyValueSmall tt x _ (time-keeps PropertyValueSmall tt (λ t. identity (recurrenceId t)) (timeOf c x) (λ t. timeOf-small c x t)))
 valueAs-small Property.Exceptions c s x = zoned-keeps PropertyValueSmall tt x _ (exceptions-keep PropertyValueSmall tt (formOf x) tt)
 valueAs-small Property.Periods c s x = type-keeps PropertyValueSmall tt x tt
 valueAs-small Property.Unsupported c s x = tt

@@ -16,13 +16,15 @@ use Rattle.values.specs.Rule.{ruleOf, RuleSmall}
 use Rattle.values.specs.Period.{periodItems, allPeriods, DurationSmall}
 use Rattle.values.specs.declared.times.Context.{Context}
 use Rattle.values.specs.declared.times.Form.{Form}
+use Rattle.values.specs.declared.times.Time.{Time}
 use Rattle.values.specs.declared.times.TimeRead.{TimeRead}
 use Rattle.values.specs.declared.rule.RuleRead.{RuleRead}
 use Rattle.property.specs.declared.Scope.{Scope}
 use Rattle.property.specs.declared.Property.{Property}
 use Rattle.property.specs.declared.Status.{Status}
 use Rattle.periods.specs.declared.BusyType.{BusyType}
-use Rattle.property.specs.declared.PropertyValue.{PropertyValue}
+use Rattle.property.specs.Facts.{Fact, Reading, unread, fault, of, unsupported, bad, span, repeats, busy, identity, periods}
+use Rattle.property.specs.Facts.{start, end, lasts, status, transparent, uid, recurrenceId, exceptions}
 
 -- a word, and the property that it names
 pub record PropertyWord : Type 0 where
@@ -65,40 +67,33 @@ timeIn Scope.Event r = r
 timeIn Scope.FreeBusy r = utcOnly r
 timeIn Scope.Other r = r
 
-unfoldable pub startBy : TimeRead → PropertyValue
-startBy (TimeRead.Of t) = PropertyValue.Start t
-startBy TimeRead.Bad = PropertyValue.Bad
-
-unfoldable pub endBy : TimeRead → PropertyValue
-endBy (TimeRead.Of t) = PropertyValue.End t
-endBy TimeRead.Bad = PropertyValue.Bad
-
-unfoldable pub recurrenceBy : TimeRead → PropertyValue
-recurrenceBy (TimeRead.Of t) = PropertyValue.RecurrenceId t
-recurrenceBy TimeRead.Bad = PropertyValue.Bad
+-- the fact that a time states
+unfoldable pub timeFact : (Time → Fact) → TimeRead → Reading
+timeFact f (TimeRead.Of t) = of (f t)
+timeFact f TimeRead.Bad = fault bad
 
 -- the times of EXDATE are of this form
-unfoldable pub exceptionsBy : Form → PropertyValue
-exceptionsBy Form.DateTime = PropertyValue.HasExceptions Form.DateTime
-exceptionsBy Form.Date = PropertyValue.HasExceptions Form.Date
-exceptionsBy Form.Wrong = PropertyValue.Bad
+unfoldable pub exceptionsBy : Form → Reading
+exceptionsBy Form.DateTime = of (identity (exceptions Form.DateTime))
+exceptionsBy Form.Date = of (identity (exceptions Form.Date))
+exceptionsBy Form.Wrong = fault bad
 
 -- a time with TZID is unsupported, whatever else is on its line
-unfoldable pub unlessZoned : ContentLine → PropertyValue → PropertyValue
-unlessZoned x s = cond (hasParameter (ascii "TZID") x) PropertyValue.Unsupported s
+unfoldable pub unlessZoned : ContentLine → Reading → Reading
+unlessZoned x s = cond (hasParameter (ascii "TZID") x) (fault unsupported) s
 
 -- so is RECURRENCE-ID with RANGE
-unfoldable pub unlessRanged : ContentLine → PropertyValue → PropertyValue
-unlessRanged x s = cond (hasParameter (ascii "RANGE") x) PropertyValue.Unsupported s
+unfoldable pub unlessRanged : ContentLine → Reading → Reading
+unlessRanged x s = cond (hasParameter (ascii "RANGE") x) (fault unsupported) s
 
-unfoldable pub durationBy : DurationRead → PropertyValue
-durationBy (DurationRead.Of d) = PropertyValue.Lasts d
-durationBy DurationRead.Bad = PropertyValue.Bad
+unfoldable pub durationBy : DurationRead → Reading
+durationBy (DurationRead.Of d) = of (span (lasts d))
+durationBy DurationRead.Bad = fault bad
 
-unfoldable pub ruleValue : RuleRead → PropertyValue
-ruleValue (RuleRead.Of r) = PropertyValue.Repeats r
-ruleValue RuleRead.Unsupported = PropertyValue.Unsupported
-ruleValue RuleRead.Bad = PropertyValue.Bad
+unfoldable pub ruleValue : RuleRead → Reading
+ruleValue (RuleRead.Of r) = of (repeats r)
+ruleValue RuleRead.Unsupported = fault unsupported
+ruleValue RuleRead.Bad = fault bad
 
 -- STATUS has no bad value
 unfoldable pub statusNamed : List ℕ → Status
@@ -116,23 +111,23 @@ unfoldable pub busyOf : ContentLine → BusyType
 busyOf x = busyNamed (firstValue (ascii "FBTYPE") x)
 
 -- FREEBUSY by its FBTYPE, which may stand neither twice nor as a list
-unfoldable pub typeValue : ContentLine → PropertyValue
-typeValue x = cond (hasTwice (ascii "FBTYPE") x || hasList (ascii "FBTYPE") x) PropertyValue.Bad (PropertyValue.HasPeriods (busyOf x))
+unfoldable pub typeValue : ContentLine → Reading
+typeValue x = cond (hasTwice (ascii "FBTYPE") x || hasList (ascii "FBTYPE") x) (fault bad) (of (periods (busyOf x)))
 
 -- what a line says as a property, the items of its list not looked at; UID may have any value
-unfoldable pub valueAs : Property → Context → Scope → ContentLine → PropertyValue
-valueAs Property.Start c s x = unlessZoned x (startBy (timeIn s (timeOf c x)))
-valueAs Property.End c s x = unlessZoned x (endBy (timeIn s (timeOf c x)))
+unfoldable pub valueAs : Property → Context → Scope → ContentLine → Reading
+valueAs Property.Start c s x = unlessZoned x (timeFact (λ t. span (start t)) (timeIn s (timeOf c x)))
+valueAs Property.End c s x = unlessZoned x (timeFact (λ t. span (end t)) (timeIn s (timeOf c x)))
 valueAs Property.Duration c s x = durationBy (readDuration (x .value))
 valueAs Property.Rule c s x = ruleValue (ruleOf c (x .value))
-valueAs Property.Status c s x = PropertyValue.HasStatus (statusNamed (x .value))
-valueAs Property.Transparency c s x = PropertyValue.Transparent (sameName (x .value) (ascii "TRANSPARENT"))
-valueAs Property.Uid c s x = PropertyValue.Uid
-valueAs Property.RecurrenceId c s x = unlessRanged x (unlessZoned x (recurrenceBy (timeOf c x)))
+valueAs Property.Status c s x = of (busy (status (statusNamed (x .value))))
+valueAs Property.Transparency c s x = of (busy (transparent (sameName (x .value) (ascii "TRANSPARENT"))))
+valueAs Property.Uid c s x = of (identity uid)
+valueAs Property.RecurrenceId c s x = unlessRanged x (unlessZoned x (timeFact (λ t. identity (recurrenceId t)) (timeOf c x)))
 valueAs Property.Exceptions c s x = unlessZoned x (exceptionsBy (formOf x))
 valueAs Property.Periods c s x = typeValue x
-valueAs Property.Unsupported c s x = PropertyValue.Unsupported
-valueAs Property.Unread c s x = PropertyValue.Nothing
+valueAs Property.Unsupported c s x = fault unsupported
+valueAs Property.Unread c s x = unread
 
 -- is it DTSTART?
 unfoldable pub isStart : Property → Bool
@@ -150,57 +145,49 @@ isStart Property.Unsupported = false
 isStart Property.Unread = false
 
 -- what a line says, the items of its list not looked at
-unfoldable pub beforeItems : Context → Scope → ContentLine → PropertyValue
+unfoldable pub beforeItems : Context → Scope → ContentLine → Reading
 beforeItems c s x = valueAs (propertyOf s (x .name)) c s x
 
--- EXDATE with this value is bad where any of its times is, and FREEBUSY where any of its periods is
-unfoldable pub withItems : Context → List ℕ → PropertyValue → PropertyValue
-withItems c v PropertyValue.Nothing = PropertyValue.Nothing
-withItems c v PropertyValue.Unsupported = PropertyValue.Unsupported
-withItems c v PropertyValue.Bad = PropertyValue.Bad
-withItems c v (PropertyValue.Start t) = PropertyValue.Start t
-withItems c v (PropertyValue.End t) = PropertyValue.End t
-withItems c v (PropertyValue.Lasts d) = PropertyValue.Lasts d
-withItems c v (PropertyValue.Repeats r) = PropertyValue.Repeats r
-withItems c v (PropertyValue.HasStatus s) = PropertyValue.HasStatus s
-withItems c v (PropertyValue.Transparent b) = PropertyValue.Transparent b
-withItems c v PropertyValue.Uid = PropertyValue.Uid
-withItems c v (PropertyValue.RecurrenceId t) = PropertyValue.RecurrenceId t
-withItems c v (PropertyValue.HasExceptions f) = cond (allTimes (timeItems c f v)) (PropertyValue.HasExceptions f) PropertyValue.Bad
-withItems c v (PropertyValue.HasPeriods b) = cond (allPeriods (periodItems v)) (PropertyValue.HasPeriods b) PropertyValue.Bad
+-- EXDATE with this value has only good times, FREEBUSY only good periods; nothing else has items
+unfoldable pub itemsGood : Context → List ℕ → Fact → Bool
+itemsGood c v (span f) = true
+itemsGood c v (repeats r) = true
+itemsGood c v (busy f) = true
+itemsGood c v (identity uid) = true
+itemsGood c v (identity (recurrenceId t)) = true
+itemsGood c v (identity (exceptions f)) = allTimes (timeItems c f v)
+itemsGood c v (periods b) = allPeriods (periodItems v)
+
+-- a list is bad where any of its items is
+unfoldable pub withItems : Context → List ℕ → Reading → Reading
+withItems c v unread = unread
+withItems c v (fault f) = fault f
+withItems c v (of f) = cond (itemsGood c v f) (of f) (fault bad)
 
 -- what a line says
-unfoldable pub propertyValueOf : Context → Scope → ContentLine → PropertyValue
+unfoldable pub propertyValueOf : Context → Scope → ContentLine → Reading
 propertyValueOf c s x = withItems c (x .value) (beforeItems c s x)
 
 -- does it give periods?
-unfoldable pub givesPeriods : PropertyValue → Bool
-givesPeriods PropertyValue.Nothing = false
-givesPeriods PropertyValue.Unsupported = false
-givesPeriods PropertyValue.Bad = false
-givesPeriods (PropertyValue.Start t) = false
-givesPeriods (PropertyValue.End t) = false
-givesPeriods (PropertyValue.Lasts d) = false
-givesPeriods (PropertyValue.Repeats r) = false
-givesPeriods (PropertyValue.HasStatus s) = false
-givesPeriods (PropertyValue.Transparent b) = false
-givesPeriods PropertyValue.Uid = false
-givesPeriods (PropertyValue.RecurrenceId t) = false
-givesPeriods (PropertyValue.HasExceptions f) = false
-givesPeriods (PropertyValue.HasPeriods b) = true
+unfoldable pub givesPeriods : Reading → Bool
+givesPeriods unread = false
+givesPeriods (fault f) = false
+givesPeriods (of (span f)) = false
+givesPeriods (of (repeats r)) = false
+givesPeriods (of (busy f)) = false
+givesPeriods (of (identity f)) = false
+givesPeriods (of (periods b)) = true
 
 -- how large what a line says can be
-abbrev pub PropertyValueSmall : PropertyValue → Type 0
-PropertyValueSmall PropertyValue.Nothing = Unit {0}
-PropertyValueSmall PropertyValue.Unsupported = Unit {0}
-PropertyValueSmall PropertyValue.Bad = Unit {0}
-PropertyValueSmall (PropertyValue.Start t) = t .second ≤ lastSecond
-PropertyValueSmall (PropertyValue.End t) = t .second ≤ lastSecond
-PropertyValueSmall (PropertyValue.Lasts d) = DurationSmall d
-PropertyValueSmall (PropertyValue.Repeats r) = RuleSmall r
-PropertyValueSmall (PropertyValue.HasStatus s) = Unit {0}
-PropertyValueSmall (PropertyValue.Transparent b) = Unit {0}
-PropertyValueSmall PropertyValue.Uid = Unit {0}
-PropertyValueSmall (PropertyValue.RecurrenceId t) = t .second ≤ lastSecond
-PropertyValueSmall (PropertyValue.HasExceptions f) = Unit {0}
-PropertyValueSmall (PropertyValue.HasPeriods b) = Unit {0}
+abbrev pub PropertyValueSmall : Reading → Type 0
+PropertyValueSmall unread = Unit {0}
+PropertyValueSmall (fault f) = Unit {0}
+PropertyValueSmall (of (span (start t))) = t .second ≤ lastSecond
+PropertyValueSmall (of (span (end t))) = t .second ≤ lastSecond
+PropertyValueSmall (of (span (lasts d))) = DurationSmall d
+PropertyValueSmall (of (repeats r)) = RuleSmall r
+PropertyValueSmall (of (busy f)) = Unit {0}
+PropertyValueSmall (of (identity uid)) = Unit {0}
+PropertyValueSmall (of (identity (recurrenceId t))) = t .second ≤ lastSecond
+PropertyValueSmall (of (identity (exceptions f))) = Unit {0}
+PropertyValueSmall (of (periods b)) = Unit {0}

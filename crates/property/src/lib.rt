@@ -22,7 +22,8 @@ ghost use Rattle.ascii.specs.Words.{ascii};
 ghost use Rattle.line.specs.Grammar.{ContentLine};
 ghost use Rattle.line.specs.Reading.{nameOf, valueOf, lineOf, parameterOf, Plain, hasParameter, hasTwice, hasList};
 ghost use Rattle.values.specs.Times.{formOf, timeOf, ContextGood};
-ghost use Rattle.property.specs.Properties.{propertyOf, timeIn, startBy, endBy, recurrenceBy, exceptionsBy, isStart, durationBy, ruleValue, statusNamed};
+ghost use Rattle.property.specs.Properties.{propertyOf, timeIn, timeFact, exceptionsBy, isStart, durationBy, ruleValue, statusNamed};
+ghost use Rattle.property.specs.Facts.{SpanFact, IdentityFact, Fact, readingOf};
 ghost use Rattle.property.specs.Properties.{busyNamed, busyOf, typeValue, valueAs, beforeItems, propertyValueOf, givesPeriods};
 
 // The component that a line stands directly in.
@@ -214,7 +215,7 @@ fn time_on(c: Context, line: &[u8], v: &[u8], plain: bool) -> TimeRead
 
 // The time as that of DTSTART or of DTEND.
 fn timed(start: bool, r: TimeRead) -> PropertyValue
-    ensures { λ q. ⌜ q ≡ cond start (startBy r) (endBy r) ⌝ }
+    ensures { λ q. ⌜ readingOf q ≡ cond start (timeFact (λ t. Fact.span (SpanFact.start t)) r) (timeFact (λ t. Fact.span (SpanFact.end t)) r) ⌝ }
 {
     match r {
         TimeRead::Of(t) => {
@@ -240,7 +241,7 @@ fn time_value(
     requires { ⌜ ContextGood c ⌝ }
     requires { ⌜ now v ≡ valueOf (now line) ⌝ }
     requires { ⌜ (plain ≡ true → lineOf (now line) .parameters ≡ []) ⌝ }
-    ensures { λ r. ⌜ r ≡ valueAs (cond start Property.Start Property.End) c scope (lineOf (now (line .entry))) ⌝ }
+    ensures { λ r. ⌜ readingOf r ≡ valueAs (cond start Property.Start Property.End) c scope (lineOf (now (line .entry))) ⌝ }
 {
     if is_zoned(line, plain) {
         return PropertyValue::Unsupported;
@@ -249,7 +250,7 @@ fn time_value(
 }
 
 fn recurrence_by(r: TimeRead) -> PropertyValue
-    ensures { λ q. ⌜ q ≡ recurrenceBy r ⌝ }
+    ensures { λ q. ⌜ readingOf q ≡ timeFact (λ t. Fact.identity (IdentityFact.recurrenceId t)) r ⌝ }
 {
     match r {
         TimeRead::Of(t) => PropertyValue::RecurrenceId(t),
@@ -262,7 +263,7 @@ fn recurrence_value(c: Context, line: &[u8], v: &[u8], plain: bool) -> PropertyV
     requires { ⌜ ContextGood c ⌝ }
     requires { ⌜ now v ≡ valueOf (now line) ⌝ }
     requires { ⌜ (plain ≡ true → lineOf (now line) .parameters ≡ []) ⌝ }
-    ensures { λ r. ⌜ ((s : Scope) → r ≡ valueAs Property.RecurrenceId c s (lineOf (now (line .entry)))) ⌝ }
+    ensures { λ r. ⌜ ((s : Scope) → readingOf r ≡ valueAs Property.RecurrenceId c s (lineOf (now (line .entry)))) ⌝ }
 {
     if is_ranged(line, plain) {
         return PropertyValue::Unsupported;
@@ -275,7 +276,7 @@ fn recurrence_value(c: Context, line: &[u8], v: &[u8], plain: bool) -> PropertyV
 
 // EXDATE with times of the form.
 fn exceptions_by(form: Form) -> PropertyValue
-    ensures { λ q. ⌜ q ≡ exceptionsBy form ⌝ }
+    ensures { λ q. ⌜ readingOf q ≡ exceptionsBy form ⌝ }
 {
     match form {
         Form::DateTime => PropertyValue::HasExceptions(Form::DateTime),
@@ -287,7 +288,7 @@ fn exceptions_by(form: Form) -> PropertyValue
 // EXDATE: the form of its times, and they are left to the caller. With TZID the line is unsupported.
 fn exceptions_value(line: &[u8], plain: bool) -> PropertyValue
     requires { ⌜ (plain ≡ true → lineOf (now line) .parameters ≡ []) ⌝ }
-    ensures { λ r. ⌜ ((c : Context) (s : Scope) → r ≡ valueAs Property.Exceptions c s (lineOf (now (line .entry)))) ⌝ }
+    ensures { λ r. ⌜ ((c : Context) (s : Scope) → readingOf r ≡ valueAs Property.Exceptions c s (lineOf (now (line .entry)))) ⌝ }
 {
     if is_zoned(line, plain) {
         return PropertyValue::Unsupported;
@@ -315,7 +316,7 @@ fn is_start(property: Property) -> bool
 }
 
 fn duration_by(r: DurationRead) -> PropertyValue
-    ensures { λ q. ⌜ q ≡ durationBy r ⌝ }
+    ensures { λ q. ⌜ readingOf q ≡ durationBy r ⌝ }
 {
     match r {
         DurationRead::Of(d) => PropertyValue::Lasts(d),
@@ -324,7 +325,7 @@ fn duration_by(r: DurationRead) -> PropertyValue
 }
 
 fn rule_value(r: RuleRead) -> PropertyValue
-    ensures { λ q. ⌜ q ≡ ruleValue r ⌝ }
+    ensures { λ q. ⌜ readingOf q ≡ ruleValue r ⌝ }
 {
     match r {
         RuleRead::Of(x) => PropertyValue::Repeats(x),
@@ -381,7 +382,7 @@ fn type_is_bad(line: &[u8]) -> bool
 
 // The type of a line whose one parameter is p.
 fn type_by(p: &[u8]) -> PropertyValue
-    ensures { λ r. ⌜ ((x : ContentLine) → x .parameters ≡ parameterOf (now (p .entry)) ∷ [] → r ≡ typeValue x) ⌝ }
+    ensures { λ r. ⌜ ((x : ContentLine) → x .parameters ≡ parameterOf (now (p .entry)) ∷ [] → readingOf r ≡ typeValue x) ⌝ }
 {
     if !line::read::is_named(p, b"FBTYPE") {
         return PropertyValue::HasPeriods(BusyType::Busy);
@@ -394,7 +395,7 @@ fn type_by(p: &[u8]) -> PropertyValue
 
 // The type of a line, whatever its parameters are.
 fn type_among(line: &[u8]) -> PropertyValue
-    ensures { λ r. ⌜ r ≡ typeValue (lineOf (now (line .entry))) ⌝ }
+    ensures { λ r. ⌜ readingOf r ≡ typeValue (lineOf (now (line .entry))) ⌝ }
 {
     if type_is_bad(line) {
         return PropertyValue::Bad;
@@ -405,7 +406,7 @@ fn type_among(line: &[u8]) -> PropertyValue
 // FREEBUSY: its type, and the periods are left to the caller. Most lines have one parameter, and then one look at it is enough.
 fn type_value(line: &[u8], plain: bool) -> PropertyValue
     requires { ⌜ (plain ≡ true → lineOf (now line) .parameters ≡ []) ⌝ }
-    ensures { λ r. ⌜ r ≡ typeValue (lineOf (now (line .entry))) ⌝ }
+    ensures { λ r. ⌜ readingOf r ≡ typeValue (lineOf (now (line .entry))) ⌝ }
 {
     if plain {
         return PropertyValue::HasPeriods(BusyType::Busy);
@@ -435,7 +436,7 @@ fn value_as(
     requires { ⌜ ContextGood c ⌝ }
     requires { ⌜ now v ≡ valueOf (now line) ⌝ }
     requires { ⌜ (plain ≡ true → lineOf (now line) .parameters ≡ []) ⌝ }
-    ensures { λ r. ⌜ r ≡ valueAs property c scope (lineOf (now (line .entry))) ⌝ }
+    ensures { λ r. ⌜ readingOf r ≡ valueAs property c scope (lineOf (now (line .entry))) ⌝ }
 {
     match property {
         Property::Unread => PropertyValue::Nothing,
@@ -468,7 +469,7 @@ fn value_in(line: &[u8], n: usize, plain: bool) -> &[u8]
 pub fn property_value(c: Context, scope: Scope, line: &[u8], n: usize) -> PropertyValue
     requires { ⌜ ContextGood c ⌝ }
     requires { ⌜ n ≡ length (nameOf (now line)) ⌝ }
-    ensures { λ r. ⌜ r ≡ beforeItems c scope (lineOf (now (line .entry))) ⌝ }
+    ensures { λ r. ⌜ readingOf r ≡ beforeItems c scope (lineOf (now (line .entry))) ⌝ }
 {
     let property = property_of(scope, &line[..n]);
     match property {

@@ -26,9 +26,9 @@ use Rattle.values.specs.declared.times.Context.{Context}
 use Rattle.values.specs.declared.times.Time.{Time}
 use Rattle.values.specs.declared.times.TimeRead.{TimeRead}
 use Rattle.values.proofs.PeriodLaws.{periodItems-written}
-use Rattle.property.specs.Properties.{propertyOf, timeIn, startBy, endBy, unlessZoned, busyNamed, busyOf, typeValue, valueAs, propertyValueOf, beforeItems, withItems}
+use Rattle.property.specs.Properties.{propertyOf, timeIn, timeFact, unlessZoned, busyNamed, busyOf, typeValue, valueAs, propertyValueOf, beforeItems, itemsGood, withItems}
 use Rattle.property.specs.declared.Scope.{Scope}
-use Rattle.property.specs.declared.PropertyValue.{PropertyValue}
+use Rattle.property.specs.Facts.{Reading, unread, fault, of, bad, span, periods, start, end}
 use Rattle.nesting.specs.WellNested.{numberedFrom}
 use Rattle.nesting.specs.Components.{propertiesIn}
 use Rattle.report.specs.Bytes.{Report, periodText, GoodPeriods, Writable, reportBytes}
@@ -61,19 +61,19 @@ time-read : (c : Context) (n : List ℕ) (t : ℕ) → t ≤ lastSecond → time
 unfolding timeOf formOf hasTwice hasList hasParameter parametersNamed someList readTime timeBy atSecond
 time-read c n t h = rw (read-written t h, second-written t (c .shift) h)
 
-pub stamp-value : (c : Context) (v : List ℕ) → propertyValueOf c Scope.FreeBusy (plainLine (ascii "DTSTAMP") v) ≡ PropertyValue.Nothing
-unfolding propertyValueOf beforeItems withItems propertyOf valueAs sameName upper
+pub stamp-value : (c : Context) (v : List ℕ) → propertyValueOf c Scope.FreeBusy (plainLine (ascii "DTSTAMP") v) ≡ unread
+unfolding propertyValueOf beforeItems withItems itemsGood propertyOf valueAs sameName upper
 stamp-value c v = refl
 
 pub start-value : (c : Context) (t : ℕ) → t ≤ lastSecond
-    → propertyValueOf c Scope.FreeBusy (plainLine (ascii "DTSTART") (utcText t)) ≡ PropertyValue.Start (utcTime t)
-unfolding propertyValueOf beforeItems withItems propertyOf valueAs sameName upper unlessZoned hasParameter parametersNamed timeIn utcOnly startBy
-start-value c t h = ap (λ (r : TimeRead). withItems c (utcText t) (startBy (utcOnly r))) (time-read c (ascii "DTSTART") t h)
+    → propertyValueOf c Scope.FreeBusy (plainLine (ascii "DTSTART") (utcText t)) ≡ of (span (start (utcTime t)))
+unfolding propertyValueOf beforeItems withItems itemsGood propertyOf valueAs sameName upper unlessZoned hasParameter parametersNamed timeIn utcOnly timeFact
+start-value c t h = ap (λ (r : TimeRead). withItems c (utcText t) (timeFact (λ x. span (start x)) (utcOnly r))) (time-read c (ascii "DTSTART") t h)
 
 pub end-value : (c : Context) (t : ℕ) → t ≤ lastSecond
-    → propertyValueOf c Scope.FreeBusy (plainLine (ascii "DTEND") (utcText t)) ≡ PropertyValue.End (utcTime t)
-unfolding propertyValueOf beforeItems withItems propertyOf valueAs sameName upper unlessZoned hasParameter parametersNamed timeIn utcOnly endBy
-end-value c t h = ap (λ (r : TimeRead). withItems c (utcText t) (endBy (utcOnly r))) (time-read c (ascii "DTEND") t h)
+    → propertyValueOf c Scope.FreeBusy (plainLine (ascii "DTEND") (utcText t)) ≡ of (span (end (utcTime t)))
+unfolding propertyValueOf beforeItems withItems itemsGood propertyOf valueAs sameName upper unlessZoned hasParameter parametersNamed timeIn utcOnly timeFact
+end-value c t h = ap (λ (r : TimeRead). withItems c (utcText t) (timeFact (λ x. span (end x)) (utcOnly r))) (time-read c (ascii "DTEND") t h)
 
 -- ---- a period
 
@@ -101,16 +101,16 @@ value-read : {t : BusyPeriod} → GoodTyped t → periodItems (periodLine t .val
 unfolding periodLine periodText
 value-read {t} g = periodItems-written (t .period .start) (t .period .end) (g .rising) (g .within-limits)
 
-period-value : (c : Context) {t : BusyPeriod} → GoodTyped t → propertyValueOf c Scope.FreeBusy (periodLine t) ≡ PropertyValue.HasPeriods (t .busy)
-unfolding propertyValueOf beforeItems withItems propertyOf valueAs typeValue periodLine hasTwice hasList parametersNamed someList sameName upper allPeriods
+period-value : (c : Context) {t : BusyPeriod} → GoodTyped t → propertyValueOf c Scope.FreeBusy (periodLine t) ≡ of (periods (t .busy))
+unfolding propertyValueOf beforeItems withItems itemsGood propertyOf valueAs typeValue periodLine hasTwice hasList parametersNamed someList sameName upper allPeriods
 period-value c {t} g =
-    ap (λ (ps : List PeriodRead). cond (allPeriods ps) (PropertyValue.HasPeriods (busyOf (periodLine t))) PropertyValue.Bad) (value-read g)
-    ∙ ap PropertyValue.HasPeriods (busy-read t)
+    ap (λ (ps : List PeriodRead). cond (allPeriods ps) (of (periods (busyOf (periodLine t)))) (fault bad)) (value-read g)
+    ∙ ap (λ (y : BusyType). of (periods y)) (busy-read t)
 
 period-given : (c : Context) {t : BusyPeriod} → GoodTyped t → periodsBy (propertyValueOf c Scope.FreeBusy (periodLine t)) (periodLine t) ≡ t ∷ []
 unfolding periodsBy goodPeriods
 period-given c {t} g =
-    ap (λ (s : PropertyValue). periodsBy s (periodLine t)) (period-value c g) ∙ ap (λ (ps : List PeriodRead). typed (t .busy) (goodPeriods ps)) (value-read g)
+    ap (λ (s : Reading). periodsBy s (periodLine t)) (period-value c g) ∙ ap (λ (ps : List PeriodRead). typed (t .busy) (goodPeriods ps)) (value-read g)
 
 -- ---- any number of periods: no fault, no property that counts, and each of them given
 
@@ -120,7 +120,7 @@ module _ (c : Context) where
   unfolding faultIn numberedFrom faultOr
   periods-faultless i v no-period = refl
   periods-faultless i v (one-good {t} {ts} g gs) =
-      ap (λ (s : PropertyValue). faultOr i s (faultIn c Scope.FreeBusy (numberedFrom (suc i) (map periodLine ts)) v)) (period-value c g)
+      ap (λ (s : Reading). faultOr i s (faultIn c Scope.FreeBusy (numberedFrom (suc i) (map periodLine ts)) v)) (period-value c g)
       ∙ periods-faultless (suc i) v gs
 
   pub periods-add-nothing : (i : ℕ) (a : ComponentProperties) {ts : List BusyPeriod} → AllGood ts
@@ -128,7 +128,7 @@ module _ (c : Context) where
   unfolding propertyValuesIn numberedFrom withProperties withProperty withSpan withBusy
   periods-add-nothing i a no-period = refl
   periods-add-nothing i a (one-good {t} {ts} g gs) =
-      ap (λ (s : PropertyValue). withProperties (withProperty a s) (propertyValuesIn c Scope.FreeBusy (numberedFrom (suc i) (map periodLine ts)))) (period-value c g)
+      ap (λ (s : Reading). withProperties (withProperty a s) (propertyValuesIn c Scope.FreeBusy (numberedFrom (suc i) (map periodLine ts)))) (period-value c g)
       ∙ periods-add-nothing (suc i) a gs
 
   pub periods-given : (i : ℕ) {ts : List BusyPeriod} → AllGood ts → blockPeriods c (numberedFrom i (map periodLine ts)) ≡ ts

@@ -6,7 +6,7 @@ use Rattle.text.specs.Lines.{cut}
 use Rattle.line.specs.WellFormed.{FirstBad}
 use Rattle.nesting.specs.Faults.{FaultAt}
 use Rattle.values.specs.declared.times.Context.{Context}
-use Rattle.property.specs.declared.PropertyValue.{PropertyValue}
+use Rattle.property.specs.Facts.{ValueFault}
 use Rattle.calendar.specs.Meaning.{fileLines, componentsOf}
 use Rattle.calendar.specs.FirstFaults.{FirstFaulty, FirstBroken}
 
@@ -23,8 +23,8 @@ pub data CalendarApplies (c : Context) (u : List ℕ) : ℕ → ℕ → Type 0 w
   -- line i is the first after which nothing can keep the nesting rules, or comes after the last and is missing
   nesting-wrong : (i : ℕ) → FaultAt (fileLines u) i → CalendarApplies c u 7 i
   -- line i is the first with an unsupported thing or a bad value, and has the former
-  unsupported : (i : ℕ) → FirstFaulty c PropertyValue.Unsupported (componentsOf u) i → CalendarApplies c u 8 i
+  unsupported : (i : ℕ) → FirstFaulty c ValueFault.unsupported (componentsOf u) i → CalendarApplies c u 8 i
   -- or the latter
-  bad-value : (i : ℕ) → FirstFaulty c PropertyValue.Bad (componentsOf u) i → CalendarApplies c u 9 i
+  bad-value : (i : ℕ) → FirstFaulty c ValueFault.bad (componentsOf u) i → CalendarApplies c u 9 i
   -- the component that begins at line i is the first that breaks a rule
   rule-broken : (i : ℕ) → FirstBroken c (componentsOf u) i → CalendarApplies c u 10 i

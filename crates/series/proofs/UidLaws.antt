@@ -1,7 +1,7 @@
 -- Laws of UIDs: bytes compared one by one, a line by what it says, the lines of an event one after the other, and its link.
 use Prim.Native.Nat.{ℕ, _+_, _*_, _-_, _≤_, _<_, suc}
 use mathlib.Core.Path.{_≡_, refl, sym, ap, subst, _∙_}
-use mathlib.Core.Bool.{Bool, true, false, cond, _||_, and-false}
+use mathlib.Core.Bool.{Bool, true, false, _||_, and-false}
 use mathlib.Core.List.{List, [], _∷_, _++_}
 use native.Mathlib.Omega.{arith}
 use lib.Dec.{eqb}
@@ -13,12 +13,11 @@ use Rattle.ascii.proofs.Lists.{drop-next, drop-end}
 use Rattle.text.specs.Lines.{contentLines}
 use Rattle.line.specs.Grammar.{ContentLine}
 use Rattle.line.specs.Reading.{lineOf, valueOf}
-use Rattle.values.specs.TimeLists.{timeItems, allTimes}
-use Rattle.values.specs.Period.{periodItems, allPeriods}
 use Rattle.values.specs.declared.times.Context.{Context}
-use Rattle.property.specs.Properties.{beforeItems, withItems, propertyValueOf}
+use Rattle.property.specs.Facts.{Reading, unread, fault, of, span, repeats, busy, identity, periods, uid, recurrenceId, exceptions}
+use Rattle.property.specs.Properties.{beforeItems, itemsGood, withItems, propertyValueOf}
+use Rattle.property.proofs.Properties.{items-keep}
 use Rattle.property.specs.declared.Scope.{Scope}
-use Rattle.property.specs.declared.PropertyValue.{PropertyValue}
 use Rattle.nesting.specs.Components.{Numbered, Items, propertiesIn}
 use Rattle.index.specs.Index.{lineBytes, Entry, Indexed}
 use Rattle.structure.specs.Rows.{itemsBy, numberedLine, ItemsAt, RowOf, componentBy}
@@ -78,48 +77,36 @@ or-nothing true = refl
 or-nothing false = refl
 
 -- what is no UID, before its items are looked at and after
-no-uid : (c : Context) (x : ContentLine) (v : PropertyValue) → isUid v ≡ false → uidsBy (withItems c (x .value) v) x ≡ []
-unfolding isUid withItems uidsBy
-no-uid c x PropertyValue.Nothing h = refl
-no-uid c x PropertyValue.Unsupported h = refl
-no-uid c x PropertyValue.Bad h = refl
-no-uid c x (PropertyValue.Start t) h = refl
-no-uid c x (PropertyValue.End t) h = refl
-no-uid c x (PropertyValue.Lasts d) h = refl
-no-uid c x (PropertyValue.Repeats r) h = refl
-no-uid c x (PropertyValue.HasStatus s) h = refl
-no-uid c x (PropertyValue.Transparent b) h = refl
-no-uid c x PropertyValue.Uid h = clash refl h
-no-uid c x (PropertyValue.RecurrenceId t) h = refl
-no-uid c x (PropertyValue.HasExceptions f) h = go (allTimes (timeItems c f (x .value)))
-  where
-    go : (t : Bool) → uidsBy (cond t (PropertyValue.HasExceptions f) PropertyValue.Bad) x ≡ []
-    go true = refl
-    go false = refl
-no-uid c x (PropertyValue.HasPeriods b) h = go (allPeriods (periodItems (x .value)))
-  where
-    go : (t : Bool) → uidsBy (cond t (PropertyValue.HasPeriods b) PropertyValue.Bad) x ≡ []
-    go true = refl
-    go false = refl
+no-uid-before : (x : ContentLine) (v : Reading) → isUid v ≡ false → uidsBy v x ≡ []
+unfolding isUid uidsBy
+no-uid-before x unread h = refl
+no-uid-before x (fault f) h = refl
+no-uid-before x (of (span f)) h = refl
+no-uid-before x (of (repeats r)) h = refl
+no-uid-before x (of (busy f)) h = refl
+no-uid-before x (of (identity uid)) h = clash refl h
+no-uid-before x (of (identity (recurrenceId t))) h = refl
+no-uid-before x (of (identity (exceptions f))) h = refl
+no-uid-before x (of (periods b)) h = refl
 
-one-uid : (c : Context) (x : ContentLine) (v : PropertyValue) → isUid v ≡ true → uidsBy (withItems c (x .value) v) x ≡ x .value ∷ []
-unfolding isUid withItems uidsBy
-one-uid c x PropertyValue.Nothing h = clash h refl
-one-uid c x PropertyValue.Unsupported h = clash h refl
-one-uid c x PropertyValue.Bad h = clash h refl
-one-uid c x (PropertyValue.Start t) h = clash h refl
-one-uid c x (PropertyValue.End t) h = clash h refl
-one-uid c x (PropertyValue.Lasts d) h = clash h refl
-one-uid c x (PropertyValue.Repeats r) h = clash h refl
-one-uid c x (PropertyValue.HasStatus s) h = clash h refl
-one-uid c x (PropertyValue.Transparent b) h = clash h refl
-one-uid c x PropertyValue.Uid h = refl
-one-uid c x (PropertyValue.RecurrenceId t) h = clash h refl
-one-uid c x (PropertyValue.HasExceptions f) h = clash h refl
-one-uid c x (PropertyValue.HasPeriods b) h = clash h refl
+no-uid : (c : Context) (x : ContentLine) (v : Reading) → isUid v ≡ false → uidsBy (withItems c (x .value) v) x ≡ []
+unfolding uidsBy
+no-uid c x v h = items-keep (λ (w : Reading). uidsBy w x ≡ []) refl c (x .value) v (no-uid-before x v h)
+
+one-uid : (c : Context) (x : ContentLine) (v : Reading) → isUid v ≡ true → uidsBy (withItems c (x .value) v) x ≡ x .value ∷ []
+unfolding isUid withItems itemsGood uidsBy
+one-uid c x unread h = clash h refl
+one-uid c x (fault f) h = clash h refl
+one-uid c x (of (span f)) h = clash h refl
+one-uid c x (of (repeats r)) h = clash h refl
+one-uid c x (of (busy f)) h = clash h refl
+one-uid c x (of (identity uid)) h = refl
+one-uid c x (of (identity (recurrenceId t))) h = clash h refl
+one-uid c x (of (identity (exceptions f))) h = clash h refl
+one-uid c x (of (periods b)) h = clash h refl
 
 -- line i, by what was read of its bytes l
-module _ (c : Context) (s u : List ℕ) (i : ℕ) {l : List ℕ} (p : l ≡ lineBytes s i) {v : PropertyValue} (q : v ≡ beforeItems c Scope.Event (lineOf l)) {t : Bool} (e : t ≡ isUid v) where
+module _ (c : Context) (s u : List ℕ) (i : ℕ) {l : List ℕ} (p : l ≡ lineBytes s i) {v : Reading} (q : v ≡ beforeItems c Scope.Event (lineOf l)) {t : Bool} (e : t ≡ isUid v) where
   said : propertyValueOf c Scope.Event (lineOf (lineBytes s i)) ≡ withItems c (lineOf (lineBytes s i) .value) v
   unfolding propertyValueOf
   said = ap (withItems c (lineOf (lineBytes s i) .value)) (sym (q ∙ ap (λ (x : List ℕ). beforeItems c Scope.Event (lineOf x)) p))
@@ -130,11 +117,11 @@ module _ (c : Context) (s u : List ℕ) (i : ℕ) {l : List ℕ} (p : l ≡ line
       z
       ∙ ap (sameBytes u) (y ∙ ap valueOf p)
       ∙ or-nothing (sameBytes u (valueOf (lineBytes s i)))
-      ∙ sym (ap (some (sameBytes u)) (ap (λ (x : PropertyValue). uidsBy x (lineOf (lineBytes s i))) said ∙ one-uid c (lineOf (lineBytes s i)) v (sym e ∙ h)))
+      ∙ sym (ap (some (sameBytes u)) (ap (λ (x : Reading). uidsBy x (lineOf (lineBytes s i))) said ∙ one-uid c (lineOf (lineBytes s i)) v (sym e ∙ h)))
 
   pub line-no-uid : t ≡ false → false ≡ lineHas c u (lineOf (lineBytes s i))
   unfolding lineHas some
-  line-no-uid h = sym (ap (some (sameBytes u)) (ap (λ (x : PropertyValue). uidsBy x (lineOf (lineBytes s i))) said ∙ no-uid c (lineOf (lineBytes s i)) v (sym e ∙ h)))
+  line-no-uid h = sym (ap (some (sameBytes u)) (ap (λ (x : Reading). uidsBy x (lineOf (lineBytes s i))) said ∙ no-uid c (lineOf (lineBytes s i)) v (sym e ∙ h)))
 
 -- ---- the lines of an event
 

@@ -9,7 +9,7 @@ use Rattle.values.specs.Times.{ContextGood}
 use Rattle.values.specs.declared.times.Context.{Context}
 use Rattle.property.specs.Properties.{propertyValueOf}
 use Rattle.property.specs.declared.Scope.{Scope}
-use Rattle.property.specs.declared.PropertyValue.{PropertyValue}
+use Rattle.property.specs.Facts.{Reading, unread, fault, of, span, repeats, busy, identity, periods, uid, recurrenceId, exceptions}
 use Rattle.nesting.specs.Components.{Numbered}
 use Rattle.index.specs.Index.{Indexed}
 use Rattle.structure.specs.Rows.{RowOf, componentBy}
@@ -19,20 +19,16 @@ use Rattle.identities.specs.LinkRows.{linkAt}
 use Rattle.series.specs.Identities.{UidTies}
 
 -- it is a UID
-unfoldable pub isUid : PropertyValue → Bool
-isUid PropertyValue.Nothing = false
-isUid PropertyValue.Unsupported = false
-isUid PropertyValue.Bad = false
-isUid (PropertyValue.Start t) = false
-isUid (PropertyValue.End t) = false
-isUid (PropertyValue.Lasts d) = false
-isUid (PropertyValue.Repeats r) = false
-isUid (PropertyValue.HasStatus s) = false
-isUid (PropertyValue.Transparent b) = false
-isUid PropertyValue.Uid = true
-isUid (PropertyValue.RecurrenceId t) = false
-isUid (PropertyValue.HasExceptions f) = false
-isUid (PropertyValue.HasPeriods b) = false
+unfoldable pub isUid : Reading → Bool
+isUid unread = false
+isUid (fault f) = false
+isUid (of (span f)) = false
+isUid (of (repeats r)) = false
+isUid (of (busy f)) = false
+isUid (of (identity uid)) = true
+isUid (of (identity (recurrenceId t))) = false
+isUid (of (identity (exceptions f))) = false
+isUid (of (periods b)) = false
 
 -- a line of an event is a UID with these bytes
 unfoldable pub lineHas : Context → List ℕ → ContentLine → Bool

@@ -20,6 +20,7 @@ ghost use Rattle.index.specs.Index.{lineBytes, Entry, Indexed};
 ghost use Rattle.structure.specs.Rows.{RowOf, componentBy};
 ghost use Rattle.overrides.specs.VEvents.{hasUid};
 ghost use Rattle.calendar.specs.Meaning.{vEventOf};
+ghost use Rattle.property.specs.Facts.{readingOf};
 ghost use Rattle.series.specs.Uids.{isUid, lineHas, linesHave, UidsKnown};
 
 // The value of the line of number n.
@@ -50,7 +51,7 @@ fn same_bytes(a: &[u8], b: &[u8]) -> bool
 }
 
 fn is_uid(v: PropertyValue) -> bool
-    ensures { λ r. ⌜ r ≡ isUid v ⌝ }
+    ensures { λ r. ⌜ r ≡ isUid (readingOf v) ⌝ }
 {
     match v {
         PropertyValue::Nothing => false,

@@ -14,6 +14,7 @@ use Rattle.component_lines.proofs.Lines.{reading-exceptions, reading-ba
 use Rattle.component_lines.proofs.Identities.{ReadingTies, ties-start, ties-inner, ties-untied, ties-uid, ties-recurrence, ties-room, ties-exceptions, ties-done}
 use Rattle.index.specs.Index.{Entry}
 use Rattle.index.proofs.Index.{entry-here, entry-name}
+use Rattle.property.specs.Facts.{readingOf}
 use mathlib.Core.Path.{_≡_, sym, _∙_}
 use native.Mathlib.Omega.{arith}
 use Rattle.component_lines.proofs.read_lines.Statement.{statement}
@@ -121,6 +122,7 @@ loop-less : tie.Need-loop-less Inv-loop μ-loop
 loop-less c = omega (arith, value-read (c .before .before) .here .onward)
 
 loop-again : tie.Need-loop-again Inv-loop μ-loop
+unfolding readingOf
 loop-again c =
     let read = value-read (c .before .before) in
     let said = plain-said read (c .enum-told2 .given .1) tt in
@@ -160,6 +162,7 @@ loop-less-2 : tie.Need-loop-less-2 Inv-loop μ-loop
 loop-less-2 c = omega (arith, value-read (c .before .before .before .before) .here .onward)
 
 loop-again-2 : tie.Need-loop-again-2 Inv-loop μ-loop
+unfolding readingOf
 loop-again-2 c =
     let read = value-read (c .before .before .before .before) in
     let said = plain-said read (c .before .before .t .given .1) tt in
@@ -175,6 +178,7 @@ loop-less-3 : tie.Need-loop-less-3 Inv-loop μ-loop
 loop-less-3 c = omega (arith, value-read (c .before .before .before .before) .here .onward)
 
 loop-again-3 : tie.Need-loop-again-3 Inv-loop μ-loop
+unfolding readingOf
 loop-again-3 c =
     let read = value-read (c .before .before .before .before) in
     let said = plain-said read (c .before .before .t2 .given .1) tt in
@@ -190,6 +194,7 @@ loop-less-4 : tie.Need-loop-less-4 Inv-loop μ-loop
 loop-less-4 c = omega (arith, value-read (c .before .before .before .before) .here .onward)
 
 loop-again-4 : tie.Need-loop-again-4 Inv-loop μ-loop
+unfolding readingOf
 loop-again-4 c =
     let read = value-read (c .before .before .before .before) in
     let said = plain-said read (c .before .before .d .given .1) tt in
@@ -205,6 +210,7 @@ loop-less-5 : tie.Need-loop-less-5 Inv-loop μ-loop
 loop-less-5 c = omega (arith, value-read (c .before .before .before .before) .here .onward)
 
 loop-again-5 : tie.Need-loop-again-5 Inv-loop μ-loop
+unfolding readingOf
 loop-again-5 c =
     let read = value-read (c .before .before .before .before) in
     let said = plain-said read (c .before .before .r .given .1) tt in
@@ -220,6 +226,7 @@ loop-less-6 : tie.Need-loop-less-6 Inv-loop μ-loop
 loop-less-6 c = omega (arith, value-read (c .before .before .before .before) .here .onward)
 
 loop-again-6 : tie.Need-loop-again-6 Inv-loop μ-loop
+unfolding readingOf
 loop-again-6 c =
     let read = value-read (c .before .before .before .before) in
     let said = plain-said read (c .before .before .x .given .1) tt in
@@ -235,6 +242,7 @@ loop-less-7 : tie.Need-loop-less-7 Inv-loop μ-loop
 loop-less-7 c = omega (arith, value-read (c .before .before .before .before) .here .onward)
 
 loop-again-7 : tie.Need-loop-again-7 Inv-loop μ-loop
+unfolding readingOf
 loop-again-7 c =
     let read = value-read (c .before .before .before .before) in
     let said = plain-said read (c .before .before .x2 .given .1) tt in
@@ -250,6 +258,7 @@ loop-less-8 : tie.Need-loop-less-8 Inv-loop μ-loop
 loop-less-8 c = omega (arith, value-read (c .before .before .before) .here .onward)
 
 loop-again-8 : tie.Need-loop-again-8 Inv-loop μ-loop
+unfolding readingOf
 loop-again-8 c =
     let read = value-read (c .before .before .before) in
     let told = c .before .enum-told5 .given .1 in
@@ -265,6 +274,7 @@ loop-less-9 : tie.Need-loop-less-9 Inv-loop μ-loop
 loop-less-9 c = omega (arith, value-read (c .before .before .before .before) .here .onward)
 
 loop-again-9 : tie.Need-loop-again-9 Inv-loop μ-loop
+unfolding readingOf
 loop-again-9 c =
     let read = value-read (c .before .before .before .before) in
     let told = c .before .before .t3 .given .1 in

@@ -1,4 +1,5 @@
 -- `property::duration_by` meets its contract: each arm is the definition's clause.
+use Rattle.property.specs.Facts.{readingOf}
 use Rattle.property.specs.Properties.{durationBy}
 use borrow.Author.Needs.{needs}
 use Rattle.property.proofs.duration_by.Statement.{statement}
@@ -11,11 +12,11 @@ enum-told : tie.Need-enum-told
 enum-told c = search needs
 
 returns : tie.Need-returns
-unfolding durationBy
+unfolding durationBy readingOf
 returns c = rw (c .before .r .given .1)
 
 returns-2 : tie.Need-returns-2
-unfolding durationBy
+unfolding durationBy readingOf
 returns-2 c = rw (c .enum-told .given .1)
 
 pub duration-by-spec : {M : Type 1} → statement M

@@ -1,5 +1,6 @@
 -- `property::exceptions_value` meets its contract: with TZID the line is unsupported; else its form decides.
 use mathlib.Core.Path.{sym, ap, _∙_}
+use Rattle.property.specs.Facts.{readingOf}
 use Rattle.property.specs.Properties.{valueAs, unlessZoned, exceptionsBy}
 use borrow.Author.Needs.{needs}
 use Rattle.property.proofs.exceptions_value.Statement.{statement}
@@ -9,7 +10,7 @@ is-zoned-requires : tie.Need-is-zoned-requires
 is-zoned-requires c κs = search needs
 
 returns : tie.Need-returns
-unfolding valueAs unlessZoned
+unfolding valueAs unlessZoned readingOf
 returns c = λ k s. rw (sym (c .before .is-zoned .ensures) ∙ c .if1 .taken)
 
 form-in-requires : tie.Need-form-in-requires

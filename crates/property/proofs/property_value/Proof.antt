@@ -6,6 +6,7 @@ use Rattle.property.proofs.Properties.{unread-line}
 use native.Mathlib.Omega.{arith}
 use Rattle.line.specs.Reading.{lineOf}
 use Rattle.line.proofs.Reading.{name-take, name-fits, plain-at}
+use Rattle.property.specs.Facts.{readingOf}
 use Rattle.property.specs.Properties.{propertyOf, beforeItems}
 use borrow.Author.Needs.{needs}
 use Rattle.property.proofs.property_value.Statement.{statement}
@@ -35,6 +36,7 @@ value-as-requires c κs =
     (start .pre .0, (c .value-in .ensures, λ h. plain h .no-parameters))
 
 returns : tie.Need-returns
+unfolding readingOf
 returns c =
     let args = c .before .before .before .before .before .args in
     let pre = c .before .before .before .before .before .pre in

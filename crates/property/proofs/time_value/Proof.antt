@@ -1,6 +1,7 @@
 -- `property::time_value` meets its contract: with TZID the line is unsupported; else its time is what the callees answer.
 use denote.Ref.{now}
 use mathlib.Core.Path.{ap, _∙_}
+use Rattle.property.specs.Facts.{readingOf}
 use Rattle.property.specs.Properties.{timeIn}
 use Rattle.property.proofs.Properties.{zoned, unzoned}
 use borrow.Author.Needs.{needs}
@@ -11,6 +12,7 @@ is-zoned-requires : tie.Need-is-zoned-requires
 is-zoned-requires c κs = search needs
 
 returns : tie.Need-returns
+unfolding readingOf
 returns c =
     let args = c .before .before .before .before .args in
     zoned (now (args .line)) (args .start) (args .c) (args .scope) _ (c .before .is-zoned .ensures) (c .if1 .taken)

@@ -1,6 +1,7 @@
 -- `property::type_by` meets its contract: a line with one parameter has the type BUSY where that is not FBTYPE; else its value decides.
 use denote.Ref.{now}
 use mathlib.Core.Path.{sym, _∙_}
+use Rattle.property.specs.Facts.{readingOf}
 use borrow.Author.Tests.{not-true, not-false}
 use Rattle.property.proofs.Properties.{one-other, one-list, one-type}
 use borrow.Author.Needs.{needs}
@@ -14,12 +15,14 @@ is-named-requires : tie.Need-is-named-requires
 is-named-requires c κs = search needs
 
 returns : tie.Need-returns
+unfolding readingOf
 returns c = λ x e. one-other (now (c .before .before .before .before .args .p)) x e (sym (c .before .is-named .ensures) ∙ not-true _ (c .if1 .taken))
 
 value-count-requires : tie.Need-value-count-requires
 value-count-requires c κs = search needs
 
 returns-2 : tie.Need-returns-2
+unfolding readingOf
 returns-2 c =
     let parameter = now (c .before .before .before .before .before .before .args .p) in
     let named = sym (c .before .before .before .is-named .ensures) ∙ not-false _ (c .before .before .if1 .left) in
@@ -34,6 +37,7 @@ busy-named-requires : tie.Need-busy-named-requires
 busy-named-requires c κs = search needs
 
 returns-3 : tie.Need-returns-3
+unfolding readingOf
 returns-3 c =
     let args = c .before .before .before .before .before .before .before .before .args in
     let is-named = c .before .before .before .before .before .is-named in

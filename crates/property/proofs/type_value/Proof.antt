@@ -3,12 +3,14 @@ use denote.Ref.{now}
 use native.Mathlib.Omega.{arith}
 use Rattle.line.specs.Reading.{lineOf}
 use Rattle.line.proofs.ReadingParameters.{next-rises, next-inside}
+use Rattle.property.specs.Facts.{readingOf}
 use Rattle.property.proofs.Properties.{plain-type, one-parameter}
 use borrow.Author.Needs.{needs}
 use Rattle.property.proofs.type_value.Statement.{statement}
 use Rattle.property.proofs.type_value.Tie as tie
 
 returns : tie.Need-returns
+unfolding readingOf
 returns c = plain-type _ (c .before .before .pre (c .if1 .taken))
 
 head-requires : tie.Need-head-requires

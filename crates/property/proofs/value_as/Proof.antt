@@ -4,6 +4,7 @@ use Rattle.line.specs.Reading.{lineOf}
 use Rattle.property.specs.declared.Property.{Property}
 use mathlib.Core.Bool.{Bool, cond}
 use denote.Ref.{now}
+use Rattle.property.specs.Facts.{readingOf}
 use Rattle.property.specs.Properties.{valueAs}
 use Rattle.property.proofs.Properties.{start-or-end}
 use borrow.Author.Needs.{needs}
@@ -77,11 +78,11 @@ time-value-requires : tie.Need-time-value-requires
 time-value-requires c κs = search needs
 
 returns : tie.Need-returns
-unfolding valueAs
+unfolding valueAs readingOf
 returns c = rw (c .enum-told .given .1)
 
 returns-2 : tie.Need-returns-2
-unfolding valueAs
+unfolding valueAs readingOf
 returns-2 c = rw (c .enum-told2 .given .1)
 
 returns-3 : tie.Need-returns-3
@@ -93,15 +94,15 @@ unfolding valueAs lineOf
 returns-4 c = simp (c .rule-value .ensures, c .before .rule-of .ensures, c .before .before .before .before .before .before .pre .1 .0, c .before .before .enum-told4 .given .1)
 
 returns-5 : tie.Need-returns-5
-unfolding valueAs lineOf
+unfolding valueAs lineOf readingOf
 returns-5 c = simp (c .status-named .ensures, c .before .before .before .before .before .pre .1 .0, c .before .enum-told5 .given .1)
 
 returns-6 : tie.Need-returns-6
-unfolding valueAs lineOf
+unfolding valueAs lineOf readingOf
 returns-6 c = simp (c .same-name .ensures, c .before .before .before .before .before .before .pre .1 .0, c .before .before .enum-told6 .given .1)
 
 returns-7 : tie.Need-returns-7
-unfolding valueAs
+unfolding valueAs readingOf
 returns-7 c = rw (c .enum-told7 .given .1)
 
 returns-8 : tie.Need-returns-8

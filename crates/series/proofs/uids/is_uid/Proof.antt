@@ -1,4 +1,5 @@
 -- `series::uids::is_uid` meets its contract: each arm is a clause of the definition.
+use Rattle.property.specs.Facts.{readingOf}
 use Rattle.series.specs.Uids.{isUid}
 use borrow.Author.Needs.{needs}
 use Rattle.series.proofs.uids.is_uid.Statement.{statement}
@@ -44,55 +45,55 @@ enum-told-13 : tie.Need-enum-told-13
 enum-told-13 c = search needs
 
 returns : tie.Need-returns
-unfolding isUid
+unfolding isUid readingOf
 returns c = search needs
 
 returns-2 : tie.Need-returns-2
-unfolding isUid
+unfolding isUid readingOf
 returns-2 c = search needs
 
 returns-3 : tie.Need-returns-3
-unfolding isUid
+unfolding isUid readingOf
 returns-3 c = search needs
 
 returns-4 : tie.Need-returns-4
-unfolding isUid
+unfolding isUid readingOf
 returns-4 c = search needs
 
 returns-5 : tie.Need-returns-5
-unfolding isUid
+unfolding isUid readingOf
 returns-5 c = search needs
 
 returns-6 : tie.Need-returns-6
-unfolding isUid
+unfolding isUid readingOf
 returns-6 c = search needs
 
 returns-7 : tie.Need-returns-7
-unfolding isUid
+unfolding isUid readingOf
 returns-7 c = search needs
 
 returns-8 : tie.Need-returns-8
-unfolding isUid
+unfolding isUid readingOf
 returns-8 c = search needs
 
 returns-9 : tie.Need-returns-9
-unfolding isUid
+unfolding isUid readingOf
 returns-9 c = search needs
 
 returns-10 : tie.Need-returns-10
-unfolding isUid
+unfolding isUid readingOf
 returns-10 c = search needs
 
 returns-11 : tie.Need-returns-11
-unfolding isUid
+unfolding isUid readingOf
 returns-11 c = search needs
 
 returns-12 : tie.Need-returns-12
-unfolding isUid
+unfolding isUid readingOf
 returns-12 c = search needs
 
 returns-13 : tie.Need-returns-13
-unfolding isUid
+unfolding isUid readingOf
 returns-13 c = search needs
 
 pub is-uid-spec : {M : Type 1} → statement M
