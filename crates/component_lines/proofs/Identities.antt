@@ -76,8 +76,8 @@ uid-more s UidGiven.Several us i l r e = two-more us (valueOf (lineBytes s i) �
 
 recurrence-more : (g : RecurrenceGiven) (ts : List Time) (t : Time) → RecurrenceTies g ts → RecurrenceTies (moreRecurrences g t) (ts ++ (t ∷ []))
 unfolding moreRecurrences twoOrMore
-recurrence-more RecurrenceGiven.None ts t e = ap (λ (x : List Time). x ++ (t ∷ [])) e
-recurrence-more (RecurrenceGiven.One u) ts t e = ap (λ (x : List Time). twoOrMore (x ++ (t ∷ []))) e
+recurrence-more RecurrenceGiven.None ts t e = record { time = t; alone = ap (λ (x : List Time). x ++ (t ∷ [])) e; kept = refl }
+recurrence-more (RecurrenceGiven.One u) ts t e = ap (λ (x : List Time). twoOrMore (x ++ (t ∷ []))) (e .alone)
 recurrence-more RecurrenceGiven.Several ts t e = two-more ts (t ∷ []) e
 
 -- so far these were read, and with those of the lines from line i on they are all

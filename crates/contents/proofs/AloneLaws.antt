@@ -43,13 +43,13 @@ kind-more Kinds.None j k = refl
 kind-more (Kinds.One i) j k = two-kinds i j k (sameKind i j) (sameKind i k) (sameKind j k) refl refl refl
 kind-more Kinds.Several j k = refl
 
-kinds-more : (e : Event) (ks : Kinds) (ts : List Time) → otherKinds (withKinds ks ts) (e .kind) ≡ (otherKinds ks (e .kind) || some (otherKind e) ts)
+kinds-more : (e : Event) (ks : Kinds) (ts : List Time) → otherKinds (withKinds ks ts) (e .kind) ≡ (otherKinds ks (e .kind) || some (λ t. otherKind e (t .kind)) ts)
 unfolding withKinds some otherKind
 kinds-more e ks [] = sym (or-false (otherKinds ks (e .kind)))
 kinds-more e ks (t ∷ ts) =
     kinds-more e (withKind ks (t .kind)) ts
-    ∙ ap (λ (b : Bool). b || some (otherKind e) ts) (kind-more ks (t .kind) (e .kind))
-    ∙ or-assoc (otherKinds ks (e .kind)) (not (sameKind (t .kind) (e .kind))) (some (otherKind e) ts)
+    ∙ ap (λ (b : Bool). b || some (λ t. otherKind e (t .kind)) ts) (kind-more ks (t .kind) (e .kind))
+    ∙ or-assoc (otherKinds ks (e .kind)) (not (sameKind (t .kind) (e .kind))) (some (λ t. otherKind e (t .kind)) ts)
 
 given-more : (ks : Kinds) (k : Kind) → someKinds (withKind ks k) ≡ true
 unfolding someKinds withKind
@@ -108,7 +108,7 @@ module _ (s : List ℕ) (y : IdentityRead) (i : Identity) (h : Ties s y i) (n : 
       ap (λ (b : Bool). b || someKinds (y .kinds) || hasRule (e .repeat)) (no-uids s (y .uid) (i .uids) (h .uid-ties))
       ∙ ap (λ (b : Bool). isEmpty (i .uids) || b || hasRule (e .repeat)) (ap someKinds (h .kinds-are) ∙ kinds-given (i .exceptions))
       ∙ sym (ap (λ (b : Bool). b || not (isEmpty (i .exceptions)) || hasRule (e .repeat)) (or-false (isEmpty (i .uids))))
-      ∙ sym (ap (λ (x : List Time). not (isEmpty x) && (isEmpty (i .uids) || twoOrMore x || not (isEmpty (i .exceptions)) || hasRule (e .repeat))) q)
+      ∙ sym (ap (λ (x : List Time). not (isEmpty x) && (isEmpty (i .uids) || twoOrMore x || not (isEmpty (i .exceptions)) || hasRule (e .repeat))) (q .alone))
   override-by RecurrenceGiven.Several ts q =
       sym
       (ap (λ (b : Bool). not b && (isEmpty (i .uids) || twoOrMore ts || not (isEmpty (i .exceptions)) || hasRule (e .repeat))) (two-some ts q)
@@ -122,5 +122,5 @@ module _ (s : List ℕ) (y : IdentityRead) (i : Identity) (h : Ties s y i) (n : 
       ap (λ (b : Bool). b || otherKinds (y .kinds) (e .kind) || overrideBy (y .recurrence) (y .uid) (y .kinds) (hasRule (e .repeat))) (several-uids s (y .uid) (i .uids) (h .uid-ties))
       ∙ ap (λ (b : Bool). twoOrMore (i .uids) || b || overrideBy (y .recurrence) (y .uid) (y .kinds) (hasRule (e .repeat)))
       (ap (λ (ks : Kinds). otherKinds ks (e .kind)) (h .kinds-are) ∙ kinds-more e Kinds.None (i .exceptions))
-      ∙ ap (λ (b : Bool). twoOrMore (i .uids) || some (otherKind e) (i .exceptions) || b) (override-by (y .recurrence) (i .recurrenceIds) (h .recurrence-ties))
-      ∙ or-assoc (twoOrMore (i .uids)) (some (otherKind e) (i .exceptions)) _
+      ∙ ap (λ (b : Bool). twoOrMore (i .uids) || some (λ t. otherKind e (t .kind)) (i .exceptions) || b) (override-by (y .recurrence) (i .recurrenceIds) (h .recurrence-ties))
+      ∙ or-assoc (twoOrMore (i .uids)) (some (λ t. otherKind e (t .kind)) (i .exceptions)) _

@@ -2,7 +2,7 @@
 use Prim.Native.Nat.{ℕ, _+_, _*_, _-_, _≤_, _<_}
 use mathlib.Core.Path.{_≡_, refl, sym, ap, subst, _∙_}
 use mathlib.Core.Bool.{Bool, true, false, cond, _||_}
-use mathlib.Core.List.{List, [], _∷_, _++_, append-nil, List·Memᴰ, List·Memᴰ·head}
+use mathlib.Core.List.{List, [], _∷_, _++_, append-nil, List·Memᴰ}
 use native.Mathlib.Omega.{arith}
 use borrow.Author.Tests.{ltb-true, ltb-false}
 use lib.Dec.{ltb}
@@ -62,6 +62,7 @@ use Rattle.calendar.specs.Passes.{brokenAlone, aloneFault}
 use Rattle.calendar.specs.Meaning.{vEventOf}
 use Rattle.series.specs.Identities.{UidTies, RecurrenceTies, Ties}
 use Rattle.component_lines.specs.Identities.{excludedIn, LinesTie}
+use Rattle.series.proofs.MasterLaws.{one-second}
 use Rattle.contents.specs.Alone.{aloneBy}
 use Rattle.series.specs.LinkRows.{gatheredIn, linkFrom, LinkStands}
 use Rattle.contents.specs.Contents.{componentFault, statedIn, secondsIn, EntryStands, Linked, ExcludedRoom, IdentitySmall, EventEntered, EntryTerms, EntryGood, EntryBroken, EntryIs, entry-good, entry-broken, entry-unsupported, entry-bad, ContentsAre}
@@ -123,7 +124,7 @@ uid-fits s UidGiven.Several us h = tt
 
 recurrence-fits : (g : RecurrenceGiven) (ts : List Time) → ((t : Time) → List·Memᴰ t ts → t .second ≤ lastSecond) → RecurrenceTies g ts → RecurrenceSmall g
 recurrence-fits RecurrenceGiven.None ts f h = tt
-recurrence-fits (RecurrenceGiven.One t) ts f h = omega (arith, f t (subst (List·Memᴰ t) (sym h) (List·Memᴰ·head refl)))
+recurrence-fits (RecurrenceGiven.One r) ts f h = omega (arith, one-second h f)
 recurrence-fits RecurrenceGiven.Several ts f h = tt
 
 -- what the lines tell of links and excluded seconds, as that of the component

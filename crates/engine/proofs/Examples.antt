@@ -23,7 +23,7 @@ use Rattle.line.specs.WellFormed.{lineCheckFrom, lineCheck}
 use Rattle.query_check.specs.WellFormed.{nameGood, hasChildComponent, hasProperty, parentGood, componentGood, rangesGood, componentsGood, propertiesGood, parametersGood, recordsGood, sectionsGood, queryGood, componentMisplaced, componentsMisplaced, propertiesMisplaced, rangeMisplaced}
 use Rattle.delimiters.specs.Delimiters.{delimiterOf}
 use Rattle.delimiters.specs.Innermost.{isCalendar, isEvent, mayBegin}
-use Rattle.values.specs.Times.{atSecond, timeBy, readTime, formOf, timeOf}
+use Rattle.values.specs.Times.{utcOf, atSecond, timeBy, readTime, formOf, timeOf}
 use Rattle.property.specs.Properties.{propertyOf, timeIn, timeFact, unlessZoned, valueAs, propertyValueOf, beforeItems, itemsGood, withItems}
 use Rattle.nesting.specs.Components.{delimitedFrom, itemsOf, treeOf, componentsIn, propertiesIn, itemsBelow}
 use Rattle.nesting.specs.Nesting.{afterBegin, afterEnd, afterProperty, walk, outcome, nestingOf}
@@ -124,5 +124,5 @@ table =
     ∷ []
 
 pub edges : AllHold table
-unfolding matchOutcome unlessRefused firstRefusal matchRows earlyMatchRows offsetRow offsetGood sizeRows queryRows queryGood sectionsGood sectionsOf behindRecords countFits byteAt placeWithin behindTextSection behindTexts behindText recordsGood rangesGood everyBelow componentsGood componentGood nameGood componentAt isName textOf textFrom textPlace isNameByte isLetter parentGood sameName upper propertiesGood parametersGood misplacedIn rangeMisplaced componentsMisplaced someBelow componentMisplaced propertiesMisplaced calendarRows structureRows contentsRows lineRow lineCheck lineCheckFrom cut unfolded isFold isBreak isBlank isWellFormed scan isEnding step isDigit isControl nestingOf outcome walk fileLines contentLines delimiterOf lineOf nameOf before firstOutside headOf parameterTexts splitParts valueOf after afterEnd afterBegin isCalendar unsupportedRow valueFault componentsOf componentsIn itemsBelow treeOf itemsOf delimitedFrom badValueRow ruleRow ruleFault verdictOf verdictBy queryHolds componentTest componentHolds someComponent treeIn rangeHolds propertiesHold childrenHold hasChildComponent hasProperty someComponentNamed afterProperty mayBegin faultIn propertiesIn faultOr propertyValueOf beforeItems itemsGood withItems valueAs propertyOf componentScope scopeOf isEvent unlessZoned hasParameter parametersNamed timeFact timeIn timeOf readTime formOf hasTwice hasList someList timeBy readDateTime clockAt clockOf dateAt three yearAt joined pairAt digitPair checkedDay isDay monthDays lengthIn monthLengths timeAt checkedTime atSecond utcSecond since epoch dayNumber daysBeforeYear endingBy repeatBy eventMade eventWith eventFrom eventBy noProperties timeGiven durationGiven ruleGiven statusGiven transparencyGiven withProperty withSpan withBusy withProperties propertyValuesIn eventOf vEventsAs vEvents vEventOf breaksRule firstFault brokenOr isLeap yearDays beforeIn daysBeforeMonth someOf isEmpty twoOrMore hasRule otherKind overrideBreaks eventBreaks breaksAlone mastersClash overridesClash misnames misplaced overrideMisplaced breaksBeside breaks isMaster isOverride hasUid sharesUid masterOf uidsBy recurrenceIdsBy exceptionsBy uidsIn recurrenceIdsIn exceptionsIn identityIn identityOf
+unfolding matchOutcome unlessRefused firstRefusal matchRows earlyMatchRows offsetRow offsetGood sizeRows queryRows queryGood sectionsGood sectionsOf behindRecords countFits byteAt placeWithin behindTextSection behindTexts behindText recordsGood rangesGood everyBelow componentsGood componentGood nameGood componentAt isName textOf textFrom textPlace isNameByte isLetter parentGood sameName upper propertiesGood parametersGood misplacedIn rangeMisplaced componentsMisplaced someBelow componentMisplaced propertiesMisplaced calendarRows structureRows contentsRows lineRow lineCheck lineCheckFrom cut unfolded isFold isBreak isBlank isWellFormed scan isEnding step isDigit isControl nestingOf outcome walk fileLines contentLines delimiterOf lineOf nameOf before firstOutside headOf parameterTexts splitParts valueOf after afterEnd afterBegin isCalendar unsupportedRow valueFault componentsOf componentsIn itemsBelow treeOf itemsOf delimitedFrom badValueRow ruleRow ruleFault verdictOf verdictBy queryHolds componentTest componentHolds someComponent treeIn rangeHolds propertiesHold childrenHold hasChildComponent hasProperty someComponentNamed afterProperty mayBegin faultIn propertiesIn faultOr propertyValueOf beforeItems itemsGood withItems valueAs propertyOf componentScope scopeOf isEvent unlessZoned hasParameter parametersNamed timeFact timeIn timeOf readTime formOf hasTwice hasList someList timeBy readDateTime clockAt clockOf dateAt three yearAt joined pairAt digitPair checkedDay isDay monthDays lengthIn monthLengths timeAt checkedTime utcOf atSecond utcSecond since epoch dayNumber daysBeforeYear endingBy repeatBy eventMade eventWith eventFrom eventBy noProperties timeGiven durationGiven ruleGiven statusGiven transparencyGiven withProperty withSpan withBusy withProperties propertyValuesIn eventOf vEventsAs vEvents vEventOf breaksRule firstFault brokenOr isLeap yearDays beforeIn daysBeforeMonth someOf isEmpty twoOrMore hasRule otherKind overrideBreaks eventBreaks breaksAlone mastersClash overridesClash misnames misplaced overrideMisplaced breaksBeside breaks isMaster isOverride hasUid sharesUid masterOf uidsBy recurrenceIdsBy exceptionsBy uidsIn recurrenceIdsIn exceptionsIn identityIn identityOf
 edges = (refl, (refl, (refl, (refl, (refl, (refl, (refl, (refl, (refl, (refl, (refl, (refl, (refl, (refl, (refl, (refl, (refl, tt)))))))))))))))))

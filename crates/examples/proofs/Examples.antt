@@ -29,7 +29,7 @@ use Rattle.periods.specs.declared.Period.{Period}
 use Rattle.periods.specs.declared.BusyType.{BusyType}
 use Rattle.values.specs.Period.{utcBy, utcAt, endBy as periodEnd, periodTo, periodFrom, periodOf, periodItems, allPeriods, goodPeriods}
 use Rattle.values.specs.Rule.{numberTo, frequencyPart, intervalBy as intervalPart, countBy, namedPart, partOf, noParts, withPart, withParts, ruleBy, ruleOf}
-use Rattle.values.specs.Times.{atSecond, timeBy, readTime, formOf, timeOf, utcOnly}
+use Rattle.values.specs.Times.{utcOf, atSecond, timeBy, readTime, formOf, timeOf, utcOnly}
 use Rattle.property.specs.Properties.{propertyOf, timeIn, timeFact, unlessZoned, durationBy, ruleValue, busyNamed, busyOf, typeValue, valueAs, propertyValueOf, beforeItems, itemsGood, withItems}
 use Rattle.nesting.specs.Nesting.{afterBegin, afterEnd, afterProperty, walk, outcome, nestingOf}
 use Rattle.nesting.specs.Components.{delimitedFrom, itemsOf, treeOf, componentsIn, propertiesIn, itemsBelow}
@@ -252,5 +252,5 @@ all-hold (c ∷ cs) h = (sound c (and-left (test c) (tests cs) h), all-hold cs (
 
 -- document 01, Examples at the edges, and R-2: every row holds
 pub edges : All table
-unfolding table calendarBytes meaningWith eventWith blockWith startingAt lasting isFault startsAt hasLength ofEvent ofBlock ofEntries inRange inBlock isLast hasPeriods tests test isUtc samePeriod samePeriods isDigit upper sameName firstOutside before after splitParts headOf valueOf nameOf parameterTexts lineOf parametersNamed someList hasParameter hasTwice hasList digitPair pairAt joined yearAt checkedDay three dateAt checkedTime timeAt clockOf clockAt readDateTime isLeap yearDays daysBeforeYear monthLengths lengthIn beforeIn monthDays daysBeforeMonth dayNumber isDay timeStart nextStage weightOf blank withDigit fitting unitTo withUnit step textRuns finish durationText durationSeconds withinLimit limited readDuration epoch since utcSecond propertyOf timeIn timeFact unlessZoned durationBy valueAs propertyValueOf beforeItems itemsGood withItems atSecond timeBy readTime formOf timeOf utcOnly reportPlace sameBusy faultOr byValues secondIn covers lead leadIf runs firstAt spanOf startsBefore stepOf startOf repeats among clockAmong isInstance occurs defaultLength lengthBy isZeroLength endOf endsAfter instanceIn overlaps betweenIn periodsOverlap boundsIn blockIn statedPeriods instancePeriods gathered busyPeriods ofType coveredBy covered isLetter isNameByte isControl isName isBreak isBlank isFold unfolded cut contentLines scanStep isEnding scan isWellFormed lineCheckFrom lineCheck plainSplit valuesNamed firstValue delimiterOf isCalendar isEvent isFreeBusy mayBegin afterBegin afterEnd afterProperty walk outcome nestingOf delimitedFrom itemsOf treeOf componentsIn propertiesIn itemsBelow scopeOf componentScope propertyValuesIn faultIn valueFault eventOf blockOf vEventsAs vEvents vEventOf breaksRule brokenOr firstFault ruleFault periodsBy blockPeriods removedFrom entryOf entriesAmong entriesOf fileLines componentsOf byRules byLines contentsOf meaningOf noProperties timeGiven durationGiven ruleGiven withProperty withSpan withBusy withProperties kindNumber sameKind isDate statedEnd statedDuration endingBy limitBy repeatBy daysBy intervalBy busyByStatus busyBy eventMade eventEnding eventFrom eventBy blockBetween blockFrom blockBy ruleValue busyNamed busyOf typeValue utcBy utcAt periodEnd periodTo periodFrom periodOf periodItems allPeriods goodPeriods numberTo frequencyPart intervalPart countBy namedPart partOf noParts withPart withParts ruleBy ruleOf decimal pooled hasRule otherKind overrideBreaks eventBreaks breaksAlone mastersClash overridesClash misnames misplaced overrideMisplaced breaksBeside breaks firstBroken brokenLine isMaster isOverride hasUid sharesUid masterOf uidsBy recurrenceIdsBy exceptionsBy uidsIn recurrenceIdsIn exceptionsIn identityIn identityOf removedAs faultOf structureFault exceptionsBy′ unlessRanged statusNamed isStart givesPeriods timeItems allTimes goodTimes secondsOf kindNumber′ sameKind′ withKind withKinds numberAt namesInstance movedFrom removedFrom′ some isEmpty twoOrMore
+unfolding table calendarBytes meaningWith eventWith blockWith startingAt lasting isFault startsAt hasLength ofEvent ofBlock ofEntries inRange inBlock isLast hasPeriods tests test isUtc samePeriod samePeriods isDigit upper sameName firstOutside before after splitParts headOf valueOf nameOf parameterTexts lineOf parametersNamed someList hasParameter hasTwice hasList digitPair pairAt joined yearAt checkedDay three dateAt checkedTime timeAt clockOf clockAt readDateTime isLeap yearDays daysBeforeYear monthLengths lengthIn beforeIn monthDays daysBeforeMonth dayNumber isDay timeStart nextStage weightOf blank withDigit fitting unitTo withUnit step textRuns finish durationText durationSeconds withinLimit limited readDuration epoch since utcSecond propertyOf timeIn timeFact unlessZoned durationBy valueAs propertyValueOf beforeItems itemsGood withItems utcOf atSecond timeBy readTime formOf timeOf utcOnly reportPlace sameBusy faultOr byValues secondIn covers lead leadIf runs firstAt spanOf startsBefore stepOf startOf repeats among clockAmong isInstance occurs defaultLength lengthBy isZeroLength endOf endsAfter instanceIn overlaps betweenIn periodsOverlap boundsIn blockIn statedPeriods instancePeriods gathered busyPeriods ofType coveredBy covered isLetter isNameByte isControl isName isBreak isBlank isFold unfolded cut contentLines scanStep isEnding scan isWellFormed lineCheckFrom lineCheck plainSplit valuesNamed firstValue delimiterOf isCalendar isEvent isFreeBusy mayBegin afterBegin afterEnd afterProperty walk outcome nestingOf delimitedFrom itemsOf treeOf componentsIn propertiesIn itemsBelow scopeOf componentScope propertyValuesIn faultIn valueFault eventOf blockOf vEventsAs vEvents vEventOf breaksRule brokenOr firstFault ruleFault periodsBy blockPeriods removedFrom entryOf entriesAmong entriesOf fileLines componentsOf byRules byLines contentsOf meaningOf noProperties timeGiven durationGiven ruleGiven withProperty withSpan withBusy withProperties kindNumber sameKind isDate statedEnd statedDuration endingBy limitBy repeatBy daysBy intervalBy busyByStatus busyBy eventMade eventEnding eventFrom eventBy blockBetween blockFrom blockBy ruleValue busyNamed busyOf typeValue utcBy utcAt periodEnd periodTo periodFrom periodOf periodItems allPeriods goodPeriods numberTo frequencyPart intervalPart countBy namedPart partOf noParts withPart withParts ruleBy ruleOf decimal pooled hasRule otherKind overrideBreaks eventBreaks breaksAlone mastersClash overridesClash misnames misplaced overrideMisplaced breaksBeside breaks firstBroken brokenLine isMaster isOverride hasUid sharesUid masterOf uidsBy recurrenceIdsBy exceptionsBy uidsIn recurrenceIdsIn exceptionsIn identityIn identityOf removedAs faultOf structureFault exceptionsBy′ unlessRanged statusNamed isStart givesPeriods timeItems allTimes goodTimes secondsOf kindNumber′ sameKind′ withKind withKinds numberAt namesInstance movedFrom removedFrom′ some isEmpty twoOrMore
 edges = all-hold table refl

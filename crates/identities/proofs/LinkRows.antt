@@ -11,12 +11,12 @@ use lib.ListN.{getD}
 use borrow.Author.Tests.{ltb-true, ltb-false}
 use Rattle.ascii.proofs.Rows.{Putting, putting-all}
 use Rattle.time.specs.declared.date_time.Kind.{Kind}
-use Rattle.values.specs.declared.times.Time.{Time}
 use Rattle.values.specs.declared.time_lists.Kinds.{Kinds}
 use Rattle.identities.specs.LinkRows.{UidSmall, RecurrenceSmall}
 use Rattle.identities.specs.LinkRows.{kindTag, kindsTag, uidNumbers, recurrenceNumbers, kindOf, kindsOf, uidOf, recurrenceOf}
 use Rattle.identities.specs.LinkRows.{linkRow, linkAt, LinkPut}
 use Rattle.identities.specs.declared.UidGiven.{UidGiven}
+use Rattle.identities.specs.declared.RecurrenceId.{RecurrenceId}
 use Rattle.identities.specs.declared.RecurrenceGiven.{RecurrenceGiven}
 use Rattle.identities.specs.declared.rows.Link.{Link}
 use Rattle.identities.specs.declared.rows.TaggedNumber.{TaggedNumber}
@@ -26,7 +26,7 @@ use Rattle.identities.specs.declared.rows.TaggedNumber.{TaggedNumber}
 pub line-small : {x : UidGiven} {n : ℕ} → x ≡ UidGiven.One n → UidSmall x → n < 4294967296
 line-small q h = subst (λ (x : UidGiven). UidSmall x) q h
 
-pub second-small : {x : RecurrenceGiven} {t : Time} → x ≡ RecurrenceGiven.One t → RecurrenceSmall x → t .second < 4294967296
+pub second-small : {x : RecurrenceGiven} {t : RecurrenceId} → x ≡ RecurrenceGiven.One t → RecurrenceSmall x → t .second < 4294967296
 second-small q h = subst (λ (x : RecurrenceGiven). RecurrenceSmall x) q h
 
 -- ---- writing a row

@@ -3,6 +3,7 @@ use Prim.Native.Nat.{ℕ}
 use Rattle.values.specs.declared.times.Time.{Time}
 use Rattle.values.specs.declared.time_lists.Kinds.{Kinds}
 use Rattle.identities.specs.declared.UidGiven.{UidGiven}
+use Rattle.identities.specs.declared.RecurrenceId.{RecurrenceId}
 use Rattle.identities.specs.declared.RecurrenceGiven.{RecurrenceGiven}
 use Rattle.identities.specs.declared.IdentityRead.{IdentityRead}
 
@@ -12,8 +13,12 @@ moreUids UidGiven.None n = UidGiven.One n
 moreUids (UidGiven.One m) n = UidGiven.Several
 moreUids UidGiven.Several n = UidGiven.Several
 
+-- what is kept of a RECURRENCE-ID
+abbrev pub recurrenceIdOf : Time → RecurrenceId
+recurrenceIdOf t = record { kind = t .kind; second = t .second }
+
 unfoldable pub moreRecurrences : RecurrenceGiven → Time → RecurrenceGiven
-moreRecurrences RecurrenceGiven.None t = RecurrenceGiven.One t
+moreRecurrences RecurrenceGiven.None t = RecurrenceGiven.One (recurrenceIdOf t)
 moreRecurrences (RecurrenceGiven.One s) t = RecurrenceGiven.Several
 moreRecurrences RecurrenceGiven.Several t = RecurrenceGiven.Several
 

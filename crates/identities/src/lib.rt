@@ -2,6 +2,7 @@
 // Of UID and RECURRENCE-ID one is kept, and whether there are several; the times of EXDATE stand in a column.
 pub mod rows;
 
+use time::date_time::Kind;
 use values::time_lists::Kinds;
 use values::times::Time;
 ghost use mathlib.Core.Path.{_≡_};
@@ -14,9 +15,15 @@ pub enum UidGiven {
     Several,
 }
 
+// What is kept of a RECURRENCE-ID: its kind, and the second that it names.
+pub struct RecurrenceId {
+    pub kind: Kind,
+    pub second: u64,
+}
+
 pub enum RecurrenceGiven {
     None,
-    One(Time),
+    One(RecurrenceId),
     Several,
 }
 
@@ -55,7 +62,11 @@ fn more_recurrences(recurrence: RecurrenceGiven, t: Time) -> RecurrenceGiven
     ensures { λ r. ⌜ r ≡ moreRecurrences recurrence t ⌝ }
 {
     match recurrence {
-        RecurrenceGiven::None => RecurrenceGiven::One(t),
+        RecurrenceGiven::None => {
+            let kind = t.kind;
+            let second = t.second;
+            RecurrenceGiven::One(RecurrenceId { kind, second })
+        }
         RecurrenceGiven::One(_) => RecurrenceGiven::Several,
         RecurrenceGiven::Several => RecurrenceGiven::Several,
     }

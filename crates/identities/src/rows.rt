@@ -1,10 +1,10 @@
 // What ties an event to others, as a row of eight numbers in lent memory: row k from place 8 * k on.
 // What is put to a row is read from it again, and the other rows are left as they were.
 use crate::RecurrenceGiven;
+use crate::RecurrenceId;
 use crate::UidGiven;
 use time::date_time::Kind;
 use values::time_lists::Kinds;
-use values::times::Time;
 ghost use mathlib.Core.Path.{_≡_};
 ghost use Prim.Native.Nat.{_+_, _*_, _≤_};
 ghost use lib.ListN.{length};
@@ -129,7 +129,7 @@ fn recurrence_of(tag: u32, number: u32) -> RecurrenceGiven
         return RecurrenceGiven::Several;
     }
     let kind = kind_of(tag);
-    RecurrenceGiven::One(Time {
+    RecurrenceGiven::One(RecurrenceId {
         kind,
         second: number as u64,
     })

@@ -52,9 +52,9 @@ kind-number Kind.Utc = refl
 kind-number Kind.Floating = refl
 kind-number Kind.Date = refl
 
-other-kind-iff : (e : Event) (t : Time) → (otherKind e t ≡ false) ↔ (t .kind ≡ e .kind)
+other-kind-iff : (e : Event) (k : Kind) → (otherKind e k ≡ false) ↔ (k ≡ e .kind)
 unfolding otherKind
-other-kind-iff e t = (λ h. same-kind-iff (t .kind) (e .kind) .0 (not-false _ h), λ q. ap not (same-kind-iff (t .kind) (e .kind) .1 q))
+other-kind-iff e k = (λ h. same-kind-iff k (e .kind) .0 (not-false _ h), λ q. ap not (same-kind-iff k (e .kind) .1 q))
 
 no-rule-iff : (r : Repeat) → (hasRule r ≡ false) ↔ (r ≡ Repeat.Once)
 unfolding hasRule
@@ -97,14 +97,14 @@ event-keeps v (EventRead.Of e) q u h =
       its-event = e;
       is-event = q;
       few-uids = one-iff (v .uids) .0 u;
-      exceptions-kind = λ t m. other-kind-iff e t .0 (none-iff (otherKind e) (v .exceptions) .0 (or-left _ (isOverride v && overrideBreaks v e) h) t m);
-      as-override = λ o. override-alone-iff v e o .0 (when-override v _ (or-right (some (otherKind e) (v .exceptions)) _ h) o);
+      exceptions-kind = λ t m. other-kind-iff e (t .kind) .0 (none-iff (λ t. otherKind e (t .kind)) (v .exceptions) .0 (or-left _ (isOverride v && overrideBreaks v e) h) t m);
+      as-override = λ o. override-alone-iff v e o .0 (when-override v _ (or-right (some (λ t. otherKind e (t .kind)) (v .exceptions)) _ h) o);
     }
 
 keeps-event : (v : VEvent) (k : KeepsAlone v) → eventBreaks v (EventRead.Of (k .its-event)) ≡ false
 unfolding eventBreaks
 keeps-event v k =
-    or-neither (none-iff (otherKind (k .its-event)) (v .exceptions) .1 (λ t m. other-kind-iff (k .its-event) t .1 (k .exceptions-kind t m)))
+    or-neither (none-iff (λ t. otherKind (k .its-event) (t .kind)) (v .exceptions) .1 (λ t m. other-kind-iff (k .its-event) (t .kind) .1 (k .exceptions-kind t m)))
     (not-so _ (λ q.
     let o = override-iff v .0 (and-left (isOverride v) _ q) in
     clash (and-right (isOverride v) _ q) (override-alone-iff v (k .its-event) o .1 (k .as-override o))))
@@ -120,45 +120,45 @@ alone-iff v = (
 
 -- ---- against the master
 
-fits-iff : (m : VEvent) (e : Event) (t : Time) → (misnames m (EventRead.Of e) t ≡ false) ↔ FitsMaster m e t
+fits-iff : (m : VEvent) (e : Event) (t : Time) → (misnames m (EventRead.Of e) (t .kind) (t .second) ≡ false) ↔ FitsMaster m e t
 unfolding misnames
 fits-iff m e t = (
   λ h.
-      let a : (otherKind e t || not (namesInstance e (t .second))) ≡ false = or-left _ (among (t .second) (secondsOf (m .exceptions))) h in
+      let a : (otherKind e (t .kind) || not (namesInstance e (t .second))) ≡ false = or-left _ (among (t .second) (secondsOf (m .exceptions))) h in
       record {
-        same-kind = other-kind-iff e t .0 (or-left _ (not (namesInstance e (t .second))) a);
-        names = names-iff e (t .second) .0 (not-false _ (or-right (otherKind e t) _ a));
+        same-kind = other-kind-iff e (t .kind) .0 (or-left _ (not (namesInstance e (t .second))) a);
+        names = names-iff e (t .second) .0 (not-false _ (or-right (otherKind e (t .kind)) _ a));
         not-excluded = λ i. clash (among-iff (t .second) (secondsOf (m .exceptions)) .1 i)
-            (or-right (otherKind e t || not (namesInstance e (t .second))) _ h);
+            (or-right (otherKind e (t .kind) || not (namesInstance e (t .second))) _ h);
       },
   λ f.
-      or-neither (or-neither (other-kind-iff e t .1 (f .same-kind)) (ap not (names-iff e (t .second) .1 (f .names))))
+      or-neither (or-neither (other-kind-iff e (t .kind) .1 (f .same-kind)) (ap not (names-iff e (t .second) .1 (f .names))))
       (not-so _ (λ q. f .not-excluded (among-iff (t .second) (secondsOf (m .exceptions)) .0 q))),
 )
 
 -- asked of a master that keeps its own rules
-fits-alone : (m : VEvent) (t : Time) → misplaced t (found m) ≡ false → (k : KeepsAlone m) → FitsMaster m (k .its-event) t
+fits-alone : (m : VEvent) (t : Time) → misplaced (t .kind) (t .second) (found m) ≡ false → (k : KeepsAlone m) → FitsMaster m (k .its-event) t
 unfolding misplaced
 fits-alone m t h k =
     let a : not (breaksAlone m) ≡ true = ap not (alone-iff m .1 k) in
-    fits-iff m (k .its-event) t .0 (ap (λ (x : EventRead). misnames m x t) (sym (k .is-event)) ∙ not-so _ (λ q. clash (and-both a q) h))
+    fits-iff m (k .its-event) t .0 (ap (λ (x : EventRead). misnames m x (t .kind) (t .second)) (sym (k .is-event)) ∙ not-so _ (λ q. clash (and-both a q) h))
 
-alone-fits : (m : VEvent) (t : Time) → ((k : KeepsAlone m) → FitsMaster m (k .its-event) t) → misplaced t (found m) ≡ false
+alone-fits : (m : VEvent) (t : Time) → ((k : KeepsAlone m) → FitsMaster m (k .its-event) t) → misplaced (t .kind) (t .second) (found m) ≡ false
 unfolding misplaced
 alone-fits m t f =
     not-so _ (λ q.
     let k = alone-iff m .0 (not-true _ (and-left (not (breaksAlone m)) _ q)) in
-    clash (and-right (not (breaksAlone m)) _ q) (ap (λ (x : EventRead). misnames m x t) (k .is-event) ∙ fits-iff m (k .its-event) t .1 (f k)))
+    clash (and-right (not (breaksAlone m)) _ q) (ap (λ (x : EventRead). misnames m x (t .kind) (t .second)) (k .is-event) ∙ fits-iff m (k .its-event) t .1 (f k)))
 
-placed-by : (all : List VEvent) (u : List ℕ) (t : Time) (x : MasterFound) → masterOf u all ≡ x → misplaced t x ≡ false → HasMaster all u t
+placed-by : (all : List VEvent) (u : List ℕ) (t : Time) (x : MasterFound) → masterOf u all ≡ x → misplaced (t .kind) (t .second) x ≡ false → HasMaster all u t
 unfolding misplaced
 placed-by all u t nowhere q h = clash refl h
 placed-by all u t (found m) q h = record { master = m; is-first = first-master-iff u all m .0 q; fits = fits-alone m t h }
 
-placed-iff : (all : List VEvent) (u : List ℕ) (t : Time) → (misplaced t (masterOf u all) ≡ false) ↔ HasMaster all u t
+placed-iff : (all : List VEvent) (u : List ℕ) (t : Time) → (misplaced (t .kind) (t .second) (masterOf u all) ≡ false) ↔ HasMaster all u t
 placed-iff all u t = (
   λ h. placed-by all u t (masterOf u all) refl h,
-  λ p. ap (misplaced t) (first-master-iff u all (p .master) .1 (p .is-first)) ∙ alone-fits (p .master) t (p .fits),
+  λ p. ap (misplaced (t .kind) (t .second)) (first-master-iff u all (p .master) .1 (p .is-first)) ∙ alone-fits (p .master) t (p .fits),
 )
 
 masters-iff : (all : List VEvent) (v : VEvent)
@@ -168,11 +168,11 @@ unfolding overrideMisplaced
 masters-iff all v = (
   λ h t u i j.
       placed-iff all u t .0
-      (none-iff (λ w. misplaced t (masterOf w all)) (v .uids) .0
-      (none-iff (λ x. some (λ w. misplaced x (masterOf w all)) (v .uids)) (v .recurrenceIds) .0 h t i) u j),
+      (none-iff (λ w. misplaced (t .kind) (t .second) (masterOf w all)) (v .uids) .0
+      (none-iff (λ x. some (λ w. misplaced (x .kind) (x .second) (masterOf w all)) (v .uids)) (v .recurrenceIds) .0 h t i) u j),
   λ f.
-      none-iff (λ x. some (λ w. misplaced x (masterOf w all)) (v .uids)) (v .recurrenceIds) .1
-      (λ t i. none-iff (λ w. misplaced t (masterOf w all)) (v .uids) .1 (λ u j. placed-iff all u t .1 (f t u i j))),
+      none-iff (λ x. some (λ w. misplaced (x .kind) (x .second) (masterOf w all)) (v .uids)) (v .recurrenceIds) .1
+      (λ t i. none-iff (λ w. misplaced (t .kind) (t .second) (masterOf w all)) (v .uids) .1 (λ u j. placed-iff all u t .1 (f t u i j))),
 )
 
 -- ---- clashes

@@ -9,13 +9,13 @@ use Rattle.ascii.specs.Words.{ascii}
 use Rattle.time.specs.declared.date_time.Kind.{Kind}
 use Rattle.periods.specs.declared.BusyType.{BusyType}
 use Rattle.periods.specs.BusyTypes.{isBusy}
+use Rattle.time.specs.Limits.{epoch}
 use Rattle.values.specs.declared.times.Time.{Time}
 use Rattle.events.specs.declared.Ending.{Ending}
 use Rattle.events.specs.declared.Repeat.{Repeat}
 use Rattle.events.specs.declared.Event.{Event}
 use Rattle.events.specs.declared.EventRead.{EventRead}
 use Rattle.recurrence.specs.Instances.{startOf, occurs}
-use Rattle.time.specs.Limits.{epoch}
 use Rattle.recurrence.specs.TimeRange.{EventIn}
 use Rattle.overrides.specs.VEvents.{VEvent}
 use Rattle.overrides.specs.Instances.{removedFrom}
@@ -88,15 +88,19 @@ All (c ∷ cs) = Holds c × All cs
 unfoldable pub at : ℕ → ℕ → ℕ
 at d h = 1_709_164_800 + d * 86_400 + h * 3_600
 
+-- the time of a kind at a second, where the offset is 0
+abbrev pub timeAt : Kind → ℕ → Time
+timeAt k s = record { kind = k; clock = s + epoch; second = s }
+
 -- day d at 08:00, and the DATE of day d
 unfoldable pub utc : ℕ → Time
-utc d = record { kind = Kind.Utc; second = at d 8 }
+utc d = timeAt Kind.Utc (at d 8)
 
 unfoldable pub floating : ℕ → Time
-floating d = record { kind = Kind.Floating; second = at d 8 }
+floating d = timeAt Kind.Floating (at d 8)
 
 unfoldable pub date : ℕ → Time
-date d = record { kind = Kind.Date; second = at d 0 }
+date d = timeAt Kind.Date (at d 0)
 
 -- 08:00 of these days
 unfoldable pub mornings : List ℕ → List ℕ
@@ -207,7 +211,7 @@ table =
     ∷ refused 8 (master "u" ∷ override "u" (utc 20) ∷ [])
     ∷ refused 8 (master "u" ∷ override "u" (utc 16) ∷ [])
     ∷ refused 8 (master "u" ∷ override "u" (utc 10) ∷ [])
-    ∷ refused 8 (master "u" ∷ override "u" (record { kind = Kind.Utc; second = at 12 9 }) ∷ [])
+    ∷ refused 8 (master "u" ∷ override "u" (timeAt Kind.Utc (at 12 9)) ∷ [])
     ∷ refused 7 (wholeDays ∷ later ∷ [])
     -- two overrides of one second: the later offends
     ∷ refused 14 (master "u" ∷ later ∷ later ∷ [])

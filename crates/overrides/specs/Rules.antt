@@ -4,7 +4,7 @@ use Prim.Native.Nat.{ℕ}
 use mathlib.Core.Bool.{Bool, true, false, cond, not, _&&_, _||_}
 use mathlib.Core.List.{List, [], _∷_, _++_}
 use Rattle.seconds.specs.Seconds.{among}
-use Rattle.values.specs.declared.times.Time.{Time}
+use Rattle.time.specs.declared.date_time.Kind.{Kind}
 use Rattle.values.specs.TimeLists.{secondsOf, sameKind}
 use Rattle.events.specs.declared.Event.{Event}
 use Rattle.events.specs.declared.Repeat.{Repeat}
@@ -22,9 +22,9 @@ hasRule Repeat.Forever = true
 hasRule (Repeat.Count n) = true
 hasRule (Repeat.Until t) = true
 
--- the time and DTSTART differ in kind
-unfoldable pub otherKind : Event → Time → Bool
-otherKind e t = not (sameKind (t .kind) (e .kind))
+-- a time of this kind and DTSTART differ in kind
+unfoldable pub otherKind : Event → Kind → Bool
+otherKind e k = not (sameKind k (e .kind))
 
 -- an override: no UID, a second RECURRENCE-ID, an EXDATE or an RRULE beside it
 unfoldable pub overrideBreaks : VEvent → Event → Bool
@@ -33,7 +33,7 @@ overrideBreaks v e = isEmpty (v .uids) || twoOrMore (v .recurrenceIds) || not (i
 -- by its event: the rules of document 01, and the kinds of exceptions
 unfoldable pub eventBreaks : VEvent → EventRead → Bool
 eventBreaks v EventRead.Broken = true
-eventBreaks v (EventRead.Of e) = some (otherKind e) (v .exceptions) || isOverride v && overrideBreaks v e
+eventBreaks v (EventRead.Of e) = some (λ t. otherKind e (t .kind)) (v .exceptions) || isOverride v && overrideBreaks v e
 
 -- any VEVENT: a second UID too
 unfoldable pub breaksAlone : VEvent → Bool
@@ -49,20 +49,19 @@ mastersClash v w = isMaster v && isMaster w && sharesUid v w
 unfoldable pub overridesClash : VEvent → VEvent → Bool
 overridesClash v w = sharesUid v w && some (λ t. among (t .second) (secondsOf (w .recurrenceIds))) (v .recurrenceIds)
 
--- a RECURRENCE-ID does not fit the event of the master m: its kind is another, no instance starts there, or it is excluded
-unfoldable pub misnames : VEvent → EventRead → Time → Bool
-misnames m EventRead.Broken t = false
-misnames m (EventRead.Of e) t =
-    otherKind e t || not (namesInstance e (t .second)) || among (t .second) (secondsOf (m .exceptions))
+-- a RECURRENCE-ID of kind k at second s does not fit the event of the master m: its kind is another, no instance starts there, or it is excluded
+unfoldable pub misnames : VEvent → EventRead → Kind → ℕ → Bool
+misnames m EventRead.Broken k s = false
+misnames m (EventRead.Of e) k s = otherKind e k || not (namesInstance e s) || among s (secondsOf (m .exceptions))
 
 -- a RECURRENCE-ID must have a master; one that breaks a rule by itself is not asked further
-unfoldable pub misplaced : Time → MasterFound → Bool
-misplaced t nowhere = true
-misplaced t (found m) = not (breaksAlone m) && misnames m (m .event) t
+unfoldable pub misplaced : Kind → ℕ → MasterFound → Bool
+misplaced k s nowhere = true
+misplaced k s (found m) = not (breaksAlone m) && misnames m (m .event) k s
 
 -- an override, for each RECURRENCE-ID and each UID that it has
 unfoldable pub overrideMisplaced : List VEvent → VEvent → Bool
-overrideMisplaced all v = some (λ t. some (λ u. misplaced t (masterOf u all)) (v .uids)) (v .recurrenceIds)
+overrideMisplaced all v = some (λ t. some (λ u. misplaced (t .kind) (t .second) (masterOf u all)) (v .uids)) (v .recurrenceIds)
 
 -- v clashes with one before it, or names nothing of a master that may stand anywhere in the file
 unfoldable pub breaksBeside : List VEvent → List VEvent → VEvent → Bool

@@ -1,6 +1,6 @@
 -- A report's bytes, read as a calendar, are one block with exactly the periods that they were written from:
 -- what each line of the block says, the periods of a busy type, and the theorem.
-use Prim.Native.Nat.{ℕ, suc, _≤_, _<_}
+use Prim.Native.Nat.{ℕ, suc, _+_, _≤_, _<_}
 use mathlib.Core.Path.{_≡_, refl, ap, _∙_}
 use mathlib.Core.Bool.{cond, Bool, true, false}
 use mathlib.Core.List.{List, [], _∷_, _++_, map, append-nil}
@@ -10,7 +10,7 @@ use Rattle.ascii.specs.Names.{sameName}
 use Rattle.ascii.specs.Words.{ascii}
 use Rattle.ascii.proofs.Bools.{clash}
 use Rattle.time.specs.Writing.{utcText}
-use Rattle.time.specs.Limits.{lastSecond}
+use Rattle.time.specs.Limits.{epoch, lastSecond}
 use Rattle.time.specs.declared.date_time.Kind.{Kind}
 use Rattle.time.proofs.WritingLaws.{read-written}
 use Rattle.time.proofs.LimitsLaws.{second-written}
@@ -20,7 +20,7 @@ use Rattle.periods.specs.BusyTypes.{BusyPeriod, typed, reportPlace, isBusy, sam
 use Rattle.line.specs.Reading.{parametersNamed, someList, pooled, valuesNamed, hasParameter, hasTwice, hasList, firstValue}
 use Rattle.delimiters.specs.Innermost.{isEvent, isFreeBusy}
 use Rattle.values.specs.Period.{periodItems, allPeriods, goodPeriods}
-use Rattle.values.specs.Times.{atSecond, timeBy, readTime, formOf, timeOf, utcOnly}
+use Rattle.values.specs.Times.{utcOf, atSecond, timeBy, readTime, formOf, timeOf, utcOnly}
 use Rattle.values.specs.declared.period.PeriodRead.{PeriodRead}
 use Rattle.values.specs.declared.times.Context.{Context}
 use Rattle.values.specs.declared.times.Time.{Time}
@@ -54,11 +54,11 @@ use Rattle.readback.proofs.ReadingNested.{blockComponent, flat-properti
 
 -- a second of a UTC value
 abbrev pub utcTime : ℕ → Time
-utcTime t = record { kind = Kind.Utc; second = t }
+utcTime t = record { kind = Kind.Utc; clock = t + epoch; second = t }
 
 -- a written time with no parameter reads as its second, whatever the name of its line
 time-read : (c : Context) (n : List ℕ) (t : ℕ) → t ≤ lastSecond → timeOf c (plainLine n (utcText t)) ≡ TimeRead.Of (utcTime t)
-unfolding timeOf formOf hasTwice hasList hasParameter parametersNamed someList readTime timeBy atSecond
+unfolding timeOf formOf hasTwice hasList hasParameter parametersNamed someList readTime timeBy utcOf atSecond
 time-read c n t h = rw (read-written t h, second-written t (c .shift) h)
 
 pub stamp-value : (c : Context) (v : List ℕ) → propertyValueOf c Scope.FreeBusy (plainLine (ascii "DTSTAMP") v) ≡ unread

@@ -2,7 +2,7 @@
 use Prim.Native.Nat.{ℕ, _+_, _*_, _-_, _≤_, _<_}
 use mathlib.Core.Path.{_≡_, refl, sym, ap, subst, _∙_}
 use mathlib.Core.Bool.{Bool, true, false, cond, not, _&&_, _||_, and-false}
-use mathlib.Core.List.{List, [], _∷_, List·Memᴰ, List·Memᴰ·head}
+use mathlib.Core.List.{List, [], _∷_}
 use native.Mathlib.Omega.{arith}
 use borrow.Author.Tests.{eq-eqb, ne-eqb}
 use lib.Dec.{eqb}
@@ -32,12 +32,14 @@ use Rattle.calendar.proofs.Meaning.{eventOf-small}
 use Rattle.calendar.proofs.Identities.{identity-small}
 use Rattle.identities.specs.LinkRows.{linkAt}
 use Rattle.identities.specs.declared.UidGiven.{UidGiven}
+use Rattle.identities.specs.declared.RecurrenceId.{RecurrenceId}
 use Rattle.identities.specs.declared.RecurrenceGiven.{RecurrenceGiven}
 use Rattle.identities.specs.declared.rows.Link.{Link}
 use Rattle.series.specs.Identities.{UidTies, RecurrenceTies}
 use Rattle.series.specs.LinkRows.{LinkStands}
 use Rattle.series.specs.VEventRows.{vEventsBefore, isMasterOf, names, Tied, MasterIs, is-none, is-at}
 use Rattle.series.specs.Prints.{Printed, Unshared}
+use Rattle.series.proofs.MasterLaws.{one-second}
 use Rattle.series.proofs.PrintLaws.{print-new, compared}
 use Rattle.series.specs.Beside.{excludedAt, misfits, MasterKnown, Linked, Unbroken}
 use Rattle.series.specs.declared.masters.MasterRow.{MasterRow}
@@ -73,14 +75,14 @@ among-none {l} {x} {i} g h = sym (ap (among x) (drop-end l i h)) ∙ g .left
 
 -- ---- against the row of a master
 
-module _ (l : Link) (e : Event) (xs : List ℕ) (t : Time) where
+module _ (l : Link) (e : Event) (xs : List ℕ) (t : RecurrenceId) where
   pub fit-broken : l .broken ≡ true → false ≡ misfits l e xs t
   unfolding misfits
-  fit-broken h = sym (ap (λ (b : Bool). not b && (otherKind e t || not (namesInstance e (t .second)) || among (t .second) xs)) h)
+  fit-broken h = sym (ap (λ (b : Bool). not b && (otherKind e (t .kind) || not (namesInstance e (t .second)) || among (t .second) xs)) h)
 
-  sound : l .broken ≡ false → (otherKind e t || not (namesInstance e (t .second)) || among (t .second) xs) ≡ misfits l e xs t
+  sound : l .broken ≡ false → (otherKind e (t .kind) || not (namesInstance e (t .second)) || among (t .second) xs) ≡ misfits l e xs t
   unfolding misfits
-  sound h = sym (ap (λ (b : Bool). not b && (otherKind e t || not (namesInstance e (t .second)) || among (t .second) xs)) h)
+  sound h = sym (ap (λ (b : Bool). not b && (otherKind e (t .kind) || not (namesInstance e (t .second)) || among (t .second) xs)) h)
 
   pub fit-kind : l .broken ≡ false → sameKind (t .kind) (e .kind) ≡ false → true ≡ misfits l e xs t
   unfolding otherKind
@@ -104,7 +106,7 @@ module _ (l : Link) (e : Event) (xs : List ℕ) (t : Time) where
       ∙ sound h
 
 -- the same by what was read of the row
-module _ (entries links exceptions : List ℕ) (k : ℕ) (t : Time) {l : Link} (q : l ≡ linkAt links k) where
+module _ (entries links exceptions : List ℕ) (k : ℕ) (t : RecurrenceId) {l : Link} (q : l ≡ linkAt links k) where
   pub misfit-broken : l .broken ≡ true → false ≡ misfits (linkAt links k) (eventAt entries k) (excludedAt links exceptions k) t
   misfit-broken h = fit-broken (linkAt links k) (eventAt entries k) (excludedAt links exceptions k) t (ap (λ (x : Link). x .broken) (sym q) ∙ h)
 
@@ -176,39 +178,39 @@ one-before u vs h = sym (ap isFound h) ∙ found-some u vs
 
 -- ---- a RECURRENCE-ID against it
 
-module _ {c : Context} {s rows entries links exceptions : List ℕ} {k : ℕ} (g : LinkStands c s rows entries links exceptions k) (t : Time) where
+module _ {c : Context} {s rows entries links exceptions : List ℕ} {k : ℕ} (g : LinkStands c s rows entries links exceptions k) (t : RecurrenceId) where
   abbrev v : VEvent
   v = vEventOf c (componentBy s rows k)
 
   names-same : linkAt links k .broken ≡ false
-      → (otherKind (eventAt entries k) t || not (namesInstance (eventAt entries k) (t .second)) || among (t .second) (excludedAt links exceptions k)) ≡ misnames v (v .event) t
+      → (otherKind (eventAt entries k) (t .kind) || not (namesInstance (eventAt entries k) (t .second)) || among (t .second) (excludedAt links exceptions k)) ≡ misnames v (v .event) (t .kind) (t .second)
   unfolding misnames vEventOf excludedAt
   names-same h =
-      ap (λ (xs : List ℕ). otherKind (eventAt entries k) t || not (namesInstance (eventAt entries k) (t .second)) || among (t .second) xs) (g .excluded)
-      ∙ sym (ap (λ (x : EventRead). misnames v x t) (g .event-is h))
+      ap (λ (xs : List ℕ). otherKind (eventAt entries k) (t .kind) || not (namesInstance (eventAt entries k) (t .second)) || among (t .second) xs) (g .excluded)
+      ∙ sym (ap (λ (x : EventRead). misnames v x (t .kind) (t .second)) (g .event-is h))
 
-  fits-same : misfits (linkAt links k) (eventAt entries k) (excludedAt links exceptions k) t ≡ (not (breaksAlone v) && misnames v (v .event) t)
+  fits-same : misfits (linkAt links k) (eventAt entries k) (excludedAt links exceptions k) t ≡ (not (breaksAlone v) && misnames v (v .event) (t .kind) (t .second))
   unfolding misfits
   fits-same = go (linkAt links k .broken) refl (g .broken-is)
     where
       go : (b : Bool) → linkAt links k .broken ≡ b → linkAt links k .broken ≡ breaksAlone v
-          → (not (linkAt links k .broken) && (otherKind (eventAt entries k) t || not (namesInstance (eventAt entries k) (t .second)) || among (t .second) (excludedAt links exceptions k)))
-          ≡ (not (breaksAlone v) && misnames v (v .event) t)
+          → (not (linkAt links k .broken) && (otherKind (eventAt entries k) (t .kind) || not (namesInstance (eventAt entries k) (t .second)) || among (t .second) (excludedAt links exceptions k)))
+          ≡ (not (breaksAlone v) && misnames v (v .event) (t .kind) (t .second))
       go true p q =
-          ap (λ (b : Bool). not b && (otherKind (eventAt entries k) t || not (namesInstance (eventAt entries k) (t .second)) || among (t .second) (excludedAt links exceptions k))) p
-          ∙ sym (ap (λ (b : Bool). not b && misnames v (v .event) t) (sym q ∙ p))
+          ap (λ (b : Bool). not b && (otherKind (eventAt entries k) (t .kind) || not (namesInstance (eventAt entries k) (t .second)) || among (t .second) (excludedAt links exceptions k))) p
+          ∙ sym (ap (λ (b : Bool). not b && misnames v (v .event) (t .kind) (t .second)) (sym q ∙ p))
       go false p q =
           ap (λ (b : Bool). not (linkAt links k .broken) && b) (names-same p)
-          ∙ ap (λ (b : Bool). not b && misnames v (v .event) t) q
+          ∙ ap (λ (b : Bool). not b && misnames v (v .event) (t .kind) (t .second)) q
 
   pub place-at : (u : List ℕ) (m : ℕ) {r : Bool} → masterOf u (vEventsBefore c s rows m) ≡ found v → r ≡ misfits (linkAt links k) (eventAt entries k) (excludedAt links exceptions k) t
-      → r ≡ misplaced t (masterOf u (vEventsBefore c s rows m))
+      → r ≡ misplaced (t .kind) (t .second) (masterOf u (vEventsBefore c s rows m))
   unfolding misplaced
-  place-at u m h p = p ∙ fits-same ∙ sym (ap (misplaced t) h)
+  place-at u m h p = p ∙ fits-same ∙ sym (ap (misplaced (t .kind) (t .second)) h)
 
-pub place-none : (t : Time) {f : MasterFound} → f ≡ nowhere → true ≡ misplaced t f
+pub place-none : (t : RecurrenceId) {f : MasterFound} → f ≡ nowhere → true ≡ misplaced (t .kind) (t .second) f
 unfolding misplaced
-place-none t h = sym (ap (misplaced t) h)
+place-none t h = sym (ap (misplaced (t .kind) (t .second)) h)
 
 pub master-known : {c : Context} {s index rows entries links exceptions : List ℕ} {m : ℕ} → Linked c s index rows entries links exceptions m → {k : ℕ} → k < m
     → getD rows (4 * k + 3) 0 ≡ 1 → MasterKnown entries links exceptions k
@@ -244,7 +246,7 @@ module _ (before all : List VEvent) (v : VEvent) where
       (or-neither
       (some-never (λ w. ap (λ (b : Bool). isMaster v && isMaster w && b) (shares w) ∙ and-false (isMaster v && isMaster w)) before)
       (some-never (λ w. ap (λ (b : Bool). b && some (λ t. among (t .second) (secondsOf (w .recurrenceIds))) (v .recurrenceIds)) (shares w)) before))
-      (some-never (λ t. ap (some (λ u. misplaced t (masterOf u all))) h) (v .recurrenceIds)))
+      (some-never (λ t. ap (some (λ u. misplaced (t .kind) (t .second) (masterOf u all))) h) (v .recurrenceIds)))
 
   module _ (u : List ℕ) (h : v .uids ≡ u ∷ []) where
     shares-one : (w : VEvent) → sharesUid v w ≡ hasUid u w
@@ -264,7 +266,7 @@ module _ (before all : List VEvent) (v : VEvent) where
         (λ w. ap (λ (ts : List Time). sharesUid v w && some (λ t. among (t .second) (secondsOf (w .recurrenceIds))) ts) n ∙ and-false (sharesUid v w))
         before
         in
-        let places : overrideMisplaced all v ≡ false = ap (some (λ t. some (λ x. misplaced t (masterOf x all)) (v .uids))) n in
+        let places : overrideMisplaced all v ≡ false = ap (some (λ t. some (λ x. misplaced (t .kind) (t .second) (masterOf x all)) (v .uids))) n in
         sym
         (ap (λ (b : Bool). b || some (overridesClash v) before || overrideMisplaced all v) masters
         ∙ ap (λ (b : Bool). some (isMasterOf u) before || b || overrideMisplaced all v) overrides
@@ -272,7 +274,7 @@ module _ (before all : List VEvent) (v : VEvent) where
         ∙ sym (or-nothing (some (isMasterOf u) before || false))
         ∙ sym (or-nothing (some (isMasterOf u) before)))
 
-    pub override-breaks : {t : Time} → v .recurrenceIds ≡ t ∷ [] → (some (names u (t .second)) before || misplaced t (masterOf u all)) ≡ breaksBeside before all v
+    pub override-breaks : {t : Time} → v .recurrenceIds ≡ t ∷ [] → (some (names u (t .second)) before || misplaced (t .kind) (t .second) (masterOf u all)) ≡ breaksBeside before all v
     unfolding breaksBeside mastersClash overridesClash overrideMisplaced names some isMaster isEmpty
     override-breaks {t} n =
         let masters : some (mastersClash v) before ≡ false = some-never (λ w. ap (λ (b : Bool). b && isMaster w && sharesUid v w) (ap isEmpty n)) before in
@@ -284,11 +286,11 @@ module _ (before all : List VEvent) (v : VEvent) where
         ∙ ap (λ (b : Bool). hasUid u w && b) (sym (or-nothing (among (t .second) (secondsOf (w .recurrenceIds))))))
         before
         in
-        let places : overrideMisplaced all v ≡ misplaced t (masterOf u all) =
-        ap (some (λ x. some (λ y. misplaced x (masterOf y all)) (v .uids))) n
-        ∙ sym (or-nothing (some (λ y. misplaced t (masterOf y all)) (v .uids)))
-        ∙ ap (some (λ y. misplaced t (masterOf y all))) h
-        ∙ sym (or-nothing (misplaced t (masterOf u all)))
+        let places : overrideMisplaced all v ≡ misplaced (t .kind) (t .second) (masterOf u all) =
+        ap (some (λ x. some (λ y. misplaced (x .kind) (x .second) (masterOf y all)) (v .uids))) n
+        ∙ sym (or-nothing (some (λ y. misplaced (t .kind) (t .second) (masterOf y all)) (v .uids)))
+        ∙ ap (some (λ y. misplaced (t .kind) (t .second) (masterOf y all))) h
+        ∙ sym (or-nothing (misplaced (t .kind) (t .second) (masterOf u all)))
         in
         sym
         (ap (λ (b : Bool). b || some (overridesClash v) before || overrideMisplaced all v) masters
@@ -318,7 +320,7 @@ one-recurrence v h = go (v .event) (or-right (twoOrMore (v .uids)) (eventBreaks 
     go EventRead.Broken h = clash refl h
     go (EventRead.Of e) h =
         few (v .recurrenceIds) (isEmpty (v .uids)) (not (isEmpty (v .exceptions))) (hasRule (e .repeat))
-        (or-right (some (otherKind e) (v .exceptions)) (isOverride v && overrideBreaks v e) h)
+        (or-right (some (λ t. otherKind e (t .kind)) (v .exceptions)) (isOverride v && overrideBreaks v e) h)
 
 -- ---- an event that is not broken by itself, by its link
 
@@ -353,8 +355,8 @@ module _ {c : Context} {s index rows entries links exceptions : List ℕ} {m k :
   unfolding vEventOf
   beside-several e = clash (uid-by e) (one-uid (vEventOf c x) keeps)
 
-  pub second-small : {t : Time} → l .recurrence ≡ RecurrenceGiven.One t → t .second ≤ lastSecond
-  second-small {t} e = identity-small c x .moved-small t (subst (List·Memᴰ t) (sym (moved-by e)) (List·Memᴰ·head refl))
+  pub second-small : {t : RecurrenceId} → l .recurrence ≡ RecurrenceGiven.One t → t .second ≤ lastSecond
+  second-small e = one-second (moved-by e) (identity-small c x .moved-small)
 
   pub by-several : l .recurrence ≡ RecurrenceGiven.Several → false ≡ breaksBeside (vEventsBefore c s rows k) (vEventsBefore c s rows m) (vEventOf c x)
   unfolding vEventOf
@@ -366,18 +368,23 @@ module _ {c : Context} {s index rows entries links exceptions : List ℕ} {m k :
     unfolding vEventOf
     by-master e z = z ∙ master-breaks (vEventsBefore c s rows k) (vEventsBefore c s rows m) (vEventOf c x) u p (moved-by e)
 
-    module _ {t : Time} (e : l .recurrence ≡ RecurrenceGiven.One t) {r : Bool} (z : r ≡ some (names u (t .second)) (vEventsBefore c s rows k)) where
-      either : (r || misplaced t (masterOf u (vEventsBefore c s rows m))) ≡ breaksBeside (vEventsBefore c s rows k) (vEventsBefore c s rows m) (vEventOf c x)
+    module _ {t : RecurrenceId} (e : l .recurrence ≡ RecurrenceGiven.One t) {r : Bool} (z : r ≡ some (names u (t .second)) (vEventsBefore c s rows k)) where
+      either : (r || misplaced (t .kind) (t .second) (masterOf u (vEventsBefore c s rows m))) ≡ breaksBeside (vEventsBefore c s rows k) (vEventsBefore c s rows m) (vEventOf c x)
       unfolding vEventOf
       either =
-          ap (λ (b : Bool). b || misplaced t (masterOf u (vEventsBefore c s rows m))) z
-          ∙ override-breaks (vEventsBefore c s rows k) (vEventsBefore c s rows m) (vEventOf c x) u p (moved-by e)
+          ap (λ (b : Bool). b || misplaced (t .kind) (t .second) (masterOf u (vEventsBefore c s rows m))) z
+          ∙ subst
+          (λ (y : RecurrenceId).
+          (some (names u (y .second)) (vEventsBefore c s rows k) || misplaced (y .kind) (y .second) (masterOf u (vEventsBefore c s rows m)))
+          ≡ breaksBeside (vEventsBefore c s rows k) (vEventsBefore c s rows m) (vEventOf c x))
+          (moved-by e .kept)
+          (override-breaks (vEventsBefore c s rows k) (vEventsBefore c s rows m) (vEventOf c x) u p (moved-by e .alone))
 
       pub by-clash : r ≡ true → true ≡ breaksBeside (vEventsBefore c s rows k) (vEventsBefore c s rows m) (vEventOf c x)
-      by-clash y = sym (ap (λ (b : Bool). b || misplaced t (masterOf u (vEventsBefore c s rows m))) y) ∙ either
+      by-clash y = sym (ap (λ (b : Bool). b || misplaced (t .kind) (t .second) (masterOf u (vEventsBefore c s rows m))) y) ∙ either
 
-      pub by-place : r ≡ false → {w : Bool} → w ≡ misplaced t (masterOf u (vEventsBefore c s rows m)) → w ≡ breaksBeside (vEventsBefore c s rows k) (vEventsBefore c s rows m) (vEventOf c x)
-      by-place y a = a ∙ sym (ap (λ (b : Bool). b || misplaced t (masterOf u (vEventsBefore c s rows m))) y) ∙ either
+      pub by-place : r ≡ false → {w : Bool} → w ≡ misplaced (t .kind) (t .second) (masterOf u (vEventsBefore c s rows m)) → w ≡ breaksBeside (vEventsBefore c s rows k) (vEventsBefore c s rows m) (vEventOf c x)
+      by-place y a = a ∙ sym (ap (λ (b : Bool). b || misplaced (t .kind) (t .second) (masterOf u (vEventsBefore c s rows m))) y) ∙ either
 
   -- the rows before it can be asked too
   pub fewer-tied : Tied c s index rows links k

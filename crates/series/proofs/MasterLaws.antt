@@ -2,7 +2,7 @@
 use Prim.Native.Nat.{ℕ, suc, _+_, _*_, _-_, _≤_, _<_}
 use mathlib.Core.Path.{_≡_, refl, sym, ap, subst, _∙_}
 use mathlib.Core.Bool.{Bool, true, false, cond, _&&_, _||_, and-false, and-true}
-use mathlib.Core.List.{List, [], _∷_, _++_}
+use mathlib.Core.List.{List, [], _∷_, _++_, List·Memᴰ, List·Memᴰ·head}
 use native.Mathlib.Omega.{arith}
 use borrow.Author.Tests.{eq-eqb, ne-eqb, eqb-true}
 use lib.Dec.{eqb}
@@ -18,9 +18,10 @@ use Rattle.overrides.specs.VEvents.{VEvent, isMaster, hasUid, found, masterOf}
 use Rattle.calendar.specs.Identities.{identityOf}
 use Rattle.calendar.specs.Meaning.{vEventOf}
 use Rattle.identities.specs.LinkRows.{linkAt}
+use Rattle.identities.specs.declared.RecurrenceId.{RecurrenceId}
 use Rattle.identities.specs.declared.RecurrenceGiven.{RecurrenceGiven}
 use Rattle.identities.specs.declared.rows.Link.{Link}
-use Rattle.series.specs.Identities.{RecurrenceTies}
+use Rattle.series.specs.Identities.{OneRecurrence, RecurrenceTies}
 use Rattle.series.specs.VEventRows.{vEventsAt, vEventsFrom, vEventsBefore, isMasterOf, names, RowTied, OneAt, MasterIs, is-none, is-at}
 use Rattle.series.specs.declared.masters.MasterRow.{MasterRow}
 use Rattle.series.proofs.UidLaws.{or-nothing, some-append}
@@ -47,21 +48,25 @@ module _ (c : Context) (s rows : List ℕ) (k : ℕ) where
 
 -- ---- by its link
 
+-- what bounds the seconds of a list bounds the one that is kept
+pub one-second : {r : RecurrenceId} {ts : List Time} {n : ℕ} → OneRecurrence r ts → ((t : Time) → List·Memᴰ t ts → t .second ≤ n) → r .second ≤ n
+one-second {n = n} o f = subst (λ (y : RecurrenceId). y .second ≤ n) (o .kept) (f (o .time) (subst (List·Memᴰ (o .time)) (sym (o .alone)) (List·Memᴰ·head refl)))
+
 module _ {c : Context} {s index rows links : List ℕ} {k : ℕ} (g : RowTied c s index rows links k) {l : Link} (q : l ≡ linkAt links k) (e : getD rows (4 * k + 3) 0 ≡ 1) where
   moved-by : {y : RecurrenceGiven} → l .recurrence ≡ y → RecurrenceTies y (identityOf c (componentBy s rows k) .recurrenceIds)
   moved-by h =
       subst (λ (x : RecurrenceGiven). RecurrenceTies x (identityOf c (componentBy s rows k) .recurrenceIds)) (ap (λ (x : Link). x .recurrence) (sym q) ∙ h) (g .recurrences e)
 
-  pub times-one : {t : Time} → l .recurrence ≡ RecurrenceGiven.One t → identityOf c (componentBy s rows k) .recurrenceIds ≡ t ∷ []
+  pub times-one : {t : RecurrenceId} → l .recurrence ≡ RecurrenceGiven.One t → OneRecurrence t (identityOf c (componentBy s rows k) .recurrenceIds)
   times-one h = moved-by h
 
   pub master-by : l .recurrence ≡ RecurrenceGiven.None → isMaster (vEventOf c (componentBy s rows k)) ≡ true
   unfolding isMaster vEventOf isEmpty
   master-by h = ap isEmpty (moved-by h)
 
-  pub override-one : {t : Time} → l .recurrence ≡ RecurrenceGiven.One t → isMaster (vEventOf c (componentBy s rows k)) ≡ false
+  pub override-one : {t : RecurrenceId} → l .recurrence ≡ RecurrenceGiven.One t → isMaster (vEventOf c (componentBy s rows k)) ≡ false
   unfolding isMaster vEventOf isEmpty
-  override-one h = ap isEmpty (moved-by h)
+  override-one h = ap isEmpty (times-one h .alone)
 
   pub override-several : l .recurrence ≡ RecurrenceGiven.Several → isMaster (vEventOf c (componentBy s rows k)) ≡ false
   unfolding isMaster vEventOf twoOrMore isEmpty
@@ -71,9 +76,9 @@ module _ {c : Context} {s index rows links : List ℕ} {k : ℕ} (g : RowTied c 
       go [] h = clash h refl
       go (t ∷ ts) h = refl
 
-  pub seconds-one : {t : Time} → l .recurrence ≡ RecurrenceGiven.One t → secondsOf (vEventOf c (componentBy s rows k) .recurrenceIds) ≡ t .second ∷ []
+  pub seconds-one : {t : RecurrenceId} → l .recurrence ≡ RecurrenceGiven.One t → secondsOf (vEventOf c (componentBy s rows k) .recurrenceIds) ≡ t .second ∷ []
   unfolding vEventOf secondsOf
-  seconds-one h = ap secondsOf (moved-by h)
+  seconds-one h = ap secondsOf (times-one h .alone) ∙ ap (λ (y : RecurrenceId). y .second ∷ []) (times-one h .kept)
 
   pub seconds-none : l .recurrence ≡ RecurrenceGiven.None → secondsOf (vEventOf c (componentBy s rows k) .recurrenceIds) ≡ []
   unfolding vEventOf secondsOf
@@ -90,7 +95,7 @@ module _ {c : Context} {s index rows links : List ℕ} {k : ℕ} (g : RowTied c 
     unfolding isMasterOf
     no-master h = sym (ap (λ (t : Bool). t && hasUid u (vEventOf c (componentBy s rows k))) h) ∙ test-is c s rows k (isMasterOf u) e
 
-    pub one-tells : {t : Time} → l .recurrence ≡ RecurrenceGiven.One t → false ≡ some (isMasterOf u) (vEventsAt c s rows k)
+    pub one-tells : {t : RecurrenceId} → l .recurrence ≡ RecurrenceGiven.One t → false ≡ some (isMasterOf u) (vEventsAt c s rows k)
     one-tells h = no-master (override-one h)
 
     pub several-tells : l .recurrence ≡ RecurrenceGiven.Several → false ≡ some (isMasterOf u) (vEventsAt c s rows k)
@@ -106,7 +111,7 @@ module _ {c : Context} {s index rows links : List ℕ} {k : ℕ} (g : RowTied c 
     unfolding among
     named-none x h = sym (and-false (hasUid u (vEventOf c (componentBy s rows k)))) ∙ named-as x [] (seconds-none h)
 
-    pub named-other : (x : ℕ) {t : Time} → l .recurrence ≡ RecurrenceGiven.One t → (t .second ≡ x → ⊥) → false ≡ some (names u x) (vEventsAt c s rows k)
+    pub named-other : (x : ℕ) {t : RecurrenceId} → l .recurrence ≡ RecurrenceGiven.One t → (t .second ≡ x → ⊥) → false ≡ some (names u x) (vEventsAt c s rows k)
     unfolding among
     named-other x {t} h n =
         let v = vEventOf c (componentBy s rows k) in
@@ -114,7 +119,7 @@ module _ {c : Context} {s index rows links : List ℕ} {k : ℕ} (g : RowTied c 
         ∙ sym (ap (λ (b : Bool). hasUid u v && (b || false)) (ne-eqb x (t .second) (λ z. n (sym z))))
         ∙ named-as x (t .second ∷ []) (seconds-one h)
 
-    pub named-here : (x : ℕ) {t : Time} {r : Bool} → l .recurrence ≡ RecurrenceGiven.One t → t .second ≡ x → r ≡ hasUid u (vEventOf c (componentBy s rows k))
+    pub named-here : (x : ℕ) {t : RecurrenceId} {r : Bool} → l .recurrence ≡ RecurrenceGiven.One t → t .second ≡ x → r ≡ hasUid u (vEventOf c (componentBy s rows k))
         → r ≡ some (names u x) (vEventsAt c s rows k)
     unfolding among
     named-here x {t} h n p =

@@ -2,25 +2,25 @@
 use Prim.Native.Nat.{ℕ, suc, _+_, _*_, _-_, _≤_, _<_}
 use mathlib.Core.Path.{_≡_, refl, sym, ap, subst, _∙_}
 use mathlib.Core.Bool.{Bool, true, false, cond}
-use mathlib.Core.List.{List, [], _∷_, _++_, append-assoc, append-nil, List·Memᴰ, List·Memᴰ·head}
+use mathlib.Core.List.{List, [], _∷_, _++_, append-assoc, append-nil}
 use native.Mathlib.Omega.{arith}
 use lib.ListN.{length, getD, set, length-set}
 use lib.Seq.{sets}
 use Rattle.time.specs.Limits.{lastSecond}
 use Rattle.values.specs.TimeLists.{secondsOf}
 use Rattle.values.specs.declared.times.Context.{Context}
-use Rattle.values.specs.declared.times.Time.{Time}
 use Rattle.structure.specs.Rows.{componentBy}
 use Rattle.overrides.specs.VEvents.{VEvent, hasUid}
 use Rattle.calendar.specs.Meaning.{vEventOf}
 use Rattle.calendar.proofs.Identities.{identity-small}
 use Rattle.identities.specs.LinkRows.{linkAt}
+use Rattle.identities.specs.declared.RecurrenceId.{RecurrenceId}
 use Rattle.identities.specs.declared.RecurrenceGiven.{RecurrenceGiven}
 use Rattle.identities.specs.declared.rows.Link.{Link}
 use Rattle.series.specs.VEventRows.{vEventsAt, vEventsFrom, vEventsBefore, RowTied, OneAt}
 use Rattle.series.specs.Moved.{movedBy, NamedIs, names-none, names-one, MovedStored}
 use Rattle.series.specs.declared.moved.NamedSecond.{NamedSecond}
-use Rattle.series.proofs.MasterLaws.{row-is, row-none, from-next, from-none, seconds-none, seconds-one, times-one}
+use Rattle.series.proofs.MasterLaws.{row-is, row-none, from-next, from-none, seconds-none, seconds-one, one-second, times-one}
 
 pub moved-append : (u : List ℕ) (vs ws : List VEvent) → movedBy u (vs ++ ws) ≡ movedBy u vs ++ movedBy u ws
 unfolding movedBy
@@ -53,11 +53,11 @@ module _ {c : Context} {s index rows links : List ℕ} {k : ℕ} (g : RowTied c 
       either true = refl
       either false = refl
 
-  module _ {t : Time} (h : l .recurrence ≡ RecurrenceGiven.One t) {r : Bool} (p : r ≡ hasUid u (vEventOf c (componentBy s rows k))) where
+  module _ {t : RecurrenceId} (h : l .recurrence ≡ RecurrenceGiven.One t) {r : Bool} (p : r ≡ hasUid u (vEventOf c (componentBy s rows k))) where
     pub named-one : r ≡ true → NamedIs c s rows k u (NamedSecond.At (t .second))
     named-one y =
         names-one
-        (identity-small c (componentBy s rows k) .moved-small t (subst (List·Memᴰ t) (sym (times-one g q e h)) (List·Memᴰ·head refl)))
+        (one-second (times-one g q e h) (identity-small c (componentBy s rows k) .moved-small))
         (row-moved c s rows k u e p
         ∙ ap (λ (b : Bool). cond b (secondsOf (vEventOf c (componentBy s rows k) .recurrenceIds)) []) y
         ∙ seconds-one g q e h)

@@ -23,6 +23,7 @@ use Rattle.calendar.specs.Identities.{identityOf}
 use Rattle.calendar.specs.Meaning.{vEventOf}
 use Rattle.identities.specs.LinkRows.{linkAt}
 use Rattle.identities.specs.declared.UidGiven.{UidGiven}
+use Rattle.identities.specs.declared.RecurrenceId.{RecurrenceId}
 use Rattle.identities.specs.declared.RecurrenceGiven.{RecurrenceGiven}
 use Rattle.identities.specs.declared.rows.Link.{Link}
 use Rattle.series.specs.Identities.{UidTies}
@@ -126,7 +127,7 @@ module _ {c : Context} {s index rows links exceptions : List ℕ} {k m : ℕ} (g
   unfolding removedAt removedFrom movedAt vEventOf
   removed-of h = ap (λ (b : Bool). cond b (secondsOf (identityOf c (componentBy s rows k) .exceptions) ++ movedFrom (vEventOf c (componentBy s rows k)) (vEventsBefore c s rows m)) []) h
 
-  pub removed-override : {t : Time} (o : List ℕ) → l .recurrence ≡ RecurrenceGiven.One t → SecondsStored (removedAt c s rows k m) o 0 o 0
+  pub removed-override : {t : RecurrenceId} (o : List ℕ) → l .recurrence ≡ RecurrenceGiven.One t → SecondsStored (removedAt c s rows k m) o 0 o 0
   removed-override o e = nothing-stored o 0 (omega arith) (removed-of (override-one (g .tied .each k (g .there)) q (g .is-event) e))
 
   pub removed-several : (o : List ℕ) → l .recurrence ≡ RecurrenceGiven.Several → SecondsStored (removedAt c s rows k m) o 0 o 0

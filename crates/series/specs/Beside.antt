@@ -7,13 +7,13 @@ use lib.ListN.{length, getD}
 use Rattle.text.specs.Lines.{part}
 use Rattle.seconds.specs.Seconds.{among}
 use Rattle.values.specs.declared.times.Context.{Context}
-use Rattle.values.specs.declared.times.Time.{Time}
 use Rattle.events.specs.Sizes.{EventSmall}
 use Rattle.events.specs.EntryRows.{eventAt}
 use Rattle.events.specs.declared.Event.{Event}
 use Rattle.overrides.specs.Instances.{namesInstance}
 use Rattle.overrides.specs.Rules.{otherKind}
 use Rattle.identities.specs.LinkRows.{linkAt}
+use Rattle.identities.specs.declared.RecurrenceId.{RecurrenceId}
 use Rattle.identities.specs.declared.rows.Link.{Link}
 use Rattle.series.specs.LinkRows.{LinkStands}
 use Rattle.series.specs.VEventRows.{Tied, OneEach}
@@ -23,8 +23,8 @@ unfoldable pub excludedAt : List ℕ → List ℕ → ℕ → List ℕ
 excludedAt links exceptions k = part exceptions (linkAt links k .from) (linkAt links k .to)
 
 -- a RECURRENCE-ID does not fit a master with this link, event and these excluded seconds
-unfoldable pub misfits : Link → Event → List ℕ → Time → Bool
-misfits l e xs t = not (l .broken) && (otherKind e t || not (namesInstance e (t .second)) || among (t .second) xs)
+unfoldable pub misfits : Link → Event → List ℕ → RecurrenceId → Bool
+misfits l e xs t = not (l .broken) && (otherKind e (t .kind) || not (namesInstance e (t .second)) || among (t .second) xs)
 
 -- the master of row k can be asked
 pub record MasterKnown (entries links exceptions : List ℕ) (k : ℕ) : Type 0 where

@@ -13,6 +13,8 @@ use Rattle.index.specs.Index.{lineBytes}
 use Rattle.calendar.specs.Identities.{Identity}
 use Rattle.overrides.specs.Lists.{twoOrMore}
 use Rattle.identities.specs.declared.UidGiven.{UidGiven}
+use Rattle.identities.specs.Gathering.{recurrenceIdOf}
+use Rattle.identities.specs.declared.RecurrenceId.{RecurrenceId}
 use Rattle.identities.specs.declared.RecurrenceGiven.{RecurrenceGiven}
 use Rattle.identities.specs.declared.IdentityRead.{IdentityRead}
 
@@ -22,9 +24,15 @@ UidTies s UidGiven.None us = us ≡ []
 UidTies s (UidGiven.One n) us = (1 ≤ n) × (n ≤ length (contentLines s)) × (n ≤ 65536) × (us ≡ valueOf (lineBytes s (n - 1)) ∷ [])
 UidTies s UidGiven.Several us = twoOrMore us ≡ true
 
+-- there is one time, and this is kept of it
+pub record OneRecurrence (r : RecurrenceId) (ts : List Time) : Type 0 where
+  pub time : Time
+  pub alone : ts ≡ time ∷ []
+  pub kept : recurrenceIdOf time ≡ r
+
 abbrev pub RecurrenceTies : RecurrenceGiven → List Time → Type 0
 RecurrenceTies RecurrenceGiven.None ts = ts ≡ []
-RecurrenceTies (RecurrenceGiven.One t) ts = ts ≡ t ∷ []
+RecurrenceTies (RecurrenceGiven.One r) ts = OneRecurrence r ts
 RecurrenceTies RecurrenceGiven.Several ts = twoOrMore ts ≡ true
 
 pub record Ties (s : List ℕ) (y : IdentityRead) (i : Identity) : Type 0 where

@@ -4,9 +4,9 @@ use crate::masters;
 use crate::masters::MasterRow;
 use crate::uids;
 use identities::RecurrenceGiven;
+use identities::RecurrenceId;
 use identities::UidGiven;
 use values::times::Context;
-use values::times::Time;
 ghost use mathlib.Core.Path.{_≡_};
 ghost use mathlib.Core.List.{[], _∷_};
 ghost use Prim.Native.Nat.{_≤_};
@@ -45,7 +45,7 @@ fn wide(s: u32) -> u64
 }
 
 // Does a RECURRENCE-ID not fit the master of row k? One that breaks a rule by itself is not asked.
-fn misfits(entries: &[u64], links: &[u32], exceptions: &[u32], k: usize, t: Time) -> bool
+fn misfits(entries: &[u64], links: &[u32], exceptions: &[u32], k: usize, t: RecurrenceId) -> bool
     requires { ⌜ MasterKnown (now entries) (now links) (now exceptions) k ⌝ }
     requires { ⌜ t .second ≤ lastSecond ⌝ }
     ensures { λ r. ⌜ r ≡ misfits (linkAt (now (links .entry)) k) (eventAt (now (entries .entry)) k) (excludedAt (now (links .entry)) (now (exceptions .entry)) k) t ⌝ }
@@ -80,11 +80,11 @@ fn is_misplaced(
     m: usize,
     c: Context,
     u: &[u8],
-    t: Time,
+    t: RecurrenceId,
 ) -> bool
     requires { ⌜ Linked c (now s) (now index) (now rows) (now entries) (now links) (now exceptions) m ⌝ }
     requires { ⌜ t .second ≤ lastSecond ⌝ }
-    ensures { λ r. ⌜ r ≡ misplaced t (masterOf (now (u .entry)) (vEventsBefore c (now (s .entry)) (now (rows .entry)) m)) ⌝ }
+    ensures { λ r. ⌜ r ≡ misplaced (t .kind) (t .second) (masterOf (now (u .entry)) (vEventsBefore c (now (s .entry)) (now (rows .entry)) m)) ⌝ }
 {
     match masters::master_of(s, index, rows, links, m, c, u) {
         MasterRow::None => true,

@@ -20,14 +20,18 @@ use Rattle.values.specs.declared.times.Form.{Form}
 abbrev pub ContextGood : Context → Type 0
 ContextGood c = c .shift ≤ 100800
 
--- a second within the limits is the time; any other is bad
-unfoldable pub atSecond : Kind → Second → TimeRead
-atSecond k (Second.At t) = TimeRead.Of (record { kind = k; second = t })
-atSecond k Second.Outside = TimeRead.Bad
+-- the second of a wall clock: by the offset, and of a UTC value without it
+unfoldable pub utcOf : Context → Kind → ℕ → Second
+utcOf c k clock = utcSecond k clock (c .shift)
+
+-- a clock whose second is within the limits is the time; any other is bad
+unfoldable pub atSecond : Kind → ℕ → Second → TimeRead
+atSecond k clock (Second.At t) = TimeRead.Of (record { kind = k; clock = clock; second = t })
+atSecond k clock Second.Outside = TimeRead.Bad
 
 -- a second outside the limits is bad
 unfoldable pub timeBy : Context → DateTime → TimeRead
-timeBy c (DateTime.At k clock) = atSecond k (utcSecond k clock (c .shift))
+timeBy c (DateTime.At k clock) = atSecond k clock (utcOf c k clock)
 timeBy c DateTime.Bad = TimeRead.Bad
 
 -- a value of the form that is asked for

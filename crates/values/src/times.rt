@@ -7,16 +7,17 @@ use time::limits;
 use time::limits::Second;
 ghost use mathlib.Core.Path.{_≡_};
 ghost use Rattle.line.specs.Reading.{lineOf};
-ghost use Rattle.values.specs.Times.{atSecond, timeBy, readTime, formNamed, formOf, utcOnly, ContextGood};
+ghost use Rattle.values.specs.Times.{utcOf, atSecond, timeBy, readTime, formNamed, formOf, utcOnly, ContextGood};
 
 // What values are read by: today the offset, as 50,400 more than it.
 pub struct Context {
     pub shift: u64,
 }
 
-// A time within the limits: its kind, and its UTC second.
+// A time within the limits: its kind, its own wall clock in seconds since 00000101T000000, and its UTC second.
 pub struct Time {
     pub kind: Kind,
+    pub clock: u64,
     pub second: u64,
 }
 
@@ -61,12 +62,25 @@ pub fn form_of(line: &[u8]) -> Form
     Form::DateTime
 }
 
-// A time of the kind, where its second is within the limits.
-fn at_second(kind: Kind, second: Second) -> TimeRead
-    ensures { λ r. ⌜ r ≡ atSecond kind second ⌝ }
+// The second of a wall clock.
+pub fn utc_of(c: Context, kind: Kind, clock: u64) -> Second
+    requires { ⌜ ContextGood c ⌝ }
+    ensures { λ r. ⌜ r ≡ utcOf c kind clock ⌝ }
+{
+    let shift = c.shift;
+    limits::utc_second(kind, clock, shift)
+}
+
+// A time of the kind and the clock, where its second is within the limits.
+fn at_second(kind: Kind, clock: u64, second: Second) -> TimeRead
+    ensures { λ r. ⌜ r ≡ atSecond kind clock second ⌝ }
 {
     match second {
-        Second::At(t) => TimeRead::Of(Time { kind, second: t }),
+        Second::At(t) => TimeRead::Of(Time {
+            kind,
+            clock,
+            second: t,
+        }),
         Second::Outside => TimeRead::Bad,
     }
 }
@@ -75,9 +89,8 @@ fn time_by(c: Context, read: DateTime) -> TimeRead
     requires { ⌜ ContextGood c ⌝ }
     ensures { λ r. ⌜ r ≡ timeBy c read ⌝ }
 {
-    let shift = c.shift;
     match read {
-        DateTime::At(kind, clock) => at_second(kind, limits::utc_second(kind, clock, shift)),
+        DateTime::At(kind, clock) => at_second(kind, clock, utc_of(c, kind, clock)),
         DateTime::Bad => TimeRead::Bad,
     }
 }

@@ -7,8 +7,8 @@ use Rattle.values.proofs.times.time_by.Tie as tie
 enum-known-read : tie.Need-enum-known-read
 enum-known-read c = search needs
 
-utc-second-requires : tie.Need-utc-second-requires
-utc-second-requires c κs = search needs
+utc-of-requires : tie.Need-utc-of-requires
+utc-of-requires c κs = search needs
 
 at-second-requires : tie.Need-at-second-requires
 at-second-requires c κs = search needs
@@ -18,7 +18,7 @@ enum-told c = search needs
 
 returns : tie.Need-returns
 unfolding timeBy
-returns c = simp (c .at-second .ensures, c .before .utc-second .ensures, c .before .before .before .read .given .1)
+returns c = simp (c .at-second .ensures, c .before .utc-of .ensures, c .before .before .before .read .given .1)
 
 returns-2 : tie.Need-returns-2
 unfolding timeBy
@@ -27,4 +27,4 @@ returns-2 c = rw (c .enum-told .given .1)
 pub time-by-spec : {M : Type 1} → statement M
 time-by-spec =
     tie.close
-    (tie.spec enum-known-read utc-second-requires at-second-requires enum-told returns returns-2)
+    (tie.spec enum-known-read utc-of-requires at-second-requires enum-told returns returns-2)
