@@ -1,0 +1,9 @@
+pub mod Parts
+pub mod RuleDays
+pub mod RuleDayYears
+pub mod OnsetsLaws
+pub mod OffsetsLaws
+pub mod OffsetsComputed
+pub mod ChangesLaws
+pub mod PartRows
+pub mod Examples
