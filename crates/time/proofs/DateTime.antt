@@ -150,7 +150,7 @@ checkedDay-small y m d n h e = go (leb 1 d && leb d (monthDays y m)) refl e
         omega (arith, day-parts y m d (monthDays y m) (daysBeforeYear y) (daysBeforeMonth y m) h p refl q refl refl)
     go false t e = let z : _≡_ {A = ℕ} 0 1 = cc in absurd (omega arith)
 
-checkedTime-small : (h m s n : ℕ) → checkedTime h m s ≡ Number.Of n → n < 86400
+pub checkedTime-small : (h m s n : ℕ) → checkedTime h m s ≡ Number.Of n → n < 86400
 unfolding checkedTime
 checkedTime-small h m s n e = go (leb h 23 && leb m 59 && leb s 60) (eqb s 60) refl refl e
   where

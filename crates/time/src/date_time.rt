@@ -4,7 +4,7 @@ use crate::days;
 ghost use mathlib.Core.Path.{_≡_};
 ghost use Prim.Native.Nat.{_+_, _≤_};
 ghost use lib.ListN.{length};
-ghost use Rattle.time.specs.DateTime.{digitPair, pairAt, yearAt, checkedDay, dateAt, checkedTime, timeAt, readDate, clockAt, readDateTime};
+ghost use Rattle.time.specs.DateTime.{digitPair, pairAt, yearAt, checkedDay, three, dateAt, checkedTime, timeAt, readDate, clockAt, readDateTime};
 
 // A number read from digits.
 pub enum Number {
@@ -36,7 +36,7 @@ fn digit_pair(a: u8, b: u8) -> Number
 }
 
 // The number of the two digits at a place.
-fn pair_at(s: &[u8], at: usize) -> Number
+pub fn pair_at(s: &[u8], at: usize) -> Number
     requires { ⌜ at + 2 ≤ length (now s) ⌝ }
     ensures { λ r. ⌜ r ≡ pairAt (now (s .entry)) at ⌝ }
 {
@@ -112,28 +112,28 @@ fn checked_time(h: u64, m: u64, s: u64) -> Number
     Number::Bad
 }
 
+// The second of the day of an hour, a minute and a second, where each was read.
+pub fn time_of(hour: Number, minute: Number, second: Number) -> Number
+    ensures { λ r. ⌜ r ≡ three checkedTime hour minute second ⌝ }
+{
+    match hour {
+        Number::Bad => Number::Bad,
+        Number::Of(h) => match minute {
+            Number::Bad => Number::Bad,
+            Number::Of(m) => match second {
+                Number::Bad => Number::Bad,
+                Number::Of(n) => checked_time(h, m, n),
+            },
+        },
+    }
+}
+
 // The second of the day of the HHMMSS at the ninth byte.
 fn time_at(s: &[u8]) -> Number
     requires { ⌜ 15 ≤ length (now s) ⌝ }
     ensures { λ r. ⌜ r ≡ timeAt (now (s .entry)) ⌝ }
 {
-    let hour = pair_at(s, 9);
-    match hour {
-        Number::Bad => Number::Bad,
-        Number::Of(h) => {
-            let minute = pair_at(s, 11);
-            match minute {
-                Number::Bad => Number::Bad,
-                Number::Of(m) => {
-                    let second = pair_at(s, 13);
-                    match second {
-                        Number::Bad => Number::Bad,
-                        Number::Of(n) => checked_time(h, m, n),
-                    }
-                }
-            }
-        }
-    }
+    time_of(pair_at(s, 9), pair_at(s, 11), pair_at(s, 13))
 }
 
 // A DATE: its midnight.

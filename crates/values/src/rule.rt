@@ -57,7 +57,7 @@ pub enum RuleRead {
 }
 
 // The number of one to four digits, from 1 to the given one.
-fn number_to(most: u64, s: &[u8]) -> Number
+pub fn number_to(most: u64, s: &[u8]) -> Number
     ensures { λ r. ⌜ r ≡ numberTo most (now (s .entry)) ⌝ }
 {
     if (s.len() < 1) | (4 < s.len()) {
