@@ -1,0 +1,3 @@
+pub mod OffsetLaws
+pub mod OnsetLaws
+pub mod ZoneRuleLaws
