@@ -1,0 +1,2 @@
+pub mod ZoneProperties
+pub mod Parts
