@@ -2,7 +2,7 @@
 use Prim.Native.Nat.{ℕ}
 use Prim.Native.String.{String}
 use mathlib.Core.Path.{_≡_, refl}
-use mathlib.Core.Bool.{Bool, true, false, cond, _&&_}
+use mathlib.Core.Bool.{Bool, true, cond, _&&_}
 use mathlib.Core.List.{List, [], _∷_}
 use Rattle.ascii.specs.Bytes.{upper, isDigit}
 use Rattle.ascii.specs.Names.{sameName, sameBytes}
@@ -56,9 +56,10 @@ allSame (r ∷ rs) = sameBytes (saysOf r) (r .expected) && allSame rs
 
 sound : (rs : List Row) → allSame rs ≡ true → AllSay rs
 sound [] e = tt
-sound (r ∷ rs) e =
-    (sameBytes-eq (saysOf r) (r .expected) (and-left (sameBytes (saysOf r) (r .expected)) (allSame rs) e),
-    sound rs (and-right (sameBytes (saysOf r) (r .expected)) (allSame rs) e))
+sound (r ∷ rs) e = (
+  sameBytes-eq (saysOf r) (r .expected) (and-left (sameBytes (saysOf r) (r .expected)) (allSame rs) e),
+  sound rs (and-right (sameBytes (saysOf r) (r .expected)) (allSame rs) e),
+)
 
 abbrev inZone : String → List ℕ → Row
 inZone t e = record { scope = ZoneScope.Zone; text = t; expected = e }

@@ -2,7 +2,7 @@
 -- computes line by line. The two are tied in proofs/PartLaws.
 use Prim.Native.Nat.{ℕ}
 use mathlib.Core.Path.{_≡_}
-use mathlib.Core.Bool.{Bool, false}
+use mathlib.Core.Bool.{false}
 use mathlib.Core.List.{List, [], _∷_, _++_}
 use Rattle.zone_values.specs.declared.zone_rule.ZoneRule.{ZoneRule}
 use Rattle.zone_properties.specs.declared.ZoneValue.{ZoneValue}

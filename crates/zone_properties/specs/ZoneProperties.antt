@@ -1,7 +1,7 @@
 -- What a line of a time zone says (R-5), by where in the zone it stands directly.
 -- Here, and nowhere else, it is decided which properties of a zone are read.
 use Prim.Native.Nat.{ℕ}
-use mathlib.Core.Bool.{Bool, cond}
+use mathlib.Core.Bool.{cond}
 use mathlib.Core.List.{List}
 use Rattle.ascii.specs.Names.{sameName}
 use Rattle.ascii.specs.Words.{ascii}

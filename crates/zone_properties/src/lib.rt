@@ -1,6 +1,7 @@
 // What a line of a time zone says, by where in the zone it stands.
 // Which properties of a zone are read is decided here alone.
 pub mod part;
+
 use zone_values::offset;
 use zone_values::offset::OffsetRead;
 use zone_values::onset;
@@ -75,7 +76,10 @@ fn part_property(line: &[u8], n: usize) -> ZoneProperty
     if line::read::is_called(line, n, b"RRULE") {
         return ZoneProperty::Rule;
     }
-    property_if(line::read::is_called(line, n, b"RDATE"), ZoneProperty::Dates)
+    property_if(
+        line::read::is_called(line, n, b"RDATE"),
+        ZoneProperty::Dates,
+    )
 }
 
 // The property that the line is, where it stands.

@@ -1,3 +1,4 @@
 pub mod OffsetLaws
 pub mod OnsetLaws
 pub mod ZoneRuleLaws
+pub mod Sizes

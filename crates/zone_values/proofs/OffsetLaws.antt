@@ -7,7 +7,7 @@ use mathlib.Core.Logic.{_↔_}
 use native.Mathlib.Omega.{arith}
 use lib.Dec.{eqb, ltb, leb}
 use lib.ListN.{length, getD}
-use borrow.Author.Tests.{eq-eqb, ne-eqb, eqb-true, eqb-false, ltb-true, lt-ltb, le-leb}
+use borrow.Author.Tests.{ne-eqb, eqb-true, eqb-false, ltb-true, lt-ltb, le-leb}
 use Rattle.ascii.specs.Bytes.{isDigit}
 use Rattle.ascii.proofs.Bools.{and-both}
 use Rattle.time.specs.DateTime.{digitPair, pairAt, three, checkedTime}
@@ -26,7 +26,8 @@ size-small v n e =
     let w = three-of checkedTime _ _ _ n e in
     checkedTime-small (w .0) (w .1) (w .2) n (w .6)
 
-bad-number : {A : Type 0} {n : ℕ} → Number.Bad ≡ Number.Of n → A
+-- what was read is not bad
+pub bad-number : {A : Type 0} {n : ℕ} → Number.Bad ≡ Number.Of n → A
 bad-number e = let z : _≡_ {A = ℕ} 0 1 = cc in absurd (omega arith)
 
 bad-offset : {A : Type 0} {n : ℕ} → OffsetRead.Bad ≡ OffsetRead.Of n → A
@@ -129,6 +130,7 @@ six a b c d e f h m s n p q r t = go (eqb s 60) refl (t .size)
   where
     w : HourMinute a b c d h m
     w = record { hour = pair-is a b h p; hour-small = t .hour-small; minute = pair-is c d m q; minute-small = t .minute-small }
+
     go : (y : Bool) → eqb s 60 ≡ y → n ≡ h * 3600 + m * 60 + cond y 59 s → OffsetSize (a ∷ b ∷ c ∷ d ∷ e ∷ f ∷ []) n
     go true y k = rw k (leap-second w (pair-is e f 60 (r ∙ ap Number.Of (eqb-true s 60 y))))
     go false y k = rw k (with-second w (pair-is e f s r) (omega (arith, t .second-small, eqb-false s 60 y)))

@@ -1,8 +1,7 @@
 -- The onset of a part is read exactly where its line is a floating DATE-TIME without TZID.
 use Prim.Native.Nat.{ℕ}
-use mathlib.Core.Path.{_≡_, refl, sym, ap, _∙_}
+use mathlib.Core.Path.{_≡_, refl, ap}
 use mathlib.Core.Bool.{Bool, true, false, cond}
-use mathlib.Core.List.{List}
 use mathlib.Core.Logic.{_↔_}
 use native.Mathlib.Omega.{arith}
 use Rattle.ascii.specs.Words.{ascii}
@@ -14,7 +13,7 @@ use Rattle.line.specs.Reading.{hasParameter}
 use Rattle.values.specs.Times.{formOf}
 use Rattle.values.specs.declared.times.Form.{Form}
 use Rattle.zone_values.specs.declared.onset.OnsetRead.{OnsetRead}
-use Rattle.zone_values.specs.Onset.{Onset, ifFloating, floatingOnly, onsetBy, onsetOf}
+use Rattle.zone_values.specs.Onset.{Onset, floatingOnly, onsetBy, onsetOf}
 
 bad-at : {A : Type 0} {n : ℕ} → OnsetRead.Bad ≡ OnsetRead.At n → A
 bad-at e = let z : _≡_ {A = ℕ} 0 1 = cc in absurd (omega arith)

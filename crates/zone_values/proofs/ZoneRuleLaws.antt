@@ -8,7 +8,7 @@ use native.Mathlib.Omega.{arith}
 use lib.Dec.{eqb, ltb}
 use lib.ListN.{length, take, drop, getD, length-map, length-take, length-append, take-append-drop}
 use lib.Seq.{take-append-seam, drop-append-seam}
-use borrow.Author.Tests.{eq-eqb, ne-eqb, eqb-true, ltb-false, le-ltb, lt-ltb}
+use borrow.Author.Tests.{eq-eqb, ne-eqb, eqb-true, ltb-false, le-ltb}
 use Rattle.ascii.specs.Bytes.{upper, isDigit}
 use Rattle.ascii.specs.Names.{sameName, every}
 use Rattle.ascii.specs.Words.{ascii}
@@ -19,6 +19,7 @@ use Rattle.time.proofs.DateTime.{digit-range}
 use Rattle.line.specs.Splitting.{plainSplit}
 use Rattle.values.specs.Rule.{numberTo}
 use Rattle.values.proofs.RuleGrammar.{number-iff}
+use Rattle.zone_values.proofs.OffsetLaws.{bad-number}
 use Rattle.zone_values.specs.declared.zone_rule.ZoneRule.{ZoneRule}
 use Rattle.zone_values.specs.declared.zone_rule.ZoneRuleRead.{ZoneRuleRead}
 use Rattle.zone_values.specs.declared.zone_rule.ZoneDay.{ZoneDay}
@@ -27,9 +28,6 @@ use Rattle.zone_values.specs.ZoneRule.{AnyOrder, abc, acb, bac, bca, cab
 use Rattle.zone_values.specs.ZoneRule.{WeekdayIs, sunday, monday, tuesday, wednesday, thursday, friday, saturday}
 use Rattle.zone_values.specs.ZoneRule.{shortNumber, laterWeekday, weekdayOf, dayBy, dayAfter, dayPart, monthBy, monthPart, begins, zonePart}
 use Rattle.zone_values.specs.ZoneRule.{isYearly, withDay, withMonth, dated, inAnyOrder, partAt, readZoneRule}
-
-bad-number : {A : Type 0} {n : ℕ} → Number.Bad ≡ Number.Of n → A
-bad-number e = let z : _≡_ {A = ℕ} 0 1 = cc in absurd (omega arith)
 
 -- ---- numbers of one or two digits
 
@@ -62,7 +60,7 @@ weekday-is w k e =
     go : (a b c d f g h : Bool) → sameName w (ascii "SU") ≡ a → sameName w (ascii "MO") ≡ b → sameName w (ascii "TU") ≡ c → sameName w (ascii "WE") ≡ d
         → sameName w (ascii "TH") ≡ f → sameName w (ascii "FR") ≡ g → sameName w (ascii "SA") ≡ h
         → cond a (Number.Of 0) (cond b (Number.Of 1) (cond c (Number.Of 2)
-          (cond d (Number.Of 3) (cond f (Number.Of 4) (cond g (Number.Of 5) (cond h (Number.Of 6) Number.Bad)))))) ≡ Number.Of k
+        (cond d (Number.Of 3) (cond f (Number.Of 4) (cond g (Number.Of 5) (cond h (Number.Of 6) Number.Bad)))))) ≡ Number.Of k
         → WeekdayIs w k
     go true b c d f g h p0 p1 p2 p3 p4 p5 p6 q = weekday-at w 0 k (sunday p0) q
     go false true c d f g h p0 p1 p2 p3 p4 p5 p6 q = weekday-at w 1 k (monday p1) q
@@ -216,6 +214,7 @@ day-is v d e = go v (eqb (getD v 0 0) 45) (eqb (getD v 0 0) 43) refl refl e
           ordinal-is = rw (a .same-way) (f (a .digits) (d .others + 1) (a .number-is));
           weekday-is = a .weekday-is;
         }
+
     bare : (l : List ℕ) → After false l d → DayText l d
     bare l a =
         record {
@@ -225,6 +224,7 @@ day-is v d e = go v (eqb (getD v 0 0) 45) (eqb (getD v 0 0) 43) refl refl e
           ordinal-is = rw (a .same-way) (plain (a .number-is));
           weekday-is = a .weekday-is;
         }
+
     go : (l : List ℕ) (m p : Bool) → eqb (getD l 0 0) 45 ≡ m → eqb (getD l 0 0) 43 ≡ p
         → cond m (dayAfter true (drop 1 l)) (cond p (dayAfter false (drop 1 l)) (dayAfter false l)) ≡ ZonePart.Day d → DayText l d
     go [] true p x y k = absurd (omega (arith, eqb-true 0 45 x))
@@ -382,6 +382,7 @@ three-is v a b c r s e = go (isYearly (zonePart a)) (isYearly (zonePart b)) (isY
   where
     order : {f m d : List ℕ} → AnyOrder f m d (a ∷ b ∷ c ∷ []) → AnyOrder f m d (plainSplit 59 v)
     order {f} {m} {d} o = subst (AnyOrder f m d) (sym s) o
+
     go : (x y z : Bool) → isYearly (zonePart a) ≡ x → isYearly (zonePart b) ≡ y → isYearly (zonePart c) ≡ z
         → cond x (dated (zonePart b) (zonePart c)) (cond y (dated (zonePart a) (zonePart c)) (cond z (dated (zonePart a) (zonePart b)) ZoneRuleRead.Unsupported)) ≡ ZoneRuleRead.Of r
         → YearlyRule v r
@@ -424,10 +425,13 @@ is-rule v r h = go (plainSplit 59 v) refl (h .cut)
   where
     f : zonePart (h .frequency-part) ≡ ZonePart.Yearly
     f = reads-yearly _ (h .frequency)
+
     m : zonePart (h .month-part) ≡ ZonePart.Month (r .month)
     m = reads-month _ _ (h .month)
+
     d : zonePart (h .day-part) ≡ ZonePart.Day (dayOf r)
     d = reads-day _ _ (h .day)
+
     go : (ps : List (List ℕ)) → plainSplit 59 v ≡ ps → AnyOrder (h .frequency-part) (h .month-part) (h .day-part) ps → readZoneRule v ≡ ZoneRuleRead.Of r
     go ps e abc = rw (e, f, m, d)
     go ps e acb = rw (e, f, m, d)

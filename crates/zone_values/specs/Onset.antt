@@ -2,7 +2,7 @@
 -- which the code computes; the two are tied in proofs/OnsetLaws.
 use Prim.Native.Nat.{ℕ}
 use mathlib.Core.Path.{_≡_}
-use mathlib.Core.Bool.{Bool, false, cond}
+use mathlib.Core.Bool.{false, cond}
 use mathlib.Core.List.{List}
 use Rattle.ascii.specs.Words.{ascii}
 use Rattle.time.specs.DateTime.{readDateTime}

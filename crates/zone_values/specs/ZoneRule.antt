@@ -168,3 +168,10 @@ partAt v i = zonePart (getD (plainSplit 59 v) i [])
 unfoldable pub readZoneRule : List ℕ → ZoneRuleRead
 readZoneRule v =
     cond (eqb (length (plainSplit 59 v)) 3) (inAnyOrder (partAt v 0) (partAt v 1) (partAt v 2)) ZoneRuleRead.Unsupported
+
+-- how large what a rule says can be
+pub record ZoneRuleSmall (r : ZoneRule) : Type 0 where
+  pub some-month : 1 ≤ r .month
+  pub few-months : r .month ≤ 12
+  pub few-others : r .others ≤ 4
+  pub few-weekdays : r .weekday ≤ 6

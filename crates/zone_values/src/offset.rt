@@ -31,7 +31,11 @@ fn offset_size(v: &[u8]) -> Number
     requires { ⌜ 5 ≤ length (now v) ⌝ }
     ensures { λ r. ⌜ r ≡ offsetSize (now (v .entry)) ⌝ }
 {
-    date_time::time_of(date_time::pair_at(v, 1), date_time::pair_at(v, 3), second_at(v))
+    date_time::time_of(
+        date_time::pair_at(v, 1),
+        date_time::pair_at(v, 3),
+        second_at(v),
+    )
 }
 
 // The offset of a size: behind UTC there is none of size 0.

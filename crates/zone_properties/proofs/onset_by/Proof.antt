@@ -1,26 +1,19 @@
+-- `zone_properties::onset_by` meets its contract: each arm is the definition's clause.
 use Rattle.zone_properties.specs.ZoneProperties.{onsetBy}
-use mathlib.Core.Path.{_≡_, refl, sym, ap, _∙_}
-use native.Mathlib.Omega.{arith}
 use borrow.Author.Needs.{needs}
 use Rattle.zone_properties.proofs.onset_by.Statement.{statement}
 use Rattle.zone_properties.proofs.onset_by.Tie as tie
-use Rattle.zone_properties.proofs.onset_by.Reads as reads
-use Rattle.zone_properties.proofs.onset_by.Lts as lts
 
--- src/lib.rt:97:23
 enum-known-r : tie.Need-enum-known-r
 enum-known-r c = search needs
 
--- src/lib.rt:98:27
 enum-told : tie.Need-enum-told
 enum-told c = search needs
 
--- src/lib.rt:93:1
 returns : tie.Need-returns
 unfolding onsetBy
 returns c = rw (c .before .r .given .1)
 
--- src/lib.rt:93:1
 returns-2 : tie.Need-returns-2
 unfolding onsetBy
 returns-2 c = rw (c .enum-told .given .1)

@@ -1,26 +1,19 @@
+-- `zone_properties::rule_by` meets its contract: each arm is the definition's clause.
 use Rattle.zone_properties.specs.ZoneProperties.{ruleBy}
-use mathlib.Core.Path.{_≡_, refl, sym, ap, _∙_}
-use native.Mathlib.Omega.{arith}
 use borrow.Author.Needs.{needs}
 use Rattle.zone_properties.proofs.rule_by.Statement.{statement}
 use Rattle.zone_properties.proofs.rule_by.Tie as tie
-use Rattle.zone_properties.proofs.rule_by.Reads as reads
-use Rattle.zone_properties.proofs.rule_by.Lts as lts
 
--- src/lib.rt:124:26
 enum-known-r : tie.Need-enum-known-r
 enum-known-r c = search needs
 
--- src/lib.rt:125:38
 enum-told : tie.Need-enum-told
 enum-told c = search needs
 
--- src/lib.rt:120:1
 returns : tie.Need-returns
 unfolding ruleBy
 returns c = rw (c .before .r .given .1)
 
--- src/lib.rt:120:1
 returns-2 : tie.Need-returns-2
 unfolding ruleBy
 returns-2 c = rw (c .enum-told .given .1)

@@ -1,26 +1,19 @@
+-- `zone_properties::to_by` meets its contract: each arm is the definition's clause.
 use Rattle.zone_properties.specs.ZoneProperties.{toBy}
-use mathlib.Core.Path.{_≡_, refl, sym, ap, _∙_}
-use native.Mathlib.Omega.{arith}
 use borrow.Author.Needs.{needs}
 use Rattle.zone_properties.proofs.to_by.Statement.{statement}
 use Rattle.zone_properties.proofs.to_by.Tie as tie
-use Rattle.zone_properties.proofs.to_by.Reads as reads
-use Rattle.zone_properties.proofs.to_by.Lts as lts
 
--- src/lib.rt:115:24
 enum-known-r : tie.Need-enum-known-r
 enum-known-r c = search needs
 
--- src/lib.rt:116:28
 enum-told : tie.Need-enum-told
 enum-told c = search needs
 
--- src/lib.rt:111:1
 returns : tie.Need-returns
 unfolding toBy
 returns c = rw (c .before .r .given .1)
 
--- src/lib.rt:111:1
 returns-2 : tie.Need-returns-2
 unfolding toBy
 returns-2 c = rw (c .enum-told .given .1)

@@ -1,40 +1,29 @@
+-- `zone_properties::part::by_from` meets its contract: each arm is the definition's clause.
 use Rattle.zone_properties.specs.Parts.{byFrom}
-use mathlib.Core.Path.{_≡_, refl, sym, ap, _∙_}
-use native.Mathlib.Omega.{arith}
 use borrow.Author.Needs.{needs}
 use Rattle.zone_properties.proofs.part.by_from.Statement.{statement}
 use Rattle.zone_properties.proofs.part.by_from.Tie as tie
-use Rattle.zone_properties.proofs.part.by_from.Reads as reads
-use Rattle.zone_properties.proofs.part.by_from.Lts as lts
-use Rattle.zone_properties.proofs.part.by_to.Reads as by-to-reads
 
--- src/part.rt:157:22
 enum-told : tie.Need-enum-told
 enum-told c = search needs
 
--- src/part.rt:158:21
 enum-known-from : tie.Need-enum-known-from
 enum-known-from c = search needs
 
--- src/part.rt:158:27
 by-to-requires : tie.Need-by-to-requires
 by-to-requires c κs = search needs
 
--- src/part.rt:159:25
 enum-told-2 : tie.Need-enum-told-2
 enum-told-2 c = search needs
 
--- src/part.rt:153:1
 returns : tie.Need-returns
 unfolding byFrom
 returns c = rw (c .enum-told .given .1)
 
--- src/part.rt:153:1
 returns-2 : tie.Need-returns-2
 unfolding byFrom
 returns-2 c = simp (c .by-to .ensures, c .before .before .from .given .1)
 
--- src/part.rt:153:1
 returns-3 : tie.Need-returns-3
 unfolding byFrom
 returns-3 c = rw (c .enum-told2 .given .1)

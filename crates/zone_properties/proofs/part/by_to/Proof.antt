@@ -1,40 +1,29 @@
+-- `zone_properties::part::by_to` meets its contract: each arm is the definition's clause.
 use Rattle.zone_properties.specs.Parts.{byTo}
-use mathlib.Core.Path.{_≡_, refl, sym, ap, _∙_}
-use native.Mathlib.Omega.{arith}
 use borrow.Author.Needs.{needs}
 use Rattle.zone_properties.proofs.part.by_to.Statement.{statement}
 use Rattle.zone_properties.proofs.part.by_to.Tie as tie
-use Rattle.zone_properties.proofs.part.by_to.Reads as reads
-use Rattle.zone_properties.proofs.part.by_to.Lts as lts
-use Rattle.zone_properties.proofs.part.by_rule.Reads as by-rule-reads
 
--- src/part.rt:147:22
 enum-told : tie.Need-enum-told
 enum-told c = search needs
 
--- src/part.rt:148:21
 enum-known-to : tie.Need-enum-known-to
 enum-known-to c = search needs
 
--- src/part.rt:148:27
 by-rule-requires : tie.Need-by-rule-requires
 by-rule-requires c κs = search needs
 
--- src/part.rt:149:25
 enum-told-2 : tie.Need-enum-told-2
 enum-told-2 c = search needs
 
--- src/part.rt:143:1
 returns : tie.Need-returns
 unfolding byTo
 returns c = rw (c .enum-told .given .1)
 
--- src/part.rt:143:1
 returns-2 : tie.Need-returns-2
 unfolding byTo
 returns-2 c = simp (c .by-rule .ensures, c .before .before .to .given .1)
 
--- src/part.rt:143:1
 returns-3 : tie.Need-returns-3
 unfolding byTo
 returns-3 c = rw (c .enum-told2 .given .1)

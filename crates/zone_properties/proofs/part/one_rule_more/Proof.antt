@@ -1,35 +1,26 @@
+-- `zone_properties::part::one_rule_more` meets its contract: each arm is the definition's clause.
 use Rattle.zone_properties.specs.Parts.{oneRuleMore}
-use mathlib.Core.Path.{_≡_, refl, sym, ap, _∙_}
-use native.Mathlib.Omega.{arith}
 use borrow.Author.Needs.{needs}
 use Rattle.zone_properties.proofs.part.one_rule_more.Statement.{statement}
 use Rattle.zone_properties.proofs.part.one_rule_more.Tie as tie
-use Rattle.zone_properties.proofs.part.one_rule_more.Reads as reads
-use Rattle.zone_properties.proofs.part.one_rule_more.Lts as lts
 
--- src/part.rt:59:26
 enum-told : tie.Need-enum-told
 enum-told c = search needs
 
--- src/part.rt:60:25
 enum-known-g : tie.Need-enum-known-g
 enum-known-g c = search needs
 
--- src/part.rt:61:29
 enum-told-2 : tie.Need-enum-told-2
 enum-told-2 c = search needs
 
--- src/part.rt:55:1
 returns : tie.Need-returns
 unfolding oneRuleMore
 returns c = rw (c .enum-told .given .1)
 
--- src/part.rt:55:1
 returns-2 : tie.Need-returns-2
 unfolding oneRuleMore
 returns-2 c = rw (c .before .g .given .1)
 
--- src/part.rt:55:1
 returns-3 : tie.Need-returns-3
 unfolding oneRuleMore
 returns-3 c = rw (c .enum-told2 .given .1)

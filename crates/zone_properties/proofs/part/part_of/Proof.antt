@@ -1,40 +1,29 @@
+-- `zone_properties::part::part_of` meets its contract: each arm is the definition's clause.
 use Rattle.zone_properties.specs.Parts.{partOf}
-use mathlib.Core.Path.{_≡_, refl, sym, ap, _∙_}
-use native.Mathlib.Omega.{arith}
 use borrow.Author.Needs.{needs}
 use Rattle.zone_properties.proofs.part.part_of.Statement.{statement}
 use Rattle.zone_properties.proofs.part.part_of.Tie as tie
-use Rattle.zone_properties.proofs.part.part_of.Reads as reads
-use Rattle.zone_properties.proofs.part.part_of.Lts as lts
-use Rattle.zone_properties.proofs.part.by_from.Reads as by-from-reads
 
--- src/part.rt:172:22
 enum-told : tie.Need-enum-told
 enum-told c = search needs
 
--- src/part.rt:173:21
 enum-known-start : tie.Need-enum-known-start
 enum-known-start c = search needs
 
--- src/part.rt:173:27
 by-from-requires : tie.Need-by-from-requires
 by-from-requires c κs = search needs
 
--- src/part.rt:174:25
 enum-told-2 : tie.Need-enum-told-2
 enum-told-2 c = search needs
 
--- src/part.rt:164:1
 returns : tie.Need-returns
 unfolding partOf
 returns c = rw (c .enum-told .given .1)
 
--- src/part.rt:164:1
 returns-2 : tie.Need-returns-2
 unfolding partOf
 returns-2 c = simp (c .by-from .ensures, c .before .before .start .given .1)
 
--- src/part.rt:164:1
 returns-3 : tie.Need-returns-3
 unfolding partOf
 returns-3 c = rw (c .enum-told2 .given .1)
