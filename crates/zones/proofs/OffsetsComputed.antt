@@ -15,7 +15,7 @@ use Rattle.zones.specs.Onsets.{IsOnset, LatestFound, latestOnset}
 use Rattle.zones.specs.Offsets.{offsetAfter, OpeningPart, GoverningFound, IsOffset, after, before, IsUtcClock}
 use Rattle.zones.specs.Offsets.{laterOnset, governing, earlierPart, openingPart, offsetBy, offsetOf, utcClock}
 use Rattle.zones.proofs.OnsetsLaws.{latest-is}
-use Rattle.zones.proofs.OffsetsLaws.{none-yet, pass-none, pass-lower, pass-taken, open-first, open-keep, open-take, one-offset, offset-small}
+use Rattle.zones.proofs.OffsetsLaws.{none-yet, pass-none, pass-lower, pass-taken, open-first, open-keep, open-take, one-offset, offset-small, offset-same}
 
 -- ---- part by part
 
@@ -94,3 +94,12 @@ module _ (at : ℕ → Part) (n w : ℕ) (h : 1 ≤ n) (g : (i : ℕ) → i < n 
   pub utc-cut : (o : ℕ) → IsOffset at n w o → w + 86400 < o → 0 ≡ utcClock at n w
   unfolding utcClock
   utc-cut o x l = omega (arith, offset-iff o .1 x)
+
+-- zones with the same parts give a clock the same UTC time
+pub utc-same : (at too : ℕ → Part) (n w : ℕ) → 1 ≤ n → ((i : ℕ) → i < n → GoodPart (at i)) → ((i : ℕ) → i < n → at i ≡ too i)
+    → utcClock at n w ≡ utcClock too n w
+unfolding utcClock
+utc-same at too n w h g same =
+    ap (λ (a : ℕ). w + 86400 - a)
+    (offset-iff too n w h (λ i l. subst (λ (p : Part). GoodPart p) (same i l) (g i l)) (offsetOf at n w) .1
+    (offset-same at too n same w (offsetOf at n w) (offset-is at n w h g)))

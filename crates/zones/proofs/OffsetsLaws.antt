@@ -170,3 +170,30 @@ offset-small at n w o g (after i t x e) =
     let s : (1 ≤ offsetAfter (at i) w t) × (offsetAfter (at i) w t ≤ 172799) = after-small (at i) w t (g i (x .listed)) in
     (omega (arith, s .0), omega (arith, s .1))
 offset-small at n w o g (before i t x y e) = (omega (arith, g i (y .listed) .from-some), omega (arith, g i (y .listed) .from-good))
+
+-- ---- zones with the same parts have the same offsets
+
+module _ (at too : ℕ → Part) (n : ℕ) (same : (i : ℕ) → i < n → at i ≡ too i) where
+  onset-of : (i t : ℕ) → i < n → IsOnset (too i) t → IsOnset (at i) t
+  onset-of i t h o = rw (same i h) o
+
+  pub offset-same : (w o : ℕ) → IsOffset at n w o → IsOffset too n w o
+  offset-same w o (after i t x e) =
+      after i t
+      (record {
+        listed = x .listed;
+        is-onset = rw (same i (x .listed)) at (x .is-onset);
+        reached = x .reached;
+        greatest = λ j u h y. x .greatest j u h (onset-of j u h y);
+        last = λ j h y. x .last j h (onset-of j t h y);
+      })
+      (rw (same i (x .listed)) at e)
+  offset-same w o (before i t x y e) =
+      before i t (λ j u h z. x j u h (onset-of j u h z))
+      (record {
+        listed = y .listed;
+        is-onset = rw (same i (y .listed)) at (y .is-onset);
+        least = λ j u h z. y .least j u h (onset-of j u h z);
+        last = λ j h z. y .last j h (onset-of j t h z);
+      })
+      (rw (same i (y .listed)) at e)

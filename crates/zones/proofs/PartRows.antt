@@ -86,3 +86,12 @@ start-rows parts first t s = let e : first + 0 ≡ first = omega arith in rw e s
 
 pub open-rows : (parts : List ℕ) (first t : ℕ) → t ≡ getD parts (8 * first) 0 → Opens (partsFrom parts first) 1 0 t
 open-rows parts first t s = open-first (partsFrom parts first) t (start-rows parts first t s)
+
+-- what is put to a row of the zone is its part there, and the others are as they were
+pub parts-put : {old new : List ℕ} (first i : ℕ) (p : Part) → PartPut old (first + i) (partRow p) new → partsFrom new first i ≡ p
+unfolding partsFrom
+parts-put first i p w = part-put p w
+
+pub parts-kept : {old row new : List ℕ} {k : ℕ} (first i : ℕ) → PartPut old k row new → (first + i ≡ k → ⊥) → partsFrom new first i ≡ partsFrom old first i
+unfolding partsFrom
+parts-kept first i w d = part-kept (first + i) w d

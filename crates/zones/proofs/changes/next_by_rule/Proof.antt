@@ -1,5 +1,5 @@
 -- `zones::changes::next_by_rule` meets its contract: the loop keeps that no day of the rule in an earlier year comes after w.
-use Prim.Native.Nat.{_-_}
+use Prim.Native.Nat.{_-_, _≤_}
 use native.Mathlib.Omega.{arith}
 use borrow.Author.Needs.{needs}
 use Rattle.zones.proofs.RuleDayYears.{day-small}
@@ -28,19 +28,20 @@ rule-day-requires c κs = omega arith
 enum-known-found : tie.Need-enum-known-found Inv-loop μ-loop
 enum-known-found c = search needs
 
+-- the day that was found is one of ten thousand years
+day-few : (c : tie.After-known-told Inv-loop μ-loop) → c .before .found .given .0 .0 ≤ 4000000
+day-few c =
+    day-small (c .before .before .before .before .before .before .before .before .args .p) _ _ _
+    (c .before .before .before .rule-day .ensures)
+    (c .before .found .given .1)
+    (omega arith)
+    (c .before .before .before .before .before .before .before .before .pre .0 .month-good)
+
 mul-t : tie.Need-mul-t Inv-loop μ-loop
-mul-t c =
-    omega (
-      arith,
-      day-small (c .before .before .before .before .before .before .before .before .args .p) _ _ _ (c .before .before .before .rule-day .ensures) (c .before .found .given .1) (omega arith) (c .before .before .before .before .before .before .before .before .pre .0 .month-good),
-    )
+mul-t c = omega (arith, day-few c)
 
 add-t : tie.Need-add-t Inv-loop μ-loop
-add-t c =
-    omega (
-      arith,
-      day-small (c .before .before .before .before .before .before .before .before .args .p) _ _ _ (c .before .before .before .rule-day .ensures) (c .before .found .given .1) (omega arith) (c .before .before .before .before .before .before .before .before .pre .0 .month-good),
-    )
+add-t c = omega (arith, day-few c)
 
 returns : tie.Need-returns Inv-loop μ-loop
 returns c =
@@ -54,7 +55,11 @@ loop-less : tie.Need-loop-less Inv-loop μ-loop
 loop-less c = omega arith
 
 loop-again : tie.Need-loop-again Inv-loop μ-loop
-loop-again c = over-at _ _ _ _ (c .before .before .before .before .rule-day .ensures) (c .before .before .before .before .before .before .loop .inv) _ (c .before .before .found .given .1) (c .if1 .left)
+loop-again c =
+    over-at _ _ _ _ (c .before .before .before .before .rule-day .ensures) (c .before .before .before .before .before .before .loop .inv)
+    _
+    (c .before .before .found .given .1)
+    (c .if1 .left)
 
 enum-told : tie.Need-enum-told Inv-loop μ-loop
 enum-told c = search needs

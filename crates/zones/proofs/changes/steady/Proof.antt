@@ -23,7 +23,10 @@ steady-after-requires : tie.Need-steady-after-requires
 steady-after-requires c κs = (
   good-as _ _ (as-part _ _ _ _ (c .part-at .ensures))
       (c .before .before .before .before .before .pre .0 .good _ (c .before .before .find-governing .ensures .found (c .before .if1 .taken) .listed)),
-  (c .before .before .find-governing .ensures .found (c .before .if1 .taken) .reached, (c .before .before .before .next-change .ensures .later, c .before .before .before .next-change .ensures .in-time)),
+  (
+    c .before .before .find-governing .ensures .found (c .before .if1 .taken) .reached,
+    (c .before .before .before .next-change .ensures .later, c .before .before .before .next-change .ensures .in-time),
+  ),
 )
 
 returns : tie.Need-returns

@@ -23,10 +23,18 @@ sub-t12 : tie.Need-sub-t12
 sub-t12 c = search needs
 
 returns : tie.Need-returns
-returns c = stays-gap _ _ _ _ (c .before .before .before .before .before .before .before .before .pre .1 .0) (c .before .before .before .before .before .before .before .before .pre .1 .1 .0) (c .before .before .before .before .before .if1 .taken) (c .before .before .if2 .taken)
+returns c =
+    stays-gap _ _ _ _ (c .before .before .before .before .before .before .before .before .pre .1 .0)
+    (c .before .before .before .before .before .before .before .before .pre .1 .1 .0)
+    (c .before .before .before .before .before .if1 .taken)
+    (c .before .before .if2 .taken)
 
 returns-2 : tie.Need-returns-2
-returns-2 c = stays-from _ _ _ _ (c .before .before .before .before .before .before .pre .1 .0) (c .before .before .before .before .before .before .pre .1 .1 .0) (c .before .before .before .if1 .taken) (c .if2 .left)
+returns-2 c =
+    stays-from _ _ _ _ (c .before .before .before .before .before .before .pre .1 .0)
+    (c .before .before .before .before .before .before .pre .1 .1 .0)
+    (c .before .before .before .if1 .taken)
+    (c .if2 .left)
 
 returns-3 : tie.Need-returns-3
 returns-3 c = stays-to _ _ _ _ (c .before .before .before .pre .1 .0) (c .before .before .before .pre .1 .1 .0) (c .if1 .left)

@@ -24,7 +24,8 @@ add-if2 c =
     omega (
       arith,
       good-as _ _ (as-part _ _ _ _ (c .before .before .part-at .ensures))
-          (c .before .before .before .before .before .before .pre .0 .good _ (c .before .before .before .before .find-governing .ensures .found (c .before .before .before .if1 .taken) .listed)) .from-good,
+          (c .before .before .before .before .before .before .pre .0 .good _
+          (c .before .before .before .before .find-governing .ensures .found (c .before .before .before .if1 .taken) .listed)) .from-good,
     )
 
 returns : tie.Need-returns

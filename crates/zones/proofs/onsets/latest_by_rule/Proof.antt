@@ -37,27 +37,20 @@ rule-day-requires c κs = omega arith
 enum-known-found : tie.Need-enum-known-found Inv-loop μ-loop
 enum-known-found c = search needs
 
+-- the day that was found is one of ten thousand years
+day-few : (c : tie.After-known-told Inv-loop μ-loop) → c .before .found .given .0 .0 ≤ 4000000
+day-few c =
+    day-small (c .before .before .before .before .before .before .before .before .args .p) _ _ _
+    (c .before .before .before .rule-day .ensures)
+    (c .before .found .given .1)
+    (omega arith)
+    (c .before .before .before .before .before .before .before .before .pre .0 .month-good)
+
 mul-t : tie.Need-mul-t Inv-loop μ-loop
-mul-t c =
-    omega (
-      arith,
-      day-small (c .before .before .before .before .before .before .before .before .args .p) _ _ _
-          (c .before .before .before .rule-day .ensures)
-          (c .before .found .given .1)
-          (omega arith)
-          (c .before .before .before .before .before .before .before .before .pre .0 .month-good),
-    )
+mul-t c = omega (arith, day-few c)
 
 add-t : tie.Need-add-t Inv-loop μ-loop
-add-t c =
-    omega (
-      arith,
-      day-small (c .before .before .before .before .before .before .before .before .args .p) _ _ _
-          (c .before .before .before .rule-day .ensures)
-          (c .before .found .given .1)
-          (omega arith)
-          (c .before .before .before .before .before .before .before .before .pre .0 .month-good),
-    )
+add-t c = omega (arith, day-few c)
 
 returns : tie.Need-returns Inv-loop μ-loop
 returns c =
