@@ -6,7 +6,7 @@ use lib.ListN.{length}
 use Rattle.ascii.specs.Words.{ascii}
 use Rattle.text.specs.Lines.{joined}
 use Rattle.time.specs.Days.{isLeap, monthLengths, lengthIn, beforeIn, daysBeforeMonth, yearDays, daysBeforeYear}
-use Rattle.time.specs.Writing.{yearOf, dayOfYear, begun, monthIn, dayOf, digit, dateText, timeText, utcText}
+use Rattle.time.specs.Writing.{yearFrom, yearOf, dayOfYear, begun, monthIn, dayOf, digit, dateText, timeText, utcText}
 use Rattle.periods.specs.declared.Period.{Period}
 use Rattle.periods.specs.declared.BusyType.{BusyType}
 use Rattle.periods.specs.Periods.{period}
@@ -46,5 +46,5 @@ pub example-bytes : reportBytes exampleReport
     ∷ ascii "END:VFREEBUSY"
     ∷ ascii "END:VCALENDAR"
     ∷ [])
-unfolding exampleReport examplePeriods reportBytes reportLines busyLines periodLines periodText periodHead utcText dateText timeText digit dayOf monthIn begun yearOf dayOfYear isLeap monthLengths lengthIn beforeIn daysBeforeMonth yearDays daysBeforeYear
+unfolding exampleReport examplePeriods reportBytes reportLines busyLines periodLines periodText periodHead utcText dateText timeText digit dayOf monthIn begun yearFrom yearOf dayOfYear isLeap monthLengths lengthIn beforeIn daysBeforeMonth yearDays daysBeforeYear
 example-bytes = refl

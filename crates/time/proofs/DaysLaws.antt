@@ -1,4 +1,4 @@
--- Laws of days: those before a year by direct arithmetic and those before a month by a table,
+-- Laws of days: leap years by 16, the days before a year and before a month by direct arithmetic,
 -- each against the count year by year and month by month.
 use Prim.Native.Nat.{ℕ, zero, suc, _+_, _-_, _*_, _/_, _%_, _≤_, _<_}
 use mathlib.Core.Path.{_≡_, refl, ap, _∙_, sym}
@@ -9,10 +9,10 @@ use native.Mathlib.Nat.{div-add-mod', div-eq-of-lt, mul-add-div-right, mod-lt, a
 use native.Mathlib.Decide.{decLt}
 use lib.Dec.{eqb, ltb, leb}
 use lib.ListN.{getD, List·getD-eq-default}
-use borrow.Author.Tests.{eqb-true, eq-eqb, ne-eqb, leb-true}
-use Rattle.ascii.proofs.Bools.{clash}
+use borrow.Author.Tests.{eqb-true, eq-eqb, ne-eqb, leb-true, ltb-true, ltb-false}
+use Rattle.ascii.proofs.Bools.{clash, or-left, or-right}
 use Rattle.time.specs.Days.{isLeap, yearDays, daysBeforeYear, yearIn, monthDays, daysBeforeMonth, monthLengths, lengthIn, beforeIn}
-use Rattle.time.proofs.Below.{below}
+use Rattle.time.proofs.Below.{below, between}
 
 -- 1 for a test that holds
 abbrev bit : Bool → ℕ
@@ -48,6 +48,31 @@ hundred-fourth y h = omega arith
 four-hundred-hundred : (y : ℕ) → y % 400 ≡ 0 → y % 100 ≡ 0
 four-hundred-hundred y h = omega arith
 
+four-hundred-sixteen : (y : ℕ) → y % 400 ≡ 0 → y % 16 ≡ 0
+four-hundred-sixteen y h = omega arith
+
+-- of the numbers below 400, of which y leaves one, only 0 is divided by 100 and by 16
+hundred-sixteen : (y : ℕ) → y % 100 ≡ 0 → y % 16 ≡ 0 → y % 400 ≡ 0
+hundred-sixteen y h k =
+    let a : eqb (y % 400 % 100) 0 ≡ true = eq-eqb _ _ (let z : y % 400 % 100 ≡ 0 = omega arith in z) in
+    let b : eqb (y % 400 % 16) 0 ≡ true = eq-eqb _ _ (let z : y % 400 % 16 ≡ 0 = omega arith in z) in
+    eqb-true _ _ (rw (a, b) at (below (λ r. not (eqb (r % 100) 0) || (not (eqb (r % 16) 0) || eqb r 0)) 400 refl (y % 400) (omega arith)))
+
+-- of the hundreds every fourth is one that 16 divides
+pub isLeap-direct : (y : ℕ) → (eqb (y % 4) 0 && (not (eqb (y % 100) 0) || eqb (y % 16) 0)) ≡ isLeap y
+unfolding isLeap
+isLeap-direct y = go (eqb (y % 4) 0) (eqb (y % 100) 0) (eqb (y % 400) 0) (eqb (y % 16) 0) refl refl refl refl
+  where
+    go : (a b c d : Bool) → eqb (y % 4) 0 ≡ a → eqb (y % 100) 0 ≡ b → eqb (y % 400) 0 ≡ c → eqb (y % 16) 0 ≡ d
+        → (a && (not b || d)) ≡ (a && not b || c)
+    go true true true true p q r s = refl
+    go true true true false p q r s = clash (eq-eqb _ _ (four-hundred-sixteen y (eqb-true _ _ r))) s
+    go true true false true p q r s = clash (eq-eqb _ _ (hundred-sixteen y (eqb-true _ _ q) (eqb-true _ _ s))) r
+    go true true false false p q r s = refl
+    go true false c d p q r s = refl
+    go false b true d p q r s = clash (eq-eqb _ _ (hundred-fourth y (four-hundred-hundred y (eqb-true _ _ r)))) p
+    go false b false d p q r s = refl
+
 -- the leap day of a year: one every fourth, none every hundredth, one again every four hundredth
 leap-day : (y : ℕ) → yearDays y + bit (eqb (y % 100) 0) ≡ 365 + bit (eqb (y % 4) 0) + bit (eqb (y % 400) 0)
 unfolding isLeap yearDays
@@ -73,6 +98,14 @@ sum-direct (suc y) = omega (arith, sum-direct y, counted-next 3 y, counted-next 
 pub daysBeforeYear-direct : (y : ℕ) → daysBeforeYear y ≡ 365 * y + (y + 3) / 4 + (y + 399) / 400 - (y + 99) / 100
 daysBeforeYear-direct y = omega (arith, sum-direct y)
 
+-- every fourth of the hundreds is every four hundredth
+hundreds-fourth : (y : ℕ) → ((y + 99) / 100 + 3) / 4 ≡ (y + 399) / 400
+hundreds-fourth y = omega arith
+
+-- the same with one division, the others being by powers of two
+pub daysBeforeYear-once : (y : ℕ) → 365 * y + (y + 3) / 4 + ((y + 99) / 100 + 3) / 4 - (y + 99) / 100 ≡ daysBeforeYear y
+daysBeforeYear-once y = rw (hundreds-fourth y) (sym (daysBeforeYear-direct y))
+
 -- the days of ten thousand years
 pub daysBeforeYear-small : (y : ℕ) → y ≤ 9999 → daysBeforeYear y ≤ 3652060
 daysBeforeYear-small y h = omega (arith, sum-direct y)
@@ -85,27 +118,23 @@ pub yearIn-small : (leap : Bool) → yearIn leap ≤ 366
 yearIn-small true = omega arith
 yearIn-small false = omega arith
 
--- the days of a year without a leap day before each month
-abbrev pub beforeMonth : List ℕ
-beforeMonth = 0 ∷ 0 ∷ 31 ∷ 59 ∷ 90 ∷ 120 ∷ 151 ∷ 181 ∷ 212 ∷ 243 ∷ 273 ∷ 304 ∷ 334 ∷ []
-
-bit-small : (b : Bool) → cond b 1 0 ≤ 1
-bit-small true = omega arith
-bit-small false = omega arith
-
-pub beforeIn-table : (leap : Bool) (m : ℕ) → m ≤ 12 → beforeIn leap m ≡ getD beforeMonth m 0 + cond (ltb 2 m && leap) 1 0
+-- the days before a month by a division by 16, computed for every month
+pub beforeIn-early : (leap : Bool) (m : ℕ) → m < 3 → m / 2 * 31 ≡ beforeIn leap m
 unfolding beforeIn lengthIn monthLengths
-beforeIn-table true m h = eqb-true _ _ (below (λ m. eqb (beforeIn true m) (getD beforeMonth m 0 + cond (ltb 2 m && true) 1 0)) 13 refl m (omega arith))
-beforeIn-table false m h = eqb-true _ _ (below (λ m. eqb (beforeIn false m) (getD beforeMonth m 0 + cond (ltb 2 m && false) 1 0)) 13 refl m (omega arith))
+beforeIn-early true m h = eqb-true _ _ (below (λ m. eqb (m / 2 * 31) (beforeIn true m)) 3 refl m h)
+beforeIn-early false m h = eqb-true _ _ (below (λ m. eqb (m / 2 * 31) (beforeIn false m)) 3 refl m h)
 
--- 29 days for the February of a leap year, else the table's; none past December
-pub monthDays-leap : (y m : ℕ) (leap : Bool) → leap ≡ isLeap y → (eqb m 2 && leap) ≡ true → 29 ≡ monthDays y m
-unfolding monthDays lengthIn
-monthDays-leap y m leap e t = rw (← e, t)
+beforeIn-late : (leap : Bool) (m : ℕ) → 3 ≤ m → m ≤ 12 → (489 * m - 512) / 16 + cond leap 1 0 ≡ beforeIn leap m
+unfolding beforeIn lengthIn monthLengths
+beforeIn-late true m h k = eqb-true _ _ (between (λ m. eqb ((489 * m - 512) / 16 + 1) (beforeIn true m)) 3 13 refl m h (omega arith))
+beforeIn-late false m h k = eqb-true _ _ (between (λ m. eqb ((489 * m - 512) / 16 + 0) (beforeIn false m)) 3 13 refl m h (omega arith))
 
-pub monthDays-table : (y m : ℕ) (leap : Bool) → leap ≡ isLeap y → (eqb m 2 && leap) ≡ false → getD monthLengths m 0 ≡ monthDays y m
-unfolding monthDays lengthIn
-monthDays-table y m leap e t = rw (← e, t)
+-- from March on, one day more in a leap year
+pub beforeIn-leap : (leap : Bool) (m : ℕ) → leap ≡ true → 3 ≤ m → m ≤ 12 → (489 * m - 512) / 16 + 1 ≡ beforeIn leap m
+beforeIn-leap leap m e h k = rw e (beforeIn-late true m h k)
+
+pub beforeIn-other : (leap : Bool) (m : ℕ) → leap ≡ false → 3 ≤ m → m ≤ 12 → (489 * m - 512) / 16 ≡ beforeIn leap m
+beforeIn-other leap m e h k = rw e (omega (arith, beforeIn-late false m h k))
 
 lengthIn-none : (leap : Bool) (m : ℕ) → 12 < m → lengthIn leap m ≡ 0
 unfolding lengthIn monthLengths
@@ -135,22 +164,40 @@ pub monthDays-small : (y m : ℕ) → m ≤ 12 → monthDays y m ≤ 31
 unfolding monthDays
 monthDays-small y m h = lengthIn-small (isLeap y) m h
 
-pub beforeMonth-small : (m : ℕ) → m ≤ 12 → getD beforeMonth m 0 ≤ 334
-beforeMonth-small m h = leb-true _ _ (below (λ m. leb (getD beforeMonth m 0) 334) 13 refl m (omega arith))
+-- no days where there is no month, 29 or 28 in February, 31 in the odd months to July and the even ones from August, else 30
+pub monthDays-outside : (y m : ℕ) → (eqb m 0 || ltb 12 m) ≡ true → 0 ≡ monthDays y m
+unfolding monthDays lengthIn monthLengths
+monthDays-outside y m t = go (eqb m 0) refl
+  where
+    go : (b : Bool) → eqb m 0 ≡ b → 0 ≡ monthDays y m
+    go true e = rw (eqb-true m 0 e)
+    go false e = monthDays-none y m (ltb-true 12 m (rw e at t))
 
--- the table, and one day more past the February of a leap year
-pub daysBeforeMonth-leap : (y m : ℕ) (leap : Bool) → leap ≡ isLeap y → (ltb 2 m && leap) ≡ true → m ≤ 12 → getD beforeMonth m 0 + 1 ≡ daysBeforeMonth y m
-unfolding daysBeforeMonth
-daysBeforeMonth-leap y m leap e t h = rw (← e, beforeIn-table leap m h, t)
+pub month-inside : (m : ℕ) → (eqb m 0 || ltb 12 m) ≡ false → m ≤ 12
+month-inside m t = ltb-false 12 m (or-right (eqb m 0) (ltb 12 m) t)
 
-pub daysBeforeMonth-table : (y m : ℕ) (leap : Bool) → leap ≡ isLeap y → (ltb 2 m && leap) ≡ false → m ≤ 12 → getD beforeMonth m 0 ≡ daysBeforeMonth y m
+pub monthDays-february : (y m : ℕ) (leap t : Bool) → m ≡ 2 → leap ≡ isLeap y → leap ≡ t → cond t 29 28 ≡ monthDays y m
+unfolding monthDays lengthIn monthLengths
+monthDays-february y m leap true h e t = rw (h, ← e, t)
+monthDays-february y m leap false h e t = rw (h, ← e, t)
+
+pub monthDays-other : (y m : ℕ) → (eqb m 0 || ltb 12 m) ≡ false → (m ≡ 2 → ⊥) → 30 + (m + m / 8) % 2 ≡ monthDays y m
+unfolding monthDays lengthIn monthLengths
+monthDays-other y m t h =
+    let n : eqb m 0 ≡ false = or-left (eqb m 0) (ltb 12 m) t in
+    let k = month-inside m t in
+    rw (ne-eqb m 2 h)
+    (eqb-true _ _ (rw (n, ne-eqb m 2 h) at (below (λ m. eqb m 0 || (eqb m 2 || eqb (30 + (m + m / 8) % 2) (getD monthLengths m 0))) 13 refl m (omega arith))))
+
+pub daysBeforeMonth-by : (y m r : ℕ) (leap : Bool) → leap ≡ isLeap y → r ≡ beforeIn leap m → r ≡ daysBeforeMonth y m
 unfolding daysBeforeMonth
-daysBeforeMonth-table y m leap e t h = rw (← e, beforeIn-table leap m h, t) (omega arith)
+daysBeforeMonth-by y m r leap e h = rw (h, e)
 
 -- fewer than a year's days
 pub daysBeforeMonth-small : (y m : ℕ) → m ≤ 12 → daysBeforeMonth y m ≤ 335
-unfolding daysBeforeMonth
+unfolding daysBeforeMonth beforeIn lengthIn monthLengths
 daysBeforeMonth-small y m h = go (isLeap y)
   where
     go : (leap : Bool) → beforeIn leap m ≤ 335
-    go leap = omega (arith, beforeIn-table leap m h, beforeMonth-small m h, bit-small (ltb 2 m && leap))
+    go true = leb-true _ _ (below (λ m. leb (beforeIn true m) 335) 13 refl m (omega arith))
+    go false = leb-true _ _ (below (λ m. leb (beforeIn false m) 335) 13 refl m (omega arith))

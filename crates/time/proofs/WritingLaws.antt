@@ -1,15 +1,16 @@
 -- A second written as a UTC DATE-TIME: year, month and day of its day, its length and bytes,
 -- and that it reads as that second.
-use Prim.Native.Nat.{ℕ, suc, _+_, _-_, _*_, _/_, _≤_, _<_, _%_}
-use mathlib.Core.Path.{_≡_, refl, sym, ap, _∙_}
-use mathlib.Core.Bool.{Bool, true, false, cond, _&&_, _||_}
+use Prim.Native.Nat.{ℕ, zero, suc, _+_, _-_, _*_, _/_, _≤_, _<_, _%_}
+use mathlib.Core.Path.{_≡_, refl, sym, ap, subst, _∙_}
+use mathlib.Core.Bool.{Bool, true, false, cond, not, _&&_, _||_}
 use mathlib.Core.List.{List, _++_}
+use mathlib.Core.Logic.{_↔_}
 use native.Mathlib.Omega.{arith}
 use native.Mathlib.Decide.{decLt}
 use lib.Dec.{eqb, ltb, leb}
 use lib.ListN.{length}
 use lib.Seq.{sets}
-use borrow.Author.Tests.{eqb-true, leb-true, ltb-true, le-ltb, le-leb, ne-eqb}
+use borrow.Author.Tests.{eqb-true, eqb-false, leb-true, ltb-true, ltb-false, le-leb, ne-eqb}
 use Rattle.ascii.specs.Bytes.{isDigit, upper}
 use Rattle.ascii.specs.Names.{every}
 use Rattle.ascii.proofs.Bools.{and-left, and-right}
@@ -19,35 +20,28 @@ use Rattle.time.specs.declared.date_time.DateTime.{DateTime}
 use Rattle.time.specs.declared.date_time.Kind.{Kind}
 use Rattle.time.specs.declared.writing.Day.{Day}
 use Rattle.time.specs.Days.{isLeap, yearIn, yearDays, daysBeforeYear, monthLengths, lengthIn, beforeIn, daysBeforeMonth, monthDays, isDay, dayNumber}
-use Rattle.time.specs.Writing.{yearOf, dayOfYear, begun, monthIn, dayOf, digit, dateText, timeText, utcText, isUtcByte}
+use Rattle.time.specs.Writing.{yearFrom, yearOf, YearIs, dayOfYear, begun, monthIn, dayOf, digit, dateText, timeText, utcText, isUtcByte}
 use Rattle.time.specs.DateTime.{digitPair, pairAt, joined, yearAt, checkedDay, three, dateAt, checkedTime, timeAt, readDateTime}
 use Rattle.time.specs.Limits.{epoch, lastSecond}
-use Rattle.time.proofs.Below.{below}
-use Rattle.time.proofs.DaysLaws.{sum-direct, epoch-day, monthDays-small}
+use Rattle.time.proofs.Below.{below, between}
+use Rattle.time.proofs.DaysLaws.{sum-direct, daysBeforeYear-direct, epoch-day, monthDays-small}
 use Rattle.time.proofs.LimitsLaws.{epoch-number}
 use Rattle.time.proofs.DateTime.{clockAt-of, readDateTime-utc}
 use Rattle.time.proofs.Stores.{sets-append}
 
--- the month by a division
-pub monthIn-early : (leap : Bool) (n : ℕ) → n < 59 → (12 * n + 373) / 367 ≡ monthIn leap n
+-- the month by a division by 2048, computed at every day of a year
+pub monthIn-early : (leap : Bool) (n : ℕ) → n < 59 → (67 * n + 2048) / 2048 ≡ monthIn leap n
 unfolding monthIn begun beforeIn lengthIn monthLengths
-monthIn-early true n h = eqb-true _ _ (below (λ n. eqb ((12 * n + 373) / 367) (monthIn true n)) 59 refl n h)
-monthIn-early false n h = eqb-true _ _ (below (λ n. eqb ((12 * n + 373) / 367) (monthIn false n)) 59 refl n h)
+monthIn-early true n h = eqb-true _ _ (below (λ n. eqb ((67 * n + 2048) / 2048) (monthIn true n)) 59 refl n h)
+monthIn-early false n h = eqb-true _ _ (below (λ n. eqb ((67 * n + 2048) / 2048) (monthIn false n)) 59 refl n h)
 
--- past the first 59 days the rule holds, where it holds at every number with those let through
-late : (f : ℕ → Bool) (n : ℕ) → 59 ≤ n → (ltb n 59 || f n) ≡ true → f n ≡ true
-late f n h e = rw (le-ltb n 59 h) at e
-
-pub monthIn-late : (leap : Bool) (n : ℕ) → 59 ≤ n → n < yearIn leap → (12 * n + cond leap 385 397) / 367 ≡ monthIn leap n
+monthIn-late : (leap : Bool) (n : ℕ) → 59 ≤ n → n < yearIn leap → (67 * n + cond leap 2148 2215) / 2048 ≡ monthIn leap n
 unfolding monthIn begun beforeIn lengthIn monthLengths
-monthIn-late true n h k =
-    eqb-true _ _
-    (late (λ n. eqb ((12 * n + 385) / 367) (monthIn true n)) n h
-    (below (λ n. ltb n 59 || eqb ((12 * n + 385) / 367) (monthIn true n)) 366 refl n k))
-monthIn-late false n h k =
-    eqb-true _ _
-    (late (λ n. eqb ((12 * n + 397) / 367) (monthIn false n)) n h
-    (below (λ n. ltb n 59 || eqb ((12 * n + 397) / 367) (monthIn false n)) 365 refl n k))
+monthIn-late true n h k = eqb-true _ _ (between (λ n. eqb ((67 * n + 2148) / 2048) (monthIn true n)) 59 366 refl n h k)
+monthIn-late false n h k = eqb-true _ _ (between (λ n. eqb ((67 * n + 2215) / 2048) (monthIn false n)) 59 365 refl n h k)
+
+pub monthIn-by : (leap t : Bool) (n : ℕ) → leap ≡ t → 59 ≤ n → n < yearIn leap → (67 * n + cond t 2148 2215) / 2048 ≡ monthIn leap n
+monthIn-by leap t n e h k = rw (← e) (monthIn-late leap n h k)
 
 -- n days of a year reach into the month m
 abbrev reaches : Bool → ℕ → ℕ → Bool
@@ -91,43 +85,127 @@ next-year : (y : ℕ) → daysBeforeYear (suc y) ≡ daysBeforeYear y + yearDays
 unfolding daysBeforeYear
 next-year y = refl
 
--- the year has begun on the day, and is not over
-pub record InYear (d : ℕ) : Type 0 where
-  pub to-2099 : yearOf d ≤ 2099
-  pub year-begun : daysBeforeYear (yearOf d) ≤ d + 719528
-  pub year-not-over : d + 719528 < daysBeforeYear (yearOf d) + yearDays (yearOf d)
-
-pub yearOf-there : (d : ℕ) → d ≤ 47481 → InYear d
-unfolding yearOf
-yearOf-there d h =
+-- the year by a division, between 1970 and 2099
+direct-there : (d : ℕ) → d ≤ 47481 → YearIs (d + daysBeforeYear 1970) (1970 + (4 * d + 2) / 1461)
+direct-there d h =
     let q : (4 * d + 2) / 1461 ≤ 129 = omega arith in
     let a : daysBeforeYear (1970 + (4 * d + 2) / 1461) + 15 ≡ 365 * (1970 + (4 * d + 2) / 1461) + (1970 + (4 * d + 2) / 1461 + 3) / 4 = near _ (omega arith) (omega arith) in
-    let b : daysBeforeYear (suc (1970 + (4 * d + 2) / 1461)) + 15 ≡ 365 * suc (1970 + (4 * d + 2) / 1461) + (suc (1970 + (4 * d + 2) / 1461) + 3) / 4 = near _ (omega arith) (omega arith) in
-    let c : daysBeforeYear (suc (1970 + (4 * d + 2) / 1461)) ≡ daysBeforeYear (1970 + (4 * d + 2) / 1461) + yearDays (1970 + (4 * d + 2) / 1461) = next-year (1970 + (4 * d + 2) / 1461) in
-    record { to-2099 = omega arith; year-begun = omega arith; year-not-over = omega arith }
+    let b : daysBeforeYear (1970 + (4 * d + 2) / 1461 + 1) + 15 ≡ 365 * (1970 + (4 * d + 2) / 1461 + 1) + (1970 + (4 * d + 2) / 1461 + 1 + 3) / 4 = near _ (omega arith) (omega arith) in
+    record { has-begun = omega (arith, epoch-day); not-over = omega (arith, epoch-day) }
+
+-- counted year by year it has begun and is not over, where the years counted go as far
+year-reached : (k y n d : ℕ) → d ≡ daysBeforeYear y + n → d < daysBeforeYear (k + suc y) → YearIs d (yearFrom k y n)
+unfolding yearFrom
+year-reached zero y n d e h =
+    let z : y + 1 ≡ zero + suc y = omega arith in
+    record { has-begun = omega arith; not-over = omega (arith, ap daysBeforeYear z) }
+year-reached (suc k) y n d e h = go (ltb n (yearDays y)) refl (λ f g. year-reached k (suc y) (n - yearDays y) d f g)
+  where
+    go : (t : Bool) → ltb n (yearDays y) ≡ t → (d ≡ daysBeforeYear (suc y) + (n - yearDays y) → d < daysBeforeYear (k + suc (suc y)) → YearIs d (yearFrom k (suc y) (n - yearDays y)))
+        → YearIs d (cond t y (yearFrom k (suc y) (n - yearDays y)))
+    go true t on =
+        let z : y + 1 ≡ suc y = omega arith in
+        record { has-begun = omega arith; not-over = omega (arith, ltb-true n (yearDays y) t, next-year y, ap daysBeforeYear z) }
+    go false t on =
+        let z : k + suc (suc y) ≡ suc k + suc y = omega arith in
+        on (omega (arith, ltb-false n (yearDays y) t, next-year y)) (omega (arith, ap daysBeforeYear z))
+
+year-there : (d : ℕ) → d ≤ 47481 → YearIs (d + daysBeforeYear 1970) (yearOf d)
+unfolding yearOf
+year-there d h = year-reached 129 1970 d (d + daysBeforeYear 1970) (omega arith) (omega (arith, epoch-day, daysBeforeYear-direct 2100))
+
+-- years rise
+years-rise : (y n : ℕ) → daysBeforeYear y ≤ daysBeforeYear (n + y)
+years-rise y zero = omega (arith, ap daysBeforeYear (let z : zero + y ≡ y = omega arith in z))
+years-rise y (suc n) = omega (arith, years-rise y n, next-year (n + y), ap daysBeforeYear (let z : suc n + y ≡ suc (n + y) = omega arith in z))
+
+-- a year that is not over is no earlier than one that has begun
+no-earlier : (d y z : ℕ) → YearIs d y → YearIs d z → z ≤ y
+no-earlier d y z g h = go (decLt y z)
+  where
+    go : Dec (y < z) → z ≤ y
+    go (no n) = omega (arith, n)
+    go (yes l) =
+        let e : z - (y + 1) + (y + 1) ≡ z = omega arith in
+        absurd (omega (arith, g .not-over, h .has-begun, years-rise (y + 1) (z - (y + 1)), ap daysBeforeYear e))
+
+-- the year of a day is the one that has begun and is not over
+pub year-iff : (d y : ℕ) → d ≤ 47481 → (yearOf d ≡ y) ↔ YearIs (d + daysBeforeYear 1970) y
+year-iff d y h = (
+  λ e. subst (YearIs (d + daysBeforeYear 1970)) e (year-there d h),
+  λ g. let t = year-there d h in let a = no-earlier _ y (yearOf d) g t in let b = no-earlier _ (yearOf d) y t g in omega (arith, a, b),
+)
+
+-- with no loop and no table
+pub yearOf-direct : (d : ℕ) → d ≤ 47481 → yearOf d ≡ 1970 + (4 * d + 2) / 1461
+yearOf-direct d h = year-iff d (1970 + (4 * d + 2) / 1461) h .1 (direct-there d h)
+
+-- the year of a day by what later laws ask of it
+record InYear (d : ℕ) : Type 0 where
+  to-2099 : yearOf d ≤ 2099
+  year-begun : daysBeforeYear (yearOf d) ≤ d + 719528
+  year-not-over : d + 719528 < daysBeforeYear (yearOf d) + yearDays (yearOf d)
+
+yearOf-there : (d : ℕ) → d ≤ 47481 → InYear d
+yearOf-there d h =
+    let t = year-there d h in
+    let z : yearOf d + 1 ≡ suc (yearOf d) = omega arith in
+    record {
+      to-2099 = omega (arith, yearOf-direct d h);
+      year-begun = omega (arith, t .has-begun, epoch-day);
+      year-not-over = omega (arith, t .not-over, epoch-day, next-year (yearOf d), ap daysBeforeYear z);
+    }
 
 -- the days of its year before a day
 pub dayOfYear-there : (d : ℕ) → d ≤ 47481 → dayOfYear d < yearDays (yearOf d)
 unfolding dayOfYear
 dayOfYear-there d h = omega (arith, epoch-day, yearOf-there d h .year-begun, yearOf-there d h .year-not-over)
 
+-- between 1970 and 2099 every fourth year is a leap year
+near-leap : (y : ℕ) → 1970 ≤ y → y ≤ 2099 → eqb (y % 4) 0 ≡ isLeap y
+unfolding isLeap
+near-leap y h k = go (eqb (y % 4) 0) refl
+  where
+    go : (t : Bool) → eqb (y % 4) 0 ≡ t → t ≡ (t && not (eqb (y % 100) 0) || eqb (y % 400) 0)
+    go true e = century (decLt 1999 y) (decLt 2000 y)
+      where
+        century : Dec (1999 < y) → Dec (2000 < y) → true ≡ (not (eqb (y % 100) 0) || eqb (y % 400) 0)
+        century (yes p) (no q) = let z : y ≡ 2000 = omega arith in rw z
+        century (yes p) (yes q) = rw (ne-eqb (y % 100) 0 (omega arith))
+        century (no p) q = rw (ne-eqb (y % 100) 0 (omega arith))
+    go false e = rw (ne-eqb (y % 400) 0 (λ z. eqb-false (y % 4) 0 e (omega (arith, z))))
+
+-- the parts that a day is computed from: its year, the days of that year before it, and whether that is a leap year
+pub record Parts (d y n : ℕ) (leap : Bool) : Type 0 where
+  pub year-of : y ≡ yearOf d
+  pub days-of : n ≡ dayOfYear d
+  pub leap-of : leap ≡ isLeap (yearOf d)
+  pub in-year : n < yearIn leap
+
+pub parts-direct : (d : ℕ) → d ≤ 47481 → Parts d (1970 + (4 * d + 2) / 1461) ((4 * d + 2) % 1461 / 4) (eqb ((1970 + (4 * d + 2) / 1461) % 4) 0)
+unfolding dayOfYear yearDays
+parts-direct d h =
+    let e = yearOf-direct d h in
+    let q : (4 * d + 2) / 1461 ≤ 129 = omega arith in
+    let leap = near-leap (1970 + (4 * d + 2) / 1461) (omega arith) (omega arith) ∙ ap isLeap (sym e) in
+    let a : daysBeforeYear (1970 + (4 * d + 2) / 1461) + 15 ≡ 365 * (1970 + (4 * d + 2) / 1461) + (1970 + (4 * d + 2) / 1461 + 3) / 4 = near _ (omega arith) (omega arith) in
+    let n : (4 * d + 2) % 1461 / 4 ≡ d + daysBeforeYear 1970 - daysBeforeYear (yearOf d) = omega (arith, a, epoch-day, ap daysBeforeYear e) in
+    record {
+      year-of = sym e;
+      days-of = n;
+      leap-of = leap;
+      in-year = rw (leap, n) (dayOfYear-there d h);
+    }
+
+-- the month that such parts reach is one of the twelve, and has begun
+pub month-fits : (d y n m : ℕ) (leap : Bool) → Parts d y n leap → m ≡ monthIn leap n → (m ≤ 12) × (beforeIn leap m ≤ n)
+month-fits d y n m leap p e = let r = monthIn-there leap n (p .in-year) in rw e (r .last, r .has-begun)
+
 -- what is computed of a day, part by part, is the day
-pub dayOf-made : (d b a m : ℕ) (leap : Bool) → b ≡ daysBeforeYear (yearOf d) → leap ≡ isLeap (yearOf d) → m ≡ monthIn leap (d + 719528 - b) → a ≡ daysBeforeMonth (yearOf d) m
-    → record { year = yearOf d; month = m; day = d + 719528 - b - a + 1 } ≡ dayOf d
-unfolding dayOf dayOfYear
-dayOf-made d b a m leap p q r s = rw (s, r, q, p, epoch-day)
-
--- the parts of such a day fit
-pub dayOf-parts : (d b m : ℕ) (leap : Bool) → d ≤ 47481 → b ≡ daysBeforeYear (yearOf d) → leap ≡ isLeap (yearOf d) → m ≡ monthIn leap (d + 719528 - b)
-    → (d + 719528 - b < yearIn leap) × (m ≤ 12) × (daysBeforeMonth (yearOf d) m ≤ d + 719528 - b)
-unfolding yearDays daysBeforeMonth
-dayOf-parts d b m leap h p q r =
-    let k : d + 719528 - b < yearIn leap = rw q (omega (arith, yearOf-there d h .year-begun, yearOf-there d h .year-not-over)) in
-    let there : Reached leap (d + 719528 - b) m = rw r (monthIn-there leap (d + 719528 - b) k) in
-    (k, there .last, rw (← q) (there .has-begun))
-
-pub monthIn-by : (leap t : Bool) (n : ℕ) → leap ≡ t → 59 ≤ n → n < yearIn leap → (12 * n + cond t 385 397) / 367 ≡ monthIn leap n
-monthIn-by leap t n e h k = rw (← e) (monthIn-late leap n h k)
+pub dayOf-made : (d y n a m : ℕ) (leap : Bool) → Parts d y n leap → m ≡ monthIn leap n → a ≡ beforeIn leap m
+    → record { year = y; month = m; day = n - a + 1 } ≡ dayOf d
+unfolding dayOf daysBeforeMonth
+dayOf-made d y n a m leap p r s = rw (s, r, p .leap-of, p .days-of, p .year-of)
 
 -- the date, and behind it the time
 pub written-parts : (o p q : List ℕ) (a t : ℕ) (d : Day) → d ≡ dayOf (t / 86400) → p ≡ sets o a (dateText d) → q ≡ sets p (a + 9) (timeText (t % 86400))

@@ -1,15 +1,25 @@
 -- Writing a UTC DATE-TIME (document 01, The report's bytes): the sixteen bytes YYYYMMDDTHHMMSSZ of a second within the limits.
-use Prim.Native.Nat.{ℕ, zero, suc, _+_, _-_, _*_, _/_, _%_}
+use Prim.Native.Nat.{ℕ, zero, suc, _+_, _-_, _/_, _%_, _≤_, _<_}
 use mathlib.Core.Bool.{Bool, cond, _||_}
 use mathlib.Core.List.{List, [], _∷_, _++_}
-use lib.Dec.{leb, eqb}
+use lib.Dec.{leb, ltb, eqb}
 use Rattle.ascii.specs.Bytes.{isDigit}
 use Rattle.time.specs.declared.writing.Day.{Day}
-use Rattle.time.specs.Days.{daysBeforeMonth, isLeap, daysBeforeYear, beforeIn}
+use Rattle.time.specs.Days.{daysBeforeMonth, isLeap, yearDays, daysBeforeYear, beforeIn}
 
--- the year of a day since 1 January 1970, up to 2099: every fourth of these years is a leap year
+-- the year that n days from 1 January of the year y reach into, at most k years on: year by year, the days of each taken off
+unfoldable pub yearFrom : ℕ → ℕ → ℕ → ℕ
+yearFrom zero y n = y
+yearFrom (suc k) y n = cond (ltb n (yearDays y)) y (yearFrom k (suc y) (n - yearDays y))
+
+-- the year of a day since 1 January 1970, up to 2099
 unfoldable pub yearOf : ℕ → ℕ
-yearOf d = 1970 + (4 * d + 2) / 1461
+yearOf d = yearFrom 129 1970 d
+
+-- for the reader: a day, counted from 1 January of year 0, is of the year y, which has begun and is not over; `year-iff` in proofs/WritingLaws
+pub record YearIs (d y : ℕ) : Type 0 where
+  pub has-begun : daysBeforeYear y ≤ d
+  pub not-over : d < daysBeforeYear (y + 1)
 
 -- the days of its year before a day since 1 January 1970
 unfoldable pub dayOfYear : ℕ → ℕ

@@ -1,17 +1,14 @@
-// Days of the Gregorian calendar, by direct arithmetic and a table of months.
-// There is no loop over years, and a month that does not exist has no days.
+// Days of the Gregorian calendar, by direct arithmetic.
+// There is no loop and no table, and a month that does not exist has no days.
 ghost use mathlib.Core.Path.{_≡_};
 ghost use Prim.Native.Nat.{_≤_};
-ghost use Rattle.time.specs.Days.{isLeap, monthDays, daysBeforeYear, daysBeforeMonth};
+ghost use Rattle.time.specs.Days.{isLeap, monthDays, daysBeforeYear, beforeIn, daysBeforeMonth};
 
-const MONTH_LENGTHS: [u64; 13] = [0, 31, 28, 31, 30, 31, 30, 31, 31, 30, 31, 30, 31];
-
-const BEFORE_MONTH: [u64; 13] = [0, 0, 31, 59, 90, 120, 151, 181, 212, 243, 273, 304, 334];
-
+// Of the hundreds those that 16 divides are every fourth.
 pub fn is_leap(y: u64) -> bool
     ensures { λ r. ⌜ r ≡ isLeap y ⌝ }
 {
-    ((y % 4 == 0) & (y % 100 != 0)) | (y % 400 == 0)
+    (y % 4 == 0) & ((y % 100 != 0) | (y % 16 == 0))
 }
 
 // The days from 1 January of year 0 to 1 January of the year y.
@@ -19,20 +16,39 @@ pub fn days_before_year(y: u64) -> u64
     requires { ⌜ y ≤ 9999 ⌝ }
     ensures { λ r. ⌜ r ≡ daysBeforeYear y ⌝ }
 {
-    365 * y + (y + 3) / 4 + (y + 399) / 400 - (y + 99) / 100
+    let hundreds = (y + 99) / 100;
+    365 * y + (y + 3) / 4 + (hundreds + 3) / 4 - hundreds
 }
 
 // The days of the month m of the year y: none where there is no such month.
 pub fn month_days(y: u64, m: u64) -> u64
     ensures { λ r. ⌜ r ≡ monthDays y m ⌝ }
 {
-    if 12 < m {
+    if (m == 0) | (12 < m) {
         return 0;
     }
-    if (m == 2) & is_leap(y) {
-        return 29;
+    if m == 2 {
+        if is_leap(y) {
+            return 29;
+        }
+        return 28;
     }
-    MONTH_LENGTHS[m as usize]
+    30 + (m + m / 8) % 2
+}
+
+// The days of a leap year or another before its month m. From March on a month is 489 / 16 days on average.
+pub fn before_in(leap: bool, m: u64) -> u64
+    requires { ⌜ m ≤ 12 ⌝ }
+    ensures { λ r. ⌜ r ≡ beforeIn leap m ⌝ }
+{
+    if m < 3 {
+        return m / 2 * 31;
+    }
+    let before = (489 * m - 512) / 16;
+    if leap {
+        return before + 1;
+    }
+    before
 }
 
 // The days of the year y before its month m.
@@ -40,9 +56,5 @@ pub fn days_before_month(y: u64, m: u64) -> u64
     requires { ⌜ m ≤ 12 ⌝ }
     ensures { λ r. ⌜ r ≡ daysBeforeMonth y m ⌝ }
 {
-    let before = BEFORE_MONTH[m as usize];
-    if (2 < m) & is_leap(y) {
-        return before + 1;
-    }
-    before
+    before_in(is_leap(y), m)
 }

@@ -34,12 +34,12 @@ fn month_in(leap: bool, n: u64) -> u64
     ensures { λ r. ⌜ r ≡ monthIn leap n ⌝ }
 {
     if n < 59 {
-        return (12 * n + 373) / 367;
+        return (67 * n + 2048) / 2048;
     }
     if leap {
-        return (12 * n + 385) / 367;
+        return (67 * n + 2148) / 2048;
     }
-    (12 * n + 397) / 367
+    (67 * n + 2215) / 2048
 }
 
 // The day that is d days after 1 January 1970, up to the last of 2099.
@@ -47,10 +47,12 @@ fn day_of(d: u64) -> Day
     requires { ⌜ d ≤ 47481 ⌝ }
     ensures { λ r. ⌜ r ≡ dayOf d ⌝ }
 {
-    let year = 1970 + (4 * d + 2) / 1461;
-    let n = d + 719528 - days::days_before_year(year);
-    let month = month_in(days::is_leap(year), n);
-    let day = n - days::days_before_month(year, month) + 1;
+    let quarters = 4 * d + 2;
+    let year = 1970 + quarters / 1461;
+    let n = quarters % 1461 / 4;
+    let leap = year % 4 == 0;
+    let month = month_in(leap, n);
+    let day = n - days::before_in(leap, month) + 1;
     Day { year, month, day }
 }
 
@@ -100,6 +102,7 @@ pub fn write_utc(out: &mut [u8], at: usize, t: u64)
     requires { ⌜ (at + 16 ≤ length (now out)) × (t ≤ lastSecond) ⌝ }
     ensures { λ _. ⌜ now (out .exit) ≡ sets (now (out .entry)) at (utcText t) ⌝ }
 {
-    put_date(out, at, day_of(t / 86400));
-    put_time(out, at + 9, t % 86400);
+    let second = (t as u32) as u64;
+    put_date(out, at, day_of(second / 86400));
+    put_time(out, at + 9, second % 86400);
 }

@@ -1,9 +1,11 @@
 -- `time::days::days_before_year` meets its contract: the direct arithmetic is the count year by year (daysBeforeYear-direct), and no sum wraps up to the year 9999.
-use Rattle.time.proofs.DaysLaws.{daysBeforeYear-direct}
-use mathlib.Core.Path.{sym}
+use Rattle.time.proofs.DaysLaws.{daysBeforeYear-once}
 use borrow.Author.Needs.{needs}
 use Rattle.time.proofs.days.days_before_year.Statement.{statement}
 use Rattle.time.proofs.days.days_before_year.Tie as tie
+
+add-hundreds : tie.Need-add-hundreds
+add-hundreds c = search needs
 
 mul-result : tie.Need-mul-result
 mul-result c = search needs
@@ -20,24 +22,21 @@ add-result-3 c = search needs
 add-result-4 : tie.Need-add-result-4
 add-result-4 c = search needs
 
-add-result-5 : tie.Need-add-result-5
-add-result-5 c = search needs
-
 sub-result : tie.Need-sub-result
 sub-result c = search needs
 
 returns : tie.Need-returns
-returns c = sym (daysBeforeYear-direct _)
+returns c = daysBeforeYear-once _
 
 pub days-before-year-spec : {M : Type 1} → statement M
 days-before-year-spec =
     tie.close
     (tie.spec
+    add-hundreds
     mul-result
     add-result
     add-result-2
     add-result-3
     add-result-4
-    add-result-5
     sub-result
     returns)

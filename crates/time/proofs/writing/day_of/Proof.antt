@@ -1,72 +1,43 @@
--- `time::writing::day_of` meets its contract: the year has begun on the day and is not over, and so has its month; no difference falls below 0.
-use Rattle.time.specs.Writing.{yearOf}
-use Rattle.time.proofs.WritingLaws.{yearOf-there, dayOf-parts, dayOf-made}
-use mathlib.Core.Path.{refl}
+-- `time::writing::day_of` meets its contract: quotient and rest are its year and the days of that year (parts-direct), and its month has begun; no difference falls below 0.
+use Rattle.time.proofs.WritingLaws.{parts-direct, month-fits, dayOf-made}
 use native.Mathlib.Omega.{arith}
 use borrow.Author.Needs.{needs}
 use Rattle.time.proofs.writing.day_of.Statement.{statement}
 use Rattle.time.proofs.writing.day_of.Tie as tie
 
-mul-year : tie.Need-mul-year
-mul-year c = search needs
+mul-quarters : tie.Need-mul-quarters
+mul-quarters c = search needs
+
+add-quarters : tie.Need-add-quarters
+add-quarters c = search needs
 
 add-year : tie.Need-add-year
 add-year c = search needs
 
-add-year-2 : tie.Need-add-year-2
-add-year-2 c = search needs
-
-add-n : tie.Need-add-n
-add-n c = search needs
-
-days-before-year-requires : tie.Need-days-before-year-requires
-days-before-year-requires c κs = search needs
-
-sub-n : tie.Need-sub-n
-unfolding yearOf
-sub-n c = omega (arith, c .days-before-year .ensures, yearOf-there _ (c .before .pre) .year-begun)
-
-is-leap-requires : tie.Need-is-leap-requires
-is-leap-requires c κs = search needs
-
 month-in-requires : tie.Need-month-in-requires
-unfolding yearOf
-month-in-requires c κs = dayOf-parts _ _ _ _ (c .before .before .pre) (c .before .days-before-year .ensures) (c .is-leap .ensures) refl .0
+month-in-requires c κs = parts-direct _ (c .pre) .in-year
 
-days-before-month-requires : tie.Need-days-before-month-requires
-unfolding yearOf
-days-before-month-requires c κs = dayOf-parts _ _ _ _ (c .before .before .before .pre) (c .before .before .days-before-year .ensures) (c .before .is-leap .ensures) (c .month-in .ensures) .1
+before-in-requires : tie.Need-before-in-requires
+before-in-requires c κs = month-fits _ _ _ _ _ (parts-direct _ (c .before .pre)) (c .month-in .ensures) .0
 
 sub-day : tie.Need-sub-day
-unfolding yearOf
-sub-day c =
-    let limit = c .before .before .before .before .pre in
-    let years = c .before .before .before .days-before-year .ensures in
-    let leap = c .before .before .is-leap .ensures in
-    let month = c .before .month-in .ensures in
-    let months = c .days-before-month .ensures in
-    omega (arith, months, dayOf-parts _ _ _ _ limit years leap month .2)
+sub-day c = omega (arith, c .before-in .ensures, month-fits _ _ _ _ _ (parts-direct _ (c .before .before .pre)) (c .before .month-in .ensures) .1)
 
 add-day : tie.Need-add-day
 add-day c = search needs
 
 returns : tie.Need-returns
-unfolding yearOf
-returns c = dayOf-made _ _ _ _ _ (c .before .before .before .days-before-year .ensures) (c .before .before .is-leap .ensures) (c .before .month-in .ensures) (c .days-before-month .ensures)
+returns c = dayOf-made _ _ _ _ _ _ (parts-direct _ (c .before .before .pre)) (c .before .month-in .ensures) (c .before-in .ensures)
 
 pub day-of-spec : {M : Type 1} → statement M
 day-of-spec =
     tie.close
     (tie.spec
-    mul-year
+    mul-quarters
+    add-quarters
     add-year
-    add-year-2
-    add-n
-    days-before-year-requires
-    sub-n
-    is-leap-requires
     month-in-requires
-    days-before-month-requires
+    before-in-requires
     sub-day
     add-day
     returns)

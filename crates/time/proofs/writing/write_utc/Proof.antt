@@ -1,13 +1,17 @@
 -- `time::writing::write_utc` meets its contract: two runs of bytes, one behind the other, are the text.
 use Rattle.time.proofs.WritingLaws.{written-parts}
-use Rattle.time.specs.Limits.{lastSecond}
-use native.Mathlib.Omega.{arith}
 use borrow.Author.Needs.{needs}
 use Rattle.time.proofs.writing.write_utc.Statement.{statement}
 use Rattle.time.proofs.writing.write_utc.Tie as tie
 
+cast-second : tie.Need-cast-second
+cast-second c = search needs
+
+cast-second-2 : tie.Need-cast-second-2
+cast-second-2 c = search needs
+
 day-of-requires : tie.Need-day-of-requires
-day-of-requires c κs = omega arith
+day-of-requires c κs = search needs
 
 put-date-requires : tie.Need-put-date-requires
 put-date-requires c κs = search needs
@@ -34,4 +38,12 @@ returns c =
 pub write-utc-spec : {M : Type 1} → statement M
 write-utc-spec =
     tie.close
-    (tie.spec day-of-requires put-date-requires add-put-time put-time-requires same-length returns)
+    (tie.spec
+    cast-second
+    cast-second-2
+    day-of-requires
+    put-date-requires
+    add-put-time
+    put-time-requires
+    same-length
+    returns)
