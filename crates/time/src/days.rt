@@ -36,7 +36,7 @@ pub fn month_days(y: u64, m: u64) -> u64
     30 + (m + m / 8) % 2
 }
 
-// The days of a leap year or another before its month m. From March on a month is 489 / 16 days on average.
+// The days of a leap year or another before its month m, from March on a month being 489 / 16 days.
 pub fn before_in(leap: bool, m: u64) -> u64
     requires { ⌜ m ≤ 12 ⌝ }
     ensures { λ r. ⌜ r ≡ beforeIn leap m ⌝ }

@@ -28,7 +28,7 @@ pub fn put_bytes(out: &mut [u8], at: usize, src: &[u8])
     }
 }
 
-// The month that has begun last after n days of a year.
+// The month that has begun last after n days of a year, a day being 67 / 2048 of a month.
 fn month_in(leap: bool, n: u64) -> u64
     requires { ⌜ n < yearIn leap ⌝ }
     ensures { λ r. ⌜ r ≡ monthIn leap n ⌝ }
@@ -42,7 +42,7 @@ fn month_in(leap: bool, n: u64) -> u64
     (67 * n + 2215) / 2048
 }
 
-// The day that is d days after 1 January 1970, up to the last of 2099.
+// The day that is d days after 1 January 1970, up to the last of 2099: until then any four years have 1,461 days.
 fn day_of(d: u64) -> Day
     requires { ⌜ d ≤ 47481 ⌝ }
     ensures { λ r. ⌜ r ≡ dayOf d ⌝ }
@@ -97,7 +97,7 @@ fn put_time(out: &mut [u8], at: usize, s: u64)
     put_bytes(out, at, &text);
 }
 
-// The sixteen bytes of a second within the limits.
+// The sixteen bytes of a second within the limits, so of 32 bits: the compiler then knows how short each number is.
 pub fn write_utc(out: &mut [u8], at: usize, t: u64)
     requires { ⌜ (at + 16 ≤ length (now out)) × (t ≤ lastSecond) ⌝ }
     ensures { λ _. ⌜ now (out .exit) ≡ sets (now (out .entry)) at (utcText t) ⌝ }
