@@ -1,5 +1,7 @@
 // Kinds of bytes, ASCII case, and names compared without regard to case.
 // Everything above reads bytes through these leaves.
+#![tactic(auto)]
+
 ghost use Rattle.std.specs.Prelude.{◌≡◌, eqb};
 ghost use Rattle.ascii.specs.Bytes.{is_digit, is_letter, is_name_byte, is_control, upper};
 ghost use Rattle.ascii.specs.Names.{same_name, is_name};

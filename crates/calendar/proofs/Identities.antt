@@ -47,6 +47,7 @@ exceptions_append c (x ∷ xs) ys =
 -- a time of a list has its second among the list's
 second_among : (ts : List Time) (t : Time) → Memᴰ t ts → Memᴰ t.second (seconds_of ts)
 unfolding seconds_of
+second_among [] t x' = elim x' [ ]
 second_among (u ∷ ts) t (Memᴰ.head q) = Memᴰ.head (ap (λ (y : Time). y.second) q)
 second_among (u ∷ ts) t (Memᴰ.tail m) = Memᴰ.tail (second_among ts t m)
 

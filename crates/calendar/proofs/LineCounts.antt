@@ -259,6 +259,7 @@ rest_good c s (x ∷ xs) r e = rest_good c s xs r (fault_good x.number (property
 pub values_good : (c : Context) (ks : List Component) → value_fault c ks ≡ ValueCheck.Good → (k : Component) → Memᴰ k ks
     → (r : ValueCheck) × (fault_in c (component_scope k) (properties_in k.items) r ≡ ValueCheck.Good)
 unfolding value_fault
+values_good c [] e k x'' = elim x'' [ ]
 values_good c (j ∷ ks) e k (Memᴰ.head q) =
     (value_fault c ks, subst (λ (i : Component). fault_in c (component_scope i) (properties_in i.items) (value_fault c ks) ≡ ValueCheck.Good) (sym q) e)
 values_good c (j ∷ ks) e k (Memᴰ.tail m) =

@@ -16,7 +16,6 @@ use Rattle.nesting.specs.declared.Structure.{Structure}
 use Rattle.events.specs.ComponentProperties.{no_properties, with_properties}
 use Rattle.periods.specs.BusyTypes.{BusyPeriod, typed}
 use Rattle.events.specs.Events.{event_by, block_by, Entry, event, block}
-use Rattle.events.specs.declared.Event.{Event}
 use Rattle.events.specs.declared.EventRead.{EventRead}
 use Rattle.events.specs.declared.BlockRead.{BlockRead}
 use Rattle.overrides.specs.VEvents.{VEvent}

@@ -9,7 +9,7 @@ use values::period;
 use values::period::PeriodRead;
 
 // The next period of a value.
-#[derive(Drop)]
+#[derive(Clone, Copy)]
 pub enum PeriodStep {
     // The period, and the place from which those after it are read.
     Of(Period, usize),

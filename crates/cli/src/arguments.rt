@@ -6,7 +6,7 @@ ghost use Rattle.cli.specs.Arguments.{command_of, with_digit, decimal_of, in_lim
 use time::date_time::{DateTime, Kind};
 use time::limits::Second;
 
-#[derive(Drop)]
+#[derive(Clone, Copy)]
 pub enum Command {
     Report,
     Verify,
@@ -16,14 +16,14 @@ pub enum Command {
 }
 
 // A number without a sign.
-#[derive(Drop)]
+#[derive(Clone, Copy)]
 pub enum Number {
     Of(u64),
     Bad,
 }
 
 // Seconds ahead of UTC.
-#[derive(Drop)]
+#[derive(Clone, Copy)]
 pub enum Offset {
     Of(i64),
     Bad,

@@ -4,7 +4,7 @@ ghost use Rattle.std.specs.Prelude.{◌≡◌};
 ghost use Rattle.cli.specs.Hex.{hex_digit, is_blank, from_between, from_half, from_comment, step_of, at_end, Decodes};
 
 // What was read before: whole pairs, the first digit of a pair, or a comment's beginning.
-#[derive(Drop)]
+#[derive(Clone, Copy)]
 pub enum Place {
     Between,
     Half(u8),
@@ -12,7 +12,7 @@ pub enum Place {
 }
 
 // What one byte does: it is passed, it completes a byte, or it is wrong.
-#[derive(Drop)]
+#[derive(Clone, Copy)]
 pub enum Step {
     To(Place),
     Byte(u8),
@@ -20,7 +20,7 @@ pub enum Step {
 }
 
 // How many bytes were decoded, or why not.
-#[derive(Drop)]
+#[derive(Clone, Copy)]
 pub enum Decoded {
     Of(usize),
     Bad,

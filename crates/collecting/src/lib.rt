@@ -1,5 +1,7 @@
 // Refusals 1 to 3 and 6 to 11 of a report, then its period tables: what a report is written from.
 // Nothing is written but the work buffer and the columns of the tables.
+#![tactic(auto)]
+
 ghost use Rattle.std.specs.Prelude.{◌≡◌, ◌*◌, ◌≤◌, ◌<◌, length};
 ghost use Rattle.pieces.specs.Columns.{Room};
 ghost use Rattle.values.specs.Times.{ContextGood};
@@ -18,7 +20,7 @@ use time::limits;
 use values::times::Context;
 
 // The first refusal or none, and how many periods of each busy type stand in the columns, one type behind the other.
-#[derive(Drop)]
+#[derive(Clone, Copy)]
 pub struct Collected {
     pub fault: Fault,
     pub busy: usize,

@@ -5,13 +5,13 @@ use mathlib.Core.Bool.{true, false}
 use mathlib.Core.List.{List, [], ◌∷◌, ◌++◌, append_assoc, append-nil}
 use native.Mathlib.Omega.{arith}
 use lib.ListN.{length, get_or, length-drop, length-append}
-use lib.Seq.{sets, length-sets}
+use lib.Seq.{sets}
 use Rattle.time.proofs.Stores.{sets_append}
 use Rattle.text.specs.Lines.{content_lines}
 use Rattle.line.specs.Grammar.{ContentLine}
 use Rattle.line.specs.Splitting.{first_outside, after}
 use Rattle.line.specs.Reading.{line_of, value_of}
-use Rattle.values.specs.TimeLists.{time_items, all_times, good_times, seconds_of, with_kinds, TimesAre}
+use Rattle.values.specs.TimeLists.{time_items, good_times, seconds_of, with_kinds, TimesAre}
 use Rattle.values.specs.declared.times.Context.{Context}
 use Rattle.values.specs.declared.times.Time.{Time}
 use Rattle.values.specs.declared.times.Form.{Form}
@@ -22,7 +22,7 @@ use Rattle.property.specs.Properties.{property_value_of}
 use Rattle.property.specs.Facts.{IdentityFact, Reading, unread, fault, of, span, repeats, busy, identity, periods, uid, recurrence_id}
 use Rattle.property.specs.declared.Scope.{Scope}
 use Rattle.nesting.specs.Components.{Numbered, Items, properties_in}
-use Rattle.index.specs.Index.{line_bytes, start_in, Entry, Indexed}
+use Rattle.index.specs.Index.{line_bytes, start_in, Indexed}
 use Rattle.index.proofs.Index.{entry_long, starts_rise}
 use Rattle.structure.specs.Rows.{items_by, numbered_line, component_by}
 use Rattle.structure.specs.Items.{PropertyAt, InnerAt}

@@ -1,5 +1,7 @@
 // The lines directly in an event or a block: the first fault of a value, or what they say together and the busy pieces of their periods.
 // A fault ends the reading, since it goes before any rule.
+#![tactic(auto)]
+
 ghost use Rattle.std.specs.Prelude.{◌≡◌, ◌+◌, ◌-◌, ◌*◌, ◌≤◌, length, get_or};
 ghost use Rattle.time.specs.Limits.{last_second};
 ghost use Rattle.values.specs.Times.{ContextGood};
@@ -24,7 +26,7 @@ use values::times::Context;
 use values::{period, time_lists};
 
 // What storing the periods of a value answers.
-#[derive(Drop)]
+#[derive(Clone, Copy)]
 pub enum ValueStored {
     // So many pieces stand.
     Of(usize),
@@ -33,7 +35,7 @@ pub enum ValueStored {
 }
 
 // What reading the lines of a component answers.
-#[derive(Drop)]
+#[derive(Clone, Copy)]
 pub enum LinesRead {
     // What they say together, what ties the component to others, and how many pieces stand.
     Of(ComponentProperties, IdentityRead, usize),

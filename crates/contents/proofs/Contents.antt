@@ -21,7 +21,7 @@ use Rattle.structure.specs.Rows.{numbered_line, RowOf, component_by, components_
 use Rattle.structure.specs.Reading.{StructureRead}
 use Rattle.structure.proofs.ItemsLaws.{items_rise}
 use Rattle.structure.proofs.RowsLaws.{components_none, NextBelow, below_next, file_kind, file_below, file_below_at}
-use Rattle.events.specs.Events.{event_by, block_by, event, block}
+use Rattle.events.specs.Events.{event_by, block_by, block}
 use Rattle.events.specs.EntryRows.{event_row, block_row, event_at, block_at, EntryPut}
 use Rattle.events.specs.declared.ComponentProperties.{ComponentProperties}
 use Rattle.events.specs.declared.Event.{Event}

@@ -1,6 +1,6 @@
 -- Laws of both walks together: the fault of a value is that of the whole, and where there is none, the second walk decides.
 use Prim.Native.Nat.{ℕ}
-use mathlib.Core.Path.{◌≡◌, refl, sym, ap, subst, ◌∙◌}
+use mathlib.Core.Path.{◌≡◌, refl, sym, ap, ◌∙◌}
 use mathlib.Core.Bool.{Bool, true, false}
 use mathlib.Core.List.{List, []}
 use native.Mathlib.Omega.{arith}
@@ -11,7 +11,7 @@ use Rattle.nesting.specs.Components.{Component}
 use Rattle.structure.specs.Rows.{FileRows}
 use Rattle.events.specs.Events.{Entry}
 use Rattle.calendar.specs.Checks.{rule_else}
-use Rattle.calendar.specs.Meaning.{Meaning, value_fault, vevents, rule_fault, entries_of, components_of, by_rules, by_values, contents_of, fault_of}
+use Rattle.calendar.specs.Meaning.{Meaning, vevents, rule_fault, entries_of, components_of, by_rules, by_values, contents_of, fault_of}
 use Rattle.calendar.specs.Passes.{before_alone, alone_fault, beside_fault}
 use Rattle.calendar.specs.declared.ValueCheck.{ValueCheck}
 use Rattle.calendar.specs.declared.RuleCheck.{RuleCheck}
@@ -21,7 +21,6 @@ use Rattle.series.proofs.PassLaws.{removable}
 use Rattle.contents.specs.Contents.{EntryTerms, ContentsAre}
 use Rattle.contents.specs.Walks.{WalksTell}
 use Rattle.contents.specs.declared.ContentsRead.{ContentsRead}
-use Rattle.contents.specs.declared.walks.WalksRead.{WalksRead}
 
 never_none : {A : Type 0} {f : Fault} (n i : ℕ) → f ≡ Fault.At n i → f ≡ Fault.None → A
 never_none n i h e = let z : ◌≡◌ {A = ℕ} 0 1 = cc in absurd (omega arith)

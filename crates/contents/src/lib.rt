@@ -1,5 +1,7 @@
 // The components right below VCALENDAR, each read once: refusals 8 to 10, the event or block as a row of numbers, and the busy pieces of stated periods.
 // Lines and components are found by index and rows.
+#![tactic(auto)]
+
 pub mod alone;
 pub mod linking;
 pub mod walks;
@@ -22,7 +24,7 @@ use structure::rows;
 use values::times::Context;
 
 // What reading one component answers.
-#[derive(Drop)]
+#[derive(Clone, Copy)]
 pub enum EntryRead {
     // No fault, and no rule broken by itself; so many pieces stand, and so many excluded seconds.
     Of(usize, usize),
@@ -35,7 +37,7 @@ pub enum EntryRead {
 }
 
 // What reading all of them tells.
-#[derive(Drop)]
+#[derive(Clone, Copy)]
 pub struct ContentsRead {
     // The first fault of a value.
     pub values: ValueCheck,

@@ -12,7 +12,7 @@ use series::passes;
 use values::times::Context;
 
 // The first fault, and how many pieces of stated periods stand.
-#[derive(Drop)]
+#[derive(Clone, Copy)]
 pub struct WalksRead {
     pub fault: Fault,
     pub count: usize,

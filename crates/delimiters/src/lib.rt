@@ -1,12 +1,14 @@
 // What a line is to the nesting, and what it does to the innermost open component.
 // Each function equals one definition of specs/.
+#![tactic(auto)]
+
 ghost use Rattle.std.specs.Prelude.{◌≡◌, length};
 ghost use Rattle.line.specs.Reading.{name_of, line_of, value_of};
 ghost use Rattle.delimiters.specs.Delimiters.{delimiter_of, delimited_by};
 ghost use Rattle.delimiters.specs.Innermost.{may_begin, nesting_step_by, begins_calendar};
 
 // What a line is to the nesting.
-#[derive(Drop)]
+#[derive(Clone, Copy)]
 pub enum Delimiter {
     Begins,
     Ends,
@@ -16,7 +18,7 @@ pub enum Delimiter {
 }
 
 // What a line does to the innermost open component.
-#[derive(Drop)]
+#[derive(Clone, Copy)]
 pub enum NestingStep {
     // A component may begin in it.
     Opens,

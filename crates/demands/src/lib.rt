@@ -1,5 +1,7 @@
 // Two report calls in one: a report read back, and the reports of two calendars.
 // Each has the whole contract of both calls, and beside it what they say together.
+#![tactic(auto)]
+
 ghost use Rattle.std.specs.Prelude.{◌≡◌, min, take};
 ghost use Rattle.ascii.specs.Names.{same_bytes};
 ghost use Rattle.demands.specs.PairedCalls.{length_of, same_reports, ReadBackCalls, Compared};
@@ -8,7 +10,7 @@ use engine::Answer;
 use report::heads;
 
 // The answers to a report and to the report of its own bytes, and whether every line of the first has the head of a report's.
-#[derive(Drop)]
+#[derive(Clone, Copy)]
 pub struct ReadBack {
     pub first: Answer,
     pub second: Answer,
@@ -16,7 +18,7 @@ pub struct ReadBack {
 }
 
 // The answers to two reports.
-#[derive(Drop)]
+#[derive(Clone, Copy)]
 pub struct Pair {
     pub first: Answer,
     pub second: Answer,

@@ -19,7 +19,6 @@ use Rattle.refusals.specs.Refusals.{first_refusal}
 use Rattle.calendar.specs.declared.Fault.{Fault}
 use Rattle.engine.specs.Answers.{Outcome, report, length_in, unless_refused}
 use Rattle.engine.specs.Reporting.{output_row, output_after, seconds_told}
-use Rattle.engine.specs.declared.ReportSeconds.{ReportSeconds}
 use Rattle.engine.specs.ReportWriting.{write_rows, write_outcome, Wrote, WroteCounted}
 use Rattle.engine.specs.declared.reporting.Written.{Written}
 

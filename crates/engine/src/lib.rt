@@ -1,5 +1,7 @@
 // The public calls: does a calendar match a query, and what is its report over a range?
 // No call has a `requires`, and each contract fixes the answer and every byte lent for writing.
+#![tactic(auto)]
+
 mod matching;
 mod reporting;
 
@@ -13,7 +15,7 @@ use refusals::OffsetRead;
 use values::times::Context;
 
 // What a public call answers.
-#[derive(Drop)]
+#[derive(Clone, Copy)]
 pub enum Answer {
     // Does the calendar match?
     Verdict(bool),
@@ -24,7 +26,7 @@ pub enum Answer {
 }
 
 // A report's refusal or none, its length, and how many seconds it has of each busy type.
-#[derive(Drop)]
+#[derive(Clone, Copy)]
 pub struct ReportSeconds {
     pub fault: Fault,
     pub length: usize,

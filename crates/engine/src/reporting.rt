@@ -10,7 +10,7 @@ use calendar::Fault;
 use report::lines;
 
 // Refusal 12, or none and the report's length.
-#[derive(Drop)]
+#[derive(Clone, Copy)]
 pub struct Written {
     pub fault: Fault,
     pub length: usize,

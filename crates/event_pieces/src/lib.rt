@@ -1,5 +1,7 @@
 // The busy pieces of events, once all components are read: which instances stand is known only then.
 // Each event is taken from its row, with the starts that are taken away from it.
+#![tactic(auto)]
+
 ghost use Rattle.std.specs.Prelude.{◌≡◌, ◌+◌, ◌≤◌, ◌<◌, length, get_or};
 ghost use Rattle.time.specs.Limits.{last_second};
 ghost use Rattle.structure.specs.Rows.{FileRows};

@@ -113,7 +113,7 @@ module _ (ss : List Reading) (m : Made (together ss)) where
   unfolding event_made days_by interval_by busy_by busy_by_status
   made_is =
       let few = few_lines ss m.not_twice in
-      let the-rule : (r : Rule) → Memᴰ (of (repeats r)) ss → repeat_by m.start (RuleGiven.Given r) ≡ RepeatRead.Of m.repeat =
+      let the_rule : (r : Rule) → Memᴰ (of (repeats r)) ss → repeat_by m.start (RuleGiven.Given r) ≡ RepeatRead.Of m.repeat =
       λ r k. ap (repeat_by m.start) (sym ((repeats_laws ss).holds r k few.3)) ∙ m.repeat_read in
       record {
         kind_is = λ s k. ap (λ (t : Time). t.kind) (the_start ss m s k);
@@ -127,9 +127,9 @@ module _ (ss : List Reading) (m : Made (together ss)) where
         no_ending = λ a b. none_gives m.start m.ending (rw ((end_laws ss).absent a, (lasts_laws ss).absent b) at m.ending_read);
         days_are = λ r k. ap days_by ((repeats_laws ss).holds r k few.3);
         interval_is = λ r k. ap interval_by ((repeats_laws ss).holds r k few.3);
-        forever = λ r k q. forever_gives m.start r m.repeat q (the-rule r k);
-        count_is = λ r n k q. count_gives m.start r n m.repeat q (the-rule r k);
-        until_is = λ r t k q. until_gives m.start r t m.repeat q (the-rule r k);
+        forever = λ r k q. forever_gives m.start r m.repeat q (the_rule r k);
+        count_is = λ r n k q. count_gives m.start r n m.repeat q (the_rule r k);
+        until_is = λ r t k q. until_gives m.start r t m.repeat q (the_rule r k);
         no_rule_days = λ n. ap days_by ((repeats_laws ss).absent n);
         no_rule_interval = λ n. ap interval_by ((repeats_laws ss).absent n);
         no_rule_once = λ n. once_gives m.start m.repeat (ap (repeat_by m.start) (sym ((repeats_laws ss).absent n)) ∙ m.repeat_read);

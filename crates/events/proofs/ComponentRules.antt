@@ -217,6 +217,7 @@ module _ {A O : Type 0} {p : Part A O} (k : Kept A O p) where
   -- what a line says is kept, where there is one line at most
   kept : (ss : List Reading) (g : ComponentProperties) (a : A) → Memᴰ (con a) ss → many ss ≤ 1 → field (with_properties g ss) ≡ given a
   unfolding with_properties
+  kept [] g a x'' h = elim x'' [ ]
   kept (s ∷ ss) g a (Memᴰ.head e) h =
       stays ss (with_property g s) (omega (arith, many_more a s ss (sym e))) ∙ ap (λ (x : Reading). field (with_property g x)) (sym e) ∙ sets g a
   kept (s ∷ ss) g a (Memᴰ.tail m) h = kept ss (with_property g s) a m (omega (arith, many_less s ss))
@@ -230,6 +231,7 @@ module _ {A O : Type 0} {p : Part A O} (k : Kept A O p) where
       (λ w. (w.0, Memᴰ.head (sym w.1))) (step g s)
 
   line_counts : (ss : List Reading) (a : A) → Memᴰ (con a) ss → 1 ≤ many ss
+  line_counts [] a x' = elim x' [ ]
   line_counts (s ∷ ss) a (Memᴰ.head e) = omega (arith, many_more a s ss (sym e))
   line_counts (s ∷ ss) a (Memᴰ.tail m) = omega (arith, many_less s ss, line_counts ss a m)
 

@@ -1,5 +1,7 @@
 // Events and free-busy blocks, by what the lines of a component say together: the component rules of refusal 10.
 // Each function equals one definition of specs/.
+#![tactic(auto)]
+
 pub mod properties;
 pub mod rows;
 pub mod rules;
@@ -12,7 +14,7 @@ use values::rule::Rule;
 use values::times::Time;
 
 // How an event ends.
-#[derive(Drop)]
+#[derive(Clone, Copy)]
 pub enum Ending {
     // At a stated second.
     End(u64),
@@ -22,7 +24,7 @@ pub enum Ending {
 }
 
 // How far an event repeats.
-#[derive(Drop)]
+#[derive(Clone, Copy)]
 pub enum Repeat {
     // No rule: instance 0 alone.
     Once,
@@ -32,7 +34,7 @@ pub enum Repeat {
     Until(u64),
 }
 
-#[derive(Drop)]
+#[derive(Clone, Copy)]
 pub struct Event {
     pub kind: Kind,
     pub start: u64,
@@ -45,50 +47,50 @@ pub struct Event {
 }
 
 // A second that may be given.
-#[derive(Drop)]
+#[derive(Clone, Copy)]
 pub enum Bound {
     At(u64),
     None,
 }
 
-#[derive(Drop)]
+#[derive(Clone, Copy)]
 pub struct Block {
     pub start: Bound,
     pub end: Bound,
 }
 
-#[derive(Drop)]
+#[derive(Clone, Copy)]
 pub enum TimeGiven {
     Given(Time),
     Absent,
 }
 
-#[derive(Drop)]
+#[derive(Clone, Copy)]
 pub enum DurationGiven {
     Given(Duration),
     Absent,
 }
 
-#[derive(Drop)]
+#[derive(Clone, Copy)]
 pub enum RuleGiven {
     Given(Rule),
     Absent,
 }
 
-#[derive(Drop)]
+#[derive(Clone, Copy)]
 pub enum StatusGiven {
     Given(Status),
     Absent,
 }
 
-#[derive(Drop)]
+#[derive(Clone, Copy)]
 pub enum TransparencyGiven {
     Given(bool),
     Absent,
 }
 
 // When it takes place.
-#[derive(Drop)]
+#[derive(Clone, Copy)]
 pub struct SpanProperties {
     pub start: TimeGiven,
     pub end: TimeGiven,
@@ -96,14 +98,14 @@ pub struct SpanProperties {
 }
 
 // What it counts for.
-#[derive(Drop)]
+#[derive(Clone, Copy)]
 pub struct BusyProperties {
     pub status: StatusGiven,
     pub transparency: TransparencyGiven,
 }
 
 // What the lines of a component say together.
-#[derive(Drop)]
+#[derive(Clone, Copy)]
 pub struct ComponentProperties {
     // Does a line stand twice that may stand once?
     pub repeated: bool,
@@ -112,25 +114,25 @@ pub struct ComponentProperties {
     pub busy: BusyProperties,
 }
 
-#[derive(Drop)]
+#[derive(Clone, Copy)]
 pub enum EndingRead {
     Of(Ending),
     Broken,
 }
 
-#[derive(Drop)]
+#[derive(Clone, Copy)]
 pub enum RepeatRead {
     Of(Repeat),
     Broken,
 }
 
-#[derive(Drop)]
+#[derive(Clone, Copy)]
 pub enum EventRead {
     Of(Event),
     Broken,
 }
 
-#[derive(Drop)]
+#[derive(Clone, Copy)]
 pub enum BlockRead {
     Of(Block),
     Broken,

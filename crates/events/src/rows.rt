@@ -10,7 +10,7 @@ use time::date_time::Kind;
 use time::duration::Duration;
 
 // Which ending it is, its second or its days, its seconds, and 1 where its duration names a time.
-#[derive(Drop)]
+#[derive(Clone, Copy)]
 pub struct EndingNumbers {
     pub tag: u64,
     pub number: u64,
@@ -19,7 +19,7 @@ pub struct EndingNumbers {
 }
 
 // Which variant it is, and the number that it holds.
-#[derive(Drop)]
+#[derive(Clone, Copy)]
 pub struct TaggedNumber {
     pub tag: u64,
     pub number: u64,

@@ -188,8 +188,8 @@ in_range_holds : (a b : ℕ) (t : Bool) (e : Event) → in_range a b t e ≡ tru
 unfolding in_range
 in_range_holds a b true e h = search_finds _ h
 in_range_holds a b false e h =
-    let some-step = ltb-true 0 (step_of e) (and_right (not (starts_before e b (candidate_of e a))) _ h) in
-    search_ends _ (before_candidate e a some-step [] b) (none_after e b _ (not-true _ (and_left _ (ltb 0 (step_of e)) h)) [] a)
+    let some_step = ltb-true 0 (step_of e) (and_right (not (starts_before e b (candidate_of e a))) _ h) in
+    search_ends _ (before_candidate e a some_step [] b) (none_after e b _ (not-true _ (and_left _ (ltb 0 (step_of e)) h)) [] a)
 
 is_last : ℕ → ℕ → Event → Bool
 is_last k s e = occurs e [] k && (eqb (start_of e k) (utc_clock_of s) && not (is_instance e (k + 1)))

@@ -10,7 +10,6 @@ use Rattle.values.specs.declared.times.Context.{Context}
 use Rattle.property.specs.declared.Scope.{Scope}
 use Rattle.nesting.specs.Components.{Items, Component, items_below, components_in, properties_in}
 use Rattle.property_tests.specs.PropertyTests.{properties_hold}
-use Rattle.events.specs.declared.Event.{Event}
 use Rattle.events.specs.declared.EventRead.{EventRead}
 use Rattle.events.specs.declared.BlockRead.{BlockRead}
 use Rattle.calendar.specs.Meaning.{component_scope, event_of, block_of, block_periods, removed_from}

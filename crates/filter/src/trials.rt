@@ -21,7 +21,7 @@ use structure::rows;
 use values::times::Context;
 
 // The trial of one component.
-#[derive(Drop)]
+#[derive(Clone, Copy)]
 pub enum Trial {
     // An event's instances, against the range from the first of two seconds up to, but not including, the other.
     Instances(Event, u64, u64),

@@ -6,7 +6,7 @@ use mathlib.Core.List.{List, [], ◌∷◌}
 use native.Mathlib.Omega.{arith}
 use lib.ListN.{length, drop, get_or, length-drop}
 use Rattle.ascii.proofs.Lists.{drop_next, drop_end}
-use Rattle.fingerprints.specs.Fingerprints.{word, words, finished, fingerprint, WordAt, FewLeft}
+use Rattle.fingerprints.specs.Fingerprints.{words, finished, fingerprint, WordAt, FewLeft}
 
 -- fewer than four bytes are words as they are
 words_few : (l : List ℕ) → length l < 4 → words l ≡ l

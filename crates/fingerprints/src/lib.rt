@@ -1,5 +1,7 @@
 // Fingerprints: a number of sixteen bits for a text, so that bytes are compared only where two numbers are equal.
 // Those of up to 256 texts stand in a column, behind 64 places that are free, and are searched many at once.
+#![tactic(auto)]
+
 ghost use Rattle.std.specs.Prelude.{◌≡◌, ◌+◌, ◌≤◌, ◌<◌, length, drop};
 ghost use Rattle.fingerprints.specs.Fingerprints.{WordAt, FewLeft, words, finished, fingerprint};
 ghost use Rattle.fingerprints.specs.Columns.{NoneNear, NewAmong};

@@ -1,5 +1,7 @@
 // What ties an event to others, gathered line by line: its UID, its RECURRENCE-ID, and the times of its EXDATE lines.
 // Of UID and RECURRENCE-ID one is kept, and whether there are several; the times of EXDATE stand in a column.
+#![tactic(auto)]
+
 pub mod rows;
 
 ghost use Rattle.std.specs.Prelude.{◌≡◌};
@@ -9,7 +11,7 @@ use time::date_time::Kind;
 use values::time_lists::Kinds;
 use values::times::Time;
 
-#[derive(Drop)]
+#[derive(Clone, Copy)]
 pub enum UidGiven {
     None,
     // On the line of this number.
@@ -18,20 +20,20 @@ pub enum UidGiven {
 }
 
 // What is kept of a RECURRENCE-ID: its kind, and the second that it names.
-#[derive(Drop)]
+#[derive(Clone, Copy)]
 pub struct RecurrenceId {
     pub kind: Kind,
     pub second: u64,
 }
 
-#[derive(Drop)]
+#[derive(Clone, Copy)]
 pub enum RecurrenceGiven {
     None,
     One(RecurrenceId),
     Several,
 }
 
-#[derive(Drop)]
+#[derive(Clone, Copy)]
 pub struct IdentityRead {
     pub uid: UidGiven,
     pub recurrence: RecurrenceGiven,

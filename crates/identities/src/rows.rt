@@ -9,7 +9,7 @@ use crate::{RecurrenceGiven, RecurrenceId, UidGiven};
 use time::date_time::Kind;
 use values::time_lists::Kinds;
 
-#[derive(Drop)]
+#[derive(Clone, Copy)]
 pub struct Link {
     pub uid: UidGiven,
     pub recurrence: RecurrenceGiven,
@@ -23,7 +23,7 @@ pub struct Link {
 }
 
 // Which variant it is, and the number that it holds.
-#[derive(Drop)]
+#[derive(Clone, Copy)]
 pub struct TaggedNumber {
     pub tag: u32,
     pub number: u32,

@@ -7,13 +7,13 @@ use native.Mathlib.Omega.{arith}
 use native.Mathlib.Nat.{add-zero}
 use borrow.Author.Tests.{ltb-true, ltb-false}
 use lib.Dec.{leb, ltb}
-use lib.ListN.{length, take, drop, get_or, set, length-set, length-take, length-drop, get_or-eq_default}
+use lib.ListN.{length, take, drop, get_or, set, length-set, length-drop, get_or-eq_default}
 use lib.Seq.{get_or-drop, get_or-set_same, get_or-set_other, drop-drop}
 use Rattle.ascii.specs.Bytes.{is_name_byte}
 use Rattle.ascii.specs.Names.{same_name}
 use Rattle.ascii.proofs.Names.{same_name_length}
 use Rattle.ascii.proofs.Bools.{clash, and_right}
-use Rattle.text.specs.Lines.{line, part, all_lines, content_lines, LineAt, NothingAt}
+use Rattle.text.specs.Lines.{part, all_lines, content_lines, LineAt, NothingAt}
 use Rattle.text.proofs.Lines.{length_part}
 use Rattle.line.specs.Scanner.{step, is_ending, scan, is_well_formed}
 use Rattle.line.specs.Reading.{name_of}

@@ -1,5 +1,7 @@
 // The index of lines: where each line of a file starts and how long its name is, found once and kept in lent memory.
 // Whoever wants a line later asks by its number; nobody searches a line end again, nor the end of a name.
+#![tactic(auto)]
+
 ghost use Rattle.std.specs.Prelude.{◌≡◌, ◌+◌, ◌*◌, ◌≤◌, ◌<◌, length, get_or};
 ghost use Rattle.ascii.specs.Names.{same_name};
 ghost use Rattle.line.specs.Reading.{name_of};
@@ -8,7 +10,7 @@ ghost use Rattle.index.specs.Index.{FilledBy, Entry, line_bytes, name_in};
 use line::check::Next;
 
 // What filling the index tells.
-#[derive(Drop)]
+#[derive(Clone, Copy)]
 pub enum Filled {
     // So many lines, each well formed.
     Lines(usize),

@@ -288,13 +288,13 @@ plain_line_lem l n e m c = go (ltb j (length h)) refl
         absurd (omega arith)
     go false q =
         let i : length h ≤ j = ltb-false _ _ q in
-        let n-first : k ≡ n = omega (arith, i, h_length, n_is, first_outside_le true 59 false h) in
+        let n_first : k ≡ n = omega (arith, i, h_length, n_is, first_outside_le true 59 false h) in
         record {
           inside = m;
           no_parameters_holds =
               sym (parameters_all l h refl)
               ∙ parameters_end h _ (subst (λ (a : ℕ). length h ≤ a) (sym (next_place_first true 59 h)) i);
-          value_behind = ap (λ (a : ℕ). drop (a + 1) l) n-first;
+          value_behind = ap (λ (a : ℕ). drop (a + 1) l) n_first;
         }
 
 -- there is no byte behind a name that is the whole line

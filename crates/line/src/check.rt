@@ -8,7 +8,7 @@ ghost use Rattle.line.specs.WellFormed.{control_at, NextControl, NextAt};
 use crate::scan;
 
 // The line at a place.
-#[derive(Drop)]
+#[derive(Clone, Copy)]
 pub enum Next {
     // It is well formed: where its CR LF stands, and the length of its name.
     Line(usize, usize),

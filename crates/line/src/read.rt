@@ -8,7 +8,7 @@ ghost use Rattle.line.specs.Reading.{parameter_of, line_of, is_plain_at, usage_o
 use crate::split;
 
 // How often a parameter of a name stands on a line, and whether one of them has more than one value.
-#[derive(Drop)]
+#[derive(Clone, Copy)]
 pub struct Usage {
     pub times: usize,
     pub listed: bool,

@@ -7,7 +7,7 @@ ghost use Rattle.line.specs.Scanner.{Clear, step, after_value, is_ending, scan, 
 ghost use Rattle.line.specs.WellFormed.{well_formed_name};
 
 // What was read last of a line.
-#[derive(Drop)]
+#[derive(Clone, Copy)]
 pub enum State {
     Start,
     Name,
@@ -22,7 +22,7 @@ pub enum State {
 }
 
 // Where the scanner stands in a line.
-#[derive(Drop)]
+#[derive(Clone, Copy)]
 struct Place {
     at: usize,
     state: State,

@@ -1,12 +1,14 @@
-// The public calls under fixed names, for C and Rust: the answer's kind is the result, its value and its line go out through two numbers.
+// The public calls, which `lokuwaine_c` exports under these names for C and Rust: the answer's kind is the result, its value and its line go out through two numbers.
 // Each makes one call and spreads its answer, nothing more.
+#![tactic(auto)]
+
 ghost use Rattle.std.specs.Prelude.{◌≡◌};
 ghost use Rattle.lokuwaine.specs.Spreading.{verdict_value, spread_of, MatchSpread, ReportSpread};
 
 use engine::Answer;
 
 // The kind of an answer, 0 for a verdict, 1 for a report's length and 2 for a refusal, its value, and the line at fault or 0.
-#[derive(Drop)]
+#[derive(Clone, Copy)]
 pub struct Spread {
     pub kind: u64,
     pub value: u64,

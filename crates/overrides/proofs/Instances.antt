@@ -49,8 +49,8 @@ division start step k s h = go (eqb step 0) refl
 number_at_lem : (e : Event) (k s : ℕ) → start_of e k ≡ utc_clock_of s → (number_at e s ≤ k) × (start_of e (number_at e s) ≡ utc_clock_of s)
 unfolding number_at start_of
 number_at_lem e k s h =
-    let by-seconds : e.start + k * step_of e ≡ s = omega (arith, h) in
-    let d = division e.start (step_of e) k s by-seconds in
+    let by_seconds : e.start + k * step_of e ≡ s = omega (arith, h) in
+    let d = division e.start (step_of e) k s by_seconds in
     (d.0, omega (arith, d.1))
 
 -- the division finds the instance, if there is one

@@ -1,4 +1,4 @@
--- The tests of refusal 10 say what the rules for the reader say: `alone-iff`, `beside-iff` and `keeps-iff`.
+-- The tests of refusal 10 say what the rules for the reader say: `alone_iff`, `beside_iff` and `keeps_iff`.
 -- What an override that keeps them does to its master.
 use Prim.Native.Nat.{ℕ, ◌≤◌}
 use mathlib.Core.Path.{◌≡◌, refl, sym, ap, ◌∙◌}

@@ -1,5 +1,7 @@
 // Masters, overrides and exceptions: the tests that ask one event and numbers alone.
 // Which VEVENT breaks a rule beside others is said in specs/.
+#![tactic(auto)]
+
 ghost use Rattle.std.specs.Prelude.{◌≡◌, ◌≤◌};
 ghost use Rattle.time.specs.Limits.{last_second};
 ghost use Rattle.values.specs.TimeLists.{same_kind};

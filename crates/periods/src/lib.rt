@@ -1,17 +1,19 @@
 // Periods and busy types: what reading gives, and what tables and reports are made of.
 // Nothing here knows how either is written in a calendar.
+#![tactic(auto)]
+
 ghost use Rattle.std.specs.Prelude.{◌≡◌};
 ghost use Rattle.periods.specs.BusyTypes.{report_place};
 
 // From its start up to, but not including, its end.
-#[derive(Drop)]
+#[derive(Clone, Copy)]
 pub struct Period {
     pub start: u64,
     pub end: u64,
 }
 
 // The busy types, and free.
-#[derive(Drop)]
+#[derive(Clone, Copy)]
 pub enum BusyType {
     Free,
     Busy,

@@ -18,7 +18,7 @@ use Rattle.seconds.specs.Seconds.{among}
 use Rattle.events.specs.Sizes.{EventsSmall}
 use Rattle.recurrence.specs.Instances.{utc_clock_of, start_of, occurs, instances_at_most}
 use Rattle.recurrence.proofs.Instances.{starts_few, occurs_same, takes_place_iff}
-use Rattle.pieces.specs.BusyPeriods.{busy_period, second_of, instance_time, list_below, instance_period, event_periods, stated_periods, instance_periods, gathered, busy_periods, IsBusyPeriod, of_instance, of_block_holds}
+use Rattle.pieces.specs.BusyPeriods.{second_of, instance_time, list_below, instance_period, event_periods, stated_periods, instance_periods, gathered, busy_periods, IsBusyPeriod, of_instance, of_block_holds}
 
 -- ---- an instance
 
@@ -158,10 +158,10 @@ pub is_listed : (es : List Entry) {p : BusyPeriod} → EventsSmall es → p.peri
 unfolding busy_periods
 is_listed es {p} small l (of_instance e gone d k s q) =
     let early : second_of (start_of e k) ≤ last_second = subst (λ (w : BusyPeriod). w.period.start ≤ last_second) q l in
-    let by-clock : start_of e k ≤ utc_clock_of last_second = omega (arith, early) in
+    let by_clock : start_of e k ≤ utc_clock_of last_second = omega (arith, early) in
     subst (λ (w : BusyPeriod). Memᴰ w (gathered stated_periods es ++ gathered instance_periods es)) (sym q)
     (Memᴰ.append_right (gathered stated_periods es)
     (gathered_listed instance_periods (event e gone) es d
-    (instance_listed e gone k (starts_few k (small e gone d) by-clock) ((takes_place_iff e gone k).1 s))))
+    (instance_listed e gone k (starts_few k (small e gone d) by_clock) ((takes_place_iff e gone k).1 s))))
 is_listed es small l (of_block_holds k ps d m) =
     Memᴰ.append_left (gathered instance_periods es) (gathered_listed stated_periods (block k ps) es d (block_listed k ps m))

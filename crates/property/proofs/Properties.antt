@@ -27,7 +27,6 @@ use Rattle.line.specs.Grammar.{Parameter, ContentLine}
 use Rattle.line.proofs.ReadingParameters.{parameters_from, parameters_next, parameters_end, parameters_all}
 use Rattle.values.specs.declared.times.Context.{Context}
 use Rattle.values.specs.Times.{form_of, time_of}
-use Rattle.values.specs.TimeLists.{time_items, all_times}
 use Rattle.values.specs.Rule.{rule_of}
 use Rattle.values.specs.Period.{period_items, all_periods}
 use Rattle.values.specs.declared.times.Time.{Time}
@@ -40,8 +39,8 @@ use Rattle.values.proofs.RuleLaws.{rule_of_small}
 use Rattle.values.proofs.PeriodLaws.{read_duration_small}
 use Rattle.property.specs.declared.Scope.{Scope}
 use Rattle.property.specs.declared.Property.{Property}
-use Rattle.property.specs.Facts.{SpanFact, IdentityFact, Fact, Reading, unread, fault, of, unsupported, bad, span, repeats, busy, identity, periods}
-use Rattle.property.specs.Facts.{lasts, uid, recurrence_id, exceptions}
+use Rattle.property.specs.Facts.{SpanFact, Fact, Reading, unread, fault, of, unsupported, bad, span, repeats, identity, periods}
+use Rattle.property.specs.Facts.{lasts, recurrence_id, exceptions}
 use Rattle.property.specs.Properties.{PropertyWord, picked, words_in, property_of, value_as, before_items, with_items, property_value_of, is_start, time_in, time_fact}
 use Rattle.property.specs.Properties.{exceptions_by, items_good, unless_zoned, unless_ranged, duration_by, rule_value, busy_of, type_value, gives_periods, PropertyValueSmall, busy_named}
 use Rattle.property.specs.contracts.Property.{the_type}

@@ -1,5 +1,7 @@
 // What a line says, by the component that it stands directly in.
 // Which properties are read, and in which component, is decided here alone.
+#![tactic(auto)]
+
 ghost use Rattle.std.specs.Prelude.{◌≡◌, cond, true, ◌||◌, [], ◌∷◌, length};
 ghost use Rattle.ascii.specs.Words.{ascii};
 ghost use Rattle.line.specs.Grammar.{ContentLine};
@@ -18,7 +20,7 @@ use values::times::{Context, Form, Time, TimeRead};
 use values::{period, rule, times};
 
 // The component that a line stands directly in.
-#[derive(Drop)]
+#[derive(Clone, Copy)]
 pub enum Scope {
     Event,
     FreeBusy,
@@ -26,7 +28,7 @@ pub enum Scope {
 }
 
 // The properties that are read, each directly in the component that the rules name.
-#[derive(Drop)]
+#[derive(Clone, Copy)]
 pub enum Property {
     Start,
     End,
@@ -43,7 +45,7 @@ pub enum Property {
     Unread,
 }
 
-#[derive(Drop)]
+#[derive(Clone, Copy)]
 pub enum Status {
     Cancelled,
     Tentative,
@@ -51,7 +53,7 @@ pub enum Status {
 }
 
 // What a line says.
-#[derive(Drop)]
+#[derive(Clone, Copy)]
 pub enum PropertyValue {
     // No rule reads it.
     Nothing,

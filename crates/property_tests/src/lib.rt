@@ -1,5 +1,7 @@
 // The property and parameter tests of a query on the lines directly in a component, by index and rows.
 // Each function equals one definition of specs/.
+#![tactic(auto)]
+
 pub mod parameters;
 pub mod texts;
 

@@ -1,17 +1,19 @@
 // The query, read in place: its sections, and the records in them.
 // Each function equals one definition of specs/.
+#![tactic(auto)]
+
 pub mod fields;
 pub mod place;
 
 // A section: how many records it has, and where they begin.
-#[derive(Drop)]
+#[derive(Clone, Copy)]
 pub struct Section {
     pub count: usize,
     pub at: usize,
 }
 
 // The five sections, and where the last one ends.
-#[derive(Drop)]
+#[derive(Clone, Copy)]
 pub struct Sections {
     pub ranges: Section,
     pub texts: Section,
@@ -21,21 +23,21 @@ pub struct Sections {
     pub end: usize,
 }
 
-#[derive(Drop)]
+#[derive(Clone, Copy)]
 pub enum SectionsRead {
     Of(Sections),
     Bad,
 }
 
 // A place behind a section or a text, or that it does not fit.
-#[derive(Drop)]
+#[derive(Clone, Copy)]
 pub enum PlaceRead {
     At(usize),
     Bad,
 }
 
 // A component record.
-#[derive(Drop)]
+#[derive(Clone, Copy)]
 pub struct ComponentRecord {
     pub parent: usize,
     pub name: usize,
@@ -44,7 +46,7 @@ pub struct ComponentRecord {
 }
 
 // A property record.
-#[derive(Drop)]
+#[derive(Clone, Copy)]
 pub struct PropertyRecord {
     pub component: usize,
     pub name: usize,
@@ -55,7 +57,7 @@ pub struct PropertyRecord {
 }
 
 // A parameter record.
-#[derive(Drop)]
+#[derive(Clone, Copy)]
 pub struct ParameterRecord {
     pub property: usize,
     pub name: usize,

@@ -1,5 +1,7 @@
 // Is a query well formed (refusal 4), and does it ask for a time range where none can be (refusal 5)?
 // Each function equals one definition of specs/.
+#![tactic(auto)]
+
 ghost use Rattle.std.specs.Prelude.{◌≡◌, true, ◌<◌};
 ghost use Rattle.query.specs.Fits.{Fits};
 ghost use Rattle.query_check.specs.WellFormed.{range_record_good, name_good, has_child_component, has_property, has_parameter_record, parent_good, component_good};
@@ -13,7 +15,7 @@ use query::{
 use time::limits;
 
 // What a query is: good, with its sections; badly formed; or with a time range where none can be.
-#[derive(Drop)]
+#[derive(Clone, Copy)]
 pub enum QueryRead {
     Of(Sections),
     Bad,

@@ -4,7 +4,7 @@ use Rattle.events.specs.declared.Event.{Event}
 use Rattle.recurrence.specs.Instances.{utc_clock_of, step_of, start_of, is_instance, instances_at_most, length_by, is_zero_length}
 use Rattle.recurrence.specs.TimeRange.{instance_in}
 
--- the least k with a < s + span + k * d (laws `from_First` and `before-first`)
+-- the least k with a < s + span + k * d (laws `from_first` and `before_first`)
 unfoldable pub first_at : ℕ → ℕ → ℕ → ℕ → ℕ
 first_at s d span a = cond (ltb a (s + span)) 0 ((a - (s + span)) / d + 1)
 

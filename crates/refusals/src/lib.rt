@@ -1,5 +1,7 @@
 // The stages that both calls have, each against its rows of the refusal table.
 // The signed offset is turned into an unsigned number here, and nowhere below.
+#![tactic(auto)]
+
 ghost use Rattle.std.specs.Prelude.{◌≡◌};
 ghost use Rattle.refusals.specs.Offsets.{offset_read};
 ghost use Rattle.refusals.specs.Stages.{size_fault};
@@ -7,7 +9,7 @@ ghost use Rattle.refusals.specs.Stages.{size_fault};
 use calendar::Fault;
 
 // The offset as 50,400 more than it, or that it is out of bounds.
-#[derive(Drop)]
+#[derive(Clone, Copy)]
 pub enum OffsetRead {
     Of(u64),
     Bad,

@@ -1,5 +1,7 @@
 // Text search by a collation, in time linear in the value and the text.
 // Short searches go place by place; after eight places that only began as the text does, a table of borders takes over (Knuth, Morris and Pratt).
+#![tactic(auto)]
+
 ghost use Rattle.std.specs.Prelude.{◌≡◌, ◌+◌, ◌≤◌, ◌<◌, length};
 ghost use Rattle.text.specs.TextMatch.{contains};
 ghost use Rattle.search.specs.Borders.{byte_of, Borders, Steps};

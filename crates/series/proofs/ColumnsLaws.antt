@@ -18,14 +18,13 @@ use Rattle.values.specs.declared.times.Context.{Context}
 use Rattle.structure.specs.Rows.{component_by}
 use Rattle.overrides.specs.VEvents.{VEvent, is_master, is_override, shares_uid}
 use Rattle.overrides.specs.Instances.{moved_from, removed_from as starts_removed}
-use Rattle.calendar.specs.Identities.{identity_of}
 use Rattle.calendar.specs.Meaning.{vevent_of, removed_from, components_of}
 use Rattle.identities.specs.LinkRows.{link_at}
 use Rattle.identities.specs.declared.RecurrenceGiven.{RecurrenceGiven}
 use Rattle.identities.specs.declared.rows.Link.{Link}
 use Rattle.series.specs.VEventRows.{vevents_at, vevents_from, vevents_before}
 use Rattle.series.specs.Beside.{excluded_at}
-use Rattle.series.specs.Removed.{Takeable, SecondsOrdered, moved_at, removed_at}
+use Rattle.series.specs.Removed.{Takeable, SecondsOrdered, removed_at}
 use Rattle.series.specs.Columns.{gone_at, PartAt, RemovedRows, moved_count, Removable, RowFillable, RowFilled, NothingAt, NothingIf, NothingBefore}
 use Rattle.series.proofs.MasterLaws.{row_is, row_none, seconds_none}
 use Rattle.series.proofs.PartLaws.{part_before, part_written, part_none}

@@ -3,10 +3,10 @@
 use Prim.Native.Nat.{ℕ, suc, ◌+◌, ◌≤◌}
 use mathlib.Core.Path.{◌≡◌, refl, sym, ap, subst, ◌∙◌}
 use mathlib.Core.Bool.{Bool, true, false, cond, ◌&&◌, ◌||◌}
-use mathlib.Core.List.{List, [], ◌∷◌, ◌++◌, Memᴰ, append_assoc, append-nil}
+use mathlib.Core.List.{List, [], ◌∷◌, ◌++◌, Memᴰ, append_assoc}
 use native.Mathlib.Omega.{arith}
 use lib.ListN.{length, length-append}
-use Rattle.ascii.proofs.Bools.{clash, and_left, and_right}
+use Rattle.ascii.proofs.Bools.{and_left, and_right}
 use Rattle.values.specs.TimeLists.{seconds_of}
 use Rattle.values.specs.declared.times.Time.{Time}
 use Rattle.overrides.specs.Lists.{some}
@@ -80,7 +80,10 @@ pub record Apart (all : List VEvent) : Type 0 where
 
 -- of a list of one at most all members are the same
 same_member : {A : Type 0} {x y : A} (l : List A) → length l ≤ 1 → Memᴰ x l → Memᴰ y l → x ≡ y
+same_member [] h m n = elim m [ ]
 same_member (a ∷ []) h (Memᴰ.head p) (Memᴰ.head q) = p ∙ sym q
+same_member (a ∷ []) h (Memᴰ.head p) (Memᴰ.tail m) = elim m [ ]
+same_member (a ∷ []) h (Memᴰ.tail m) n = elim m [ ]
 same_member (a ∷ b ∷ l) h m n = absurd (omega arith)
 
 module _ {all : List VEvent} (g : Apart all) where
@@ -139,6 +142,7 @@ record Split (w : VEvent) (l : List VEvent) : Type 0 where
   pub whole : l ≡ before ++ (w ∷ behind)
 
 split_at : {w : VEvent} (l : List VEvent) → Memᴰ w l → Split w l
+split_at {w = w} [] x' = elim x' [ ]
 split_at (v ∷ l) (Memᴰ.head e) = record { before = []; behind = l; whole = ap (λ (x : VEvent). x ∷ l) (sym e) }
 split_at (v ∷ l) (Memᴰ.tail m) = let z = split_at l m in record { before = v ∷ z.before; behind = z.behind; whole = ap (λ (k : List VEvent). v ∷ k) z.whole }
 

@@ -20,7 +20,6 @@ use Rattle.index.specs.Index.{line_bytes}
 use Rattle.structure.specs.Rows.{kind_of, numbered_line, ItemRows, nothing, with_property_holds, with_component, RowOf, component_by, components_by, BelowAt, FileRows}
 use Rattle.structure.proofs.RowsLaws.{rows_lines, rows_begin, components_none, NextBelow, below_next, file_kind, file_below, file_below_at}
 use Rattle.structure.proofs.ItemsLaws.{items_rise}
-use Rattle.overrides.specs.Lists.{two_or_more}
 use Rattle.overrides.specs.VEvents.{VEvent}
 use Rattle.overrides.specs.Instances.{removed_from as starts_removed}
 use Rattle.overrides.specs.Rules.{breaks_alone, breaks_beside, RuleLine, all_keep, broken_at, broken_line}

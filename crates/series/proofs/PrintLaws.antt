@@ -1,9 +1,9 @@
 -- Laws of the fingerprints of UIDs: they are filled in row by row, and a row whose fingerprint is new has a UID that no master before it has.
 use Prim.Native.Nat.{ℕ, zero, suc, ◌+◌, ◌*◌, ◌-◌, ◌%◌, ◌≤◌, ◌<◌}
 use mathlib.Core.Path.{◌≡◌, refl, sym, ap, subst, ◌∙◌}
-use mathlib.Core.Bool.{Bool, true, false, ◌||◌, ◌&&◌}
+use mathlib.Core.Bool.{Bool, true, false, ◌||◌}
 use mathlib.Core.List.Memᴰ
-use mathlib.Core.List.{List, [], ◌∷◌, ◌++◌, Memᴰ}
+use mathlib.Core.List.{List, [], ◌∷◌, Memᴰ}
 use native.Mathlib.Omega.{arith}
 use borrow.Author.Tests.{eqb-true, eqb-false}
 use lib.Dec.{eqb}
@@ -18,7 +18,7 @@ use Rattle.values.specs.declared.times.Context.{Context}
 use Rattle.index.specs.Index.{line_bytes}
 use Rattle.structure.specs.Rows.{component_by}
 use Rattle.overrides.specs.Lists.{some, two_or_more}
-use Rattle.overrides.specs.VEvents.{VEvent, is_master, has_uid}
+use Rattle.overrides.specs.VEvents.{VEvent, is_master}
 use Rattle.overrides.proofs.VEvents.{uid_iff}
 use Rattle.calendar.specs.Identities.{identity_of}
 use Rattle.calendar.specs.Meaning.{vevent_of}
@@ -27,7 +27,7 @@ use Rattle.identities.specs.declared.UidGiven.{UidGiven}
 use Rattle.identities.specs.declared.RecurrenceGiven.{RecurrenceGiven}
 use Rattle.identities.specs.declared.rows.Link.{Link}
 use Rattle.series.specs.Identities.{UidTies}
-use Rattle.series.specs.VEventRows.{vevents_at, vevents_from, vevents_before, is_master_of, RowTied, Tied, OneAt, OneEach}
+use Rattle.series.specs.VEventRows.{vevents_at, vevents_from, vevents_before, is_master_of, RowTied, Tied, OneEach}
 use Rattle.series.specs.Prints.{print_of, PrintIs, Printed, Compared, Unshared, Markable}
 use Rattle.series.proofs.UidLaws.{some_append}
 use Rattle.series.proofs.MasterLaws.{row_is, row_none}

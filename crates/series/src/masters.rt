@@ -10,7 +10,7 @@ use structure::rows;
 use values::times::Context;
 
 // The master of a UID.
-#[derive(Drop)]
+#[derive(Clone, Copy)]
 pub enum MasterRow {
     None,
     // The row of the first.

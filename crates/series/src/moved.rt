@@ -9,7 +9,7 @@ use structure::rows;
 use values::times::Context;
 
 // What a row names.
-#[derive(Drop)]
+#[derive(Clone, Copy)]
 pub enum NamedSecond {
     None,
     At(u64),

@@ -170,6 +170,11 @@ pub record Stepped {s index name old rows : List ℕ} {n first begun left i k : 
   pub line : l ≡ line_bytes s i
   pub step : m ≡ nesting_step_by (delimiter_of (line_of l)) (value_of l) name (10 - left) (k + 1)
 
+-- a step by its line, and the component that begins there
+module _ {s index name old rows l : List ℕ} {n first begun left i k : ℕ} {m : NestingStep} (r : Reading s index name old rows n first begun left i k) where
+  pub stepped : i < n → l ≡ line_bytes s i → m ≡ nesting_step_by (delimiter_of (line_of l)) (value_of l) name (10 - left) (k + 1) → Stepped r l m
+  stepped h e f = record { here = h; line = e; step = f }
+
 pub reading_start : {s index rows : List ℕ} {n first begun : ℕ} (name : List ℕ) (left : ℕ) → Ready s index rows n first begun
     → Reading s index name rows rows n first begun left first begun
 reading_start name left r = record { ready = r; going = going_start r; decided = λ o e. refl }

@@ -6,7 +6,7 @@ ghost use Rattle.structure.specs.Items.{item_by};
 use crate::rows;
 
 // The item at a line.
-#[derive(Drop)]
+#[derive(Clone, Copy)]
 pub enum Item {
     // The line is a property.
     Property,

@@ -1,5 +1,7 @@
 // The structure of a file: its lines checked and indexed, its nesting checked, and its components written down as rows of numbers.
 // Whoever reads a component later goes by index and rows; to pass one over is one look.
+#![tactic(auto)]
+
 pub mod items;
 pub mod rows;
 
@@ -12,7 +14,7 @@ use index::Filled;
 use nesting::Structure;
 
 // What looking for the structure answers.
-#[derive(Drop)]
+#[derive(Clone, Copy)]
 pub enum Found {
     // Whether lines and nesting are right.
     Of(Structure),
@@ -21,7 +23,7 @@ pub enum Found {
 }
 
 // Where a component has ended.
-#[derive(Drop)]
+#[derive(Clone, Copy)]
 enum Closed {
     // The line behind its END line, counted from 0, and how many components have begun.
     At(usize, usize),

@@ -24,6 +24,7 @@ rising_lower h (then a b c r) = then (le_trans h a) b c r
 pub rising_lies : {lo hi : ℕ} {p : Period} {ps : List Period} → Rising lo ps hi → Memᴰ p ps → Lies lo hi p
 rising_lies (then a b c r) (Memᴰ.head e) = record { from = rw e a; some = rw e b; to = rw e c }
 rising_lies (then a b c r) (Memᴰ.tail m) = rising_lies (rising_lower (omega arith) r) m
+rising_lies {lo = lo} {hi = hi} {p = p} none x5 = elim x5 [ ]
 
 pub covers_below : {lo hi : ℕ} {ps : List Period} → Rising lo ps hi → (x : ℕ) → x < lo → covers ps x ≡ false
 unfolding covers

@@ -1,5 +1,7 @@
 // The period table of one busy type: its periods rise and never touch.
 // Adding a piece takes the table and hands it back.
+#![tactic(auto)]
+
 pub mod seconds;
 
 ghost use Rattle.std.specs.Prelude.{◌≡◌, ◌+◌, ◌-◌, ◌≤◌, ◌<◌, min, max, length, take};
@@ -10,7 +12,7 @@ ghost use Rattle.table.specs.Columns.{ends_before, Passed, TookIn, Moved, Splice
 // since a table that held them would be copied whole each time it is handed over.
 // The span added last went behind the first `passed` periods, which end before its start: one that starts no sooner
 // is looked for from there on.
-#[derive(Drop)]
+#[derive(Clone, Copy)]
 pub struct Table {
     pub count: usize,
     pub passed: usize,
@@ -18,7 +20,7 @@ pub struct Table {
 }
 
 // A span with what it took in, and the first row behind it.
-#[derive(Drop)]
+#[derive(Clone, Copy)]
 struct Widened {
     next: usize,
     start: u32,

@@ -10,7 +10,7 @@ use Rattle.ascii.proofs.Lists.{drop_next}
 use Rattle.periods.specs.declared.Period.{Period}
 use Rattle.periods.specs.Periods.{period}
 use Rattle.table.specs.Inserting.{inserted_all}
-use Rattle.table.specs.Tables.{PeriodTable, table_at, listed, Sound, Added}
+use Rattle.table.specs.Tables.{PeriodTable, listed, Sound, Added}
 use Rattle.tables.specs.Building.{periods_at, Built, BuiltAt}
 use mathlib.Core.Bool.{Bool, true, false}
 use lib.Dec.{eqb}

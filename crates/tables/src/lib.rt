@@ -1,5 +1,7 @@
 // The period tables of a calendar's busy pieces, one behind the other in two lent columns.
 // One pass over the pieces for each busy type.
+#![tactic(auto)]
+
 ghost use Rattle.std.specs.Prelude.{◌+◌, ◌*◌, ◌≤◌, ◌≡◌, length};
 ghost use Rattle.table.specs.Tables.{table_of};
 ghost use Rattle.tables.specs.Building.{periods_at, Built, BuiltAt};

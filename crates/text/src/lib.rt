@@ -1,5 +1,7 @@
 // Unfolding, content lines and text match: what is done to bytes before a line is read.
 // Each function equals one definition of specs/.
+#![tactic(auto)]
+
 ghost use Rattle.std.specs.Prelude.{◌≡◌, ◌+◌, ◌≤◌, ◌<◌, length, drop};
 ghost use Rattle.std.proofs.Math.Seq.{paste};
 ghost use Rattle.text.specs.TextMatch.{folded_by, starts_at};
@@ -7,14 +9,14 @@ ghost use Rattle.text.specs.Unfolding.{fold_at, Nowhere, Excludes, NextFold, Unf
 ghost use Rattle.text.specs.Lines.{break_at, EndsAt, StepsTo};
 
 // How bytes are compared: as they are, or with a to z read as A to Z.
-#[derive(Drop)]
+#[derive(Clone, Copy)]
 pub enum Collation {
     Octet,
     AsciiCasemap,
 }
 
 // Where the line that starts at a place ends.
-#[derive(Drop)]
+#[derive(Clone, Copy)]
 pub enum LineEnd {
     // Its CR LF stands here.
     At(usize),
@@ -25,7 +27,7 @@ pub enum LineEnd {
 }
 
 // The line at a place.
-#[derive(Drop)]
+#[derive(Clone, Copy)]
 pub enum Span {
     // It ends before the first place, and the next line begins at the second.
     Line(usize, usize),

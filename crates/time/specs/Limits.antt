@@ -5,7 +5,7 @@ use Rattle.time.specs.declared.date_time.Kind.{Kind}
 use Rattle.time.specs.declared.limits.Second.{Second}
 use Rattle.time.specs.Days.{days_before_year}
 
--- the clock of 19700101T000000: the seconds of the days before 1970 (62,167,219,200 by the law `epoch-number`)
+-- the clock of 19700101T000000: the seconds of the days before 1970 (62,167,219,200 by the law `epoch_number`)
 unfoldable pub epoch : ℕ
 epoch = 86400 * days_before_year 1970
 

@@ -13,7 +13,7 @@ year_from (suc k) y n = cond (ltb n (year_days y)) y (year_from k (suc y) (n - y
 unfoldable pub year_of : ℕ → ℕ
 year_of d = year_from 129 1970 d
 
--- for the reader: a day, counted from 1 January of year 0, is of the year y, which has begun and is not over; `year-iff` in proofs/WritingLaws
+-- for the reader: a day, counted from 1 January of year 0, is of the year y, which has begun and is not over; `year_iff` in proofs/WritingLaws
 pub record YearIs (d y : ℕ) : Type 0 where
   pub has_begun : days_before_year y ≤ d
   pub not_over : d < days_before_year (y + 1)

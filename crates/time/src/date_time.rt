@@ -6,14 +6,14 @@ ghost use Rattle.time.specs.DateTime.{digit_pair, pair_at, year_at, checked_day,
 use crate::days;
 
 // A number read from digits.
-#[derive(Drop)]
+#[derive(Clone, Copy)]
 pub enum Number {
     Of(u64),
     Bad,
 }
 
 // What a value's clock shows: UTC, a floating time, or the midnight of a DATE.
-#[derive(Drop)]
+#[derive(Clone, Copy)]
 pub enum Kind {
     Utc,
     Floating,
@@ -21,7 +21,7 @@ pub enum Kind {
 }
 
 // A value read: its kind and the seconds since 00000101T000000 by its own clock.
-#[derive(Drop)]
+#[derive(Clone, Copy)]
 pub enum DateTime {
     At(Kind, u64),
     Bad,

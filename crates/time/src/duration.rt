@@ -4,7 +4,7 @@ ghost use Rattle.std.specs.Prelude.{◌≡◌, ◌≤◌};
 ghost use Rattle.time.specs.Duration.{EventSmall, time_start, next_stage, weight_of, blank, with_digit, with_unit, step, finish, duration_text, duration_seconds, read_duration};
 
 // What was read before.
-#[derive(Drop)]
+#[derive(Clone, Copy)]
 pub enum Stage {
     Start,
     Sign,
@@ -19,11 +19,11 @@ pub enum Stage {
 }
 
 // What one of a unit is, days and seconds: none of either for a mark.
-#[derive(Drop)]
+#[derive(Clone, Copy)]
 pub struct Weight(pub u64, pub u64);
 
 // A text read so far: the digits and the number since the last letter, and the sums.
-#[derive(Drop)]
+#[derive(Clone, Copy)]
 pub struct Reading {
     pub stage: Stage,
     pub digits: u64,
@@ -34,14 +34,14 @@ pub struct Reading {
 }
 
 // Days and seconds of a duration, and whether it has a time part.
-#[derive(Drop)]
+#[derive(Clone, Copy)]
 pub struct Duration {
     pub days: u64,
     pub seconds: u64,
     pub timed: bool,
 }
 
-#[derive(Drop)]
+#[derive(Clone, Copy)]
 pub enum DurationRead {
     Of(Duration),
     Bad,

@@ -10,7 +10,7 @@ pub const EPOCH: u64 = 62167219200;
 pub const LAST_SECOND: u64 = 4102444799;
 
 // A UTC second within the limits, or none.
-#[derive(Drop)]
+#[derive(Clone, Copy)]
 pub enum Second {
     At(u64),
     Outside,

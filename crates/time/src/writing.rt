@@ -9,7 +9,7 @@ ghost use Rattle.time.specs.Writing.{month_in, day_of, date_text, time_text, utc
 use crate::days;
 
 // A day of the calendar.
-#[derive(Drop)]
+#[derive(Clone, Copy)]
 pub struct Day {
     pub year: u64,
     pub month: u64,

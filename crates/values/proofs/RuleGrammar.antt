@@ -256,7 +256,7 @@ count_only c v cs us l (OneLimit.counted {n = n} f) = (n, f, refl, refl, refl)
 
 until_only : (c : Context) (v : List ℕ) (cs us : List (List ℕ)) (l : Limit) → OneLimit c cs (v ∷ us) l
     → (t : Time) × (UntilIs c v t) × (cs ≡ []) × (us ≡ []) × (l ≡ Limit.Until t)
-until_only c v cs us l (OneLimit.up_to_lem {t = t} f) = (t, f, refl, refl, refl)
+until_only c v cs us l (OneLimit.up_to {t = t} f) = (t, f, refl, refl, refl)
 
 -- a list with a first element is not empty
 some_none : {A B : Type 0} {a : A} {l : List A} → a ∷ l ≡ [] → B
@@ -363,7 +363,7 @@ module _ (c : Context) (x : RulePart) (xs : List RulePart) (r : Rule) where
           limit_left =
               rw
               (passes (ascii "UNTIL") (ascii "COUNT") e refl, values_same x xs (ascii "UNTIL") e, h.limit_left.0, h.limit_left.1, h.limit_left.2)
-              (OneLimit.up_to_lem f);
+              (OneLimit.up_to f);
         }
 
     until_take : (d i : ℕ) (o : Seen) → Left c d i o (x ∷ xs) r
@@ -780,6 +780,7 @@ found c p (t ∷ ts) e =
 
 there : (c : Context) (p : Parts) (ts : List (List ℕ)) (t : List ℕ) → Memᴰ t ts → part_of c t ≡ Part.Unsupported → (with_parts p (map (part_of c) ts)).unsupported ≡ true
 unfolding with_parts with_part
+there c p [] t x'' e = elim x'' [ ]
 there c p (s ∷ ts) t (Memᴰ.head q) e =
     let f : part_of c s ≡ Part.Unsupported = ap (part_of c) (sym q) ∙ e in
     stays_unsupported (with_part p (part_of c s)) (map (part_of c) ts) (ap (λ (x : Part). (with_part p x).unsupported) f)

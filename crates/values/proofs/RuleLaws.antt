@@ -28,7 +28,6 @@ use Rattle.values.specs.declared.times.Context.{Context}
 use Rattle.values.specs.declared.times.Time.{Time}
 use Rattle.values.specs.declared.times.TimeRead.{TimeRead}
 use Rattle.values.specs.declared.times.Form.{Form}
-use Rattle.values.specs.declared.rule.Limit.{Limit}
 use Rattle.values.specs.declared.rule.Rule.{Rule}
 use Rattle.values.specs.declared.rule.Part.{Part}
 use Rattle.values.specs.declared.rule.Parts.{Parts}

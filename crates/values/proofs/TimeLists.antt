@@ -14,7 +14,6 @@ use borrow.Author.Tests.{ltb-true, ltb-false, eq-eqb, eqb-true}
 use Rattle.line.specs.Splitting.{next_place, split_after, plain_split}
 use Rattle.line.proofs.Splitting.{parts_end, item_at, item_inside, item_first, item_more, item_last}
 use Rattle.time.specs.Limits.{last_second}
-use Rattle.time.specs.DateTime.{read_date_time, read_date}
 use Rattle.time.specs.declared.date_time.Kind.{Kind}
 use Rattle.time.proofs.DateTime.{read_date_length, read_date_time_length}
 use Rattle.values.specs.Times.{time_by, read_time}

@@ -12,7 +12,7 @@ use time::duration::DurationRead;
 use time::limits::Second;
 use time::{date_time, duration, limits};
 
-#[derive(Drop)]
+#[derive(Clone, Copy)]
 pub enum PeriodRead {
     Of(Period),
     Bad,

@@ -11,7 +11,7 @@ use line::split;
 use time::date_time::Number;
 
 // How far a rule repeats.
-#[derive(Drop)]
+#[derive(Clone, Copy)]
 pub enum Limit {
     Forever,
     Count(u64),
@@ -19,7 +19,7 @@ pub enum Limit {
 }
 
 // Every how many times how many days an instance starts, and how far that goes on.
-#[derive(Drop)]
+#[derive(Clone, Copy)]
 pub struct Rule {
     // 1 for DAILY, 7 for WEEKLY.
     pub days: u64,
@@ -28,7 +28,7 @@ pub struct Rule {
 }
 
 // One part of the value.
-#[derive(Drop)]
+#[derive(Clone, Copy)]
 pub enum Part {
     // FREQ, by its days.
     Frequency(u64),
@@ -41,7 +41,7 @@ pub enum Part {
 }
 
 // The parts read so far. Where a number is 0 its part has not been read.
-#[derive(Drop)]
+#[derive(Clone, Copy)]
 pub struct Parts {
     pub unsupported: bool,
     pub bad: bool,
@@ -51,7 +51,7 @@ pub struct Parts {
     pub limit: Limit,
 }
 
-#[derive(Drop)]
+#[derive(Clone, Copy)]
 pub enum RuleRead {
     Of(Rule),
     Unsupported,

@@ -10,7 +10,7 @@ use line::split;
 use time::date_time::Kind;
 
 // The kinds of a list of times: none where it is empty.
-#[derive(Drop)]
+#[derive(Clone, Copy)]
 pub enum Kinds {
     None,
     One(Kind),
@@ -18,7 +18,7 @@ pub enum Kinds {
 }
 
 // How many seconds are stored now, and which kinds they have.
-#[derive(Drop)]
+#[derive(Clone, Copy)]
 pub enum TimesStored {
     Of(usize, Kinds),
     // Refusal 9.

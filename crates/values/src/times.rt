@@ -9,27 +9,27 @@ use time::limits::Second;
 use time::{date_time, limits};
 
 // What values are read by: today the offset, as 50,400 more than it.
-#[derive(Drop)]
+#[derive(Clone, Copy)]
 pub struct Context {
     pub shift: u64,
 }
 
 // A time within the limits: its kind, its own wall clock in seconds since 00000101T000000, and its UTC second.
-#[derive(Drop)]
+#[derive(Clone, Copy)]
 pub struct Time {
     pub kind: Kind,
     pub clock: u64,
     pub second: u64,
 }
 
-#[derive(Drop)]
+#[derive(Clone, Copy)]
 pub enum TimeRead {
     Of(Time),
     Bad,
 }
 
 // The form that the parameter VALUE asks for.
-#[derive(Drop)]
+#[derive(Clone, Copy)]
 pub enum Form {
     DateTime,
     Date,

@@ -1,5 +1,7 @@
 // What a line of a time zone says, by where in the zone it stands.
 // Which properties of a zone are read is decided here alone.
+#![tactic(auto)]
+
 pub mod part;
 
 ghost use Rattle.std.specs.Prelude.{◌≡◌, cond, length};
@@ -12,7 +14,7 @@ use zone_values::zone_rule::{ZoneRule, ZoneRuleRead};
 use zone_values::{offset, onset, zone_rule};
 
 // What a line stands directly in: a VTIMEZONE right below VCALENDAR, a STANDARD or DAYLIGHT part directly in such a zone, or anything else.
-#[derive(Drop)]
+#[derive(Clone, Copy)]
 pub enum ZoneScope {
     Zone,
     Part,
@@ -20,7 +22,7 @@ pub enum ZoneScope {
 }
 
 // The properties that are read, each directly in the zone or in a part of it.
-#[derive(Drop)]
+#[derive(Clone, Copy)]
 pub enum ZoneProperty {
     Tzid,
     Start,
@@ -33,7 +35,7 @@ pub enum ZoneProperty {
 }
 
 // What a line says.
-#[derive(Drop)]
+#[derive(Clone, Copy)]
 pub enum ZoneValue {
     // No rule reads it.
     Nothing,

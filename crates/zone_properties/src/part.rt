@@ -7,14 +7,14 @@ use crate::ZoneValue;
 use zone_values::zone_rule::ZoneRule;
 
 // A number: not given, given once, or more often.
-#[derive(Drop)]
+#[derive(Clone, Copy)]
 pub enum Given {
     No,
     Once(u64),
     Twice,
 }
 
-#[derive(Drop)]
+#[derive(Clone, Copy)]
 pub enum RuleGiven {
     No,
     Once(ZoneRule),
@@ -22,7 +22,7 @@ pub enum RuleGiven {
 }
 
 // What was given so far.
-#[derive(Drop)]
+#[derive(Clone, Copy)]
 pub struct PartRead {
     pub start: Given,
     pub from: Given,
@@ -31,7 +31,7 @@ pub struct PartRead {
 }
 
 // A part in plain numbers; its month is 0 where it has no rule.
-#[derive(Drop)]
+#[derive(Clone, Copy)]
 pub struct PartNumbers {
     pub start: u64,
     pub from: u64,
@@ -42,7 +42,7 @@ pub struct PartNumbers {
     pub weekday: u64,
 }
 
-#[derive(Drop)]
+#[derive(Clone, Copy)]
 pub enum PartMade {
     Of(PartNumbers),
     Broken,

@@ -6,7 +6,7 @@ ghost use Rattle.zone_values.specs.Offset.{second_at, offset_size, signed, read_
 use time::date_time;
 use time::date_time::Number;
 
-#[derive(Drop)]
+#[derive(Clone, Copy)]
 pub enum OffsetRead {
     // 86,400 more than the offset.
     Of(u64),

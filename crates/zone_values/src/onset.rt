@@ -9,7 +9,7 @@ use time::date_time::{DateTime, Kind};
 use values::times;
 use values::times::Form;
 
-#[derive(Drop)]
+#[derive(Clone, Copy)]
 pub enum OnsetRead {
     // The seconds since 00000101T000000 by the value's own clock.
     At(u64),

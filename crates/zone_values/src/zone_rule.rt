@@ -9,7 +9,7 @@ use time::date_time::Number;
 use values::rule;
 
 // The onsets of a rule: each year, in the month, one of its days of that name.
-#[derive(Drop)]
+#[derive(Clone, Copy)]
 pub struct ZoneRule {
     // 1 to 12.
     pub month: u64,
@@ -21,7 +21,7 @@ pub struct ZoneRule {
     pub weekday: u64,
 }
 
-#[derive(Drop)]
+#[derive(Clone, Copy)]
 pub enum ZoneRuleRead {
     Of(ZoneRule),
     // Refusal 8.
@@ -29,7 +29,7 @@ pub enum ZoneRuleRead {
 }
 
 // The day of BYDAY.
-#[derive(Drop)]
+#[derive(Clone, Copy)]
 pub struct ZoneDay {
     pub others: u64,
     pub back: bool,
@@ -37,7 +37,7 @@ pub struct ZoneDay {
 }
 
 // One part of the value.
-#[derive(Drop)]
+#[derive(Clone, Copy)]
 pub enum ZonePart {
     Yearly,
     Month(u64),

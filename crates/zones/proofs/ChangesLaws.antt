@@ -1,7 +1,7 @@
 -- Laws of changes: walking up through the years finds the next onset, and up to it, and up to a gap's end, the offset is one.
 use Prim.Native.Nat.{ℕ, suc, ◌+◌, ◌-◌, ◌*◌, ◌/◌, ◌%◌, ◌≤◌, ◌<◌}
-use mathlib.Core.Path.{◌≡◌, refl, sym, ap, ◌∙◌}
-use mathlib.Core.Bool.{Bool, true, false}
+use mathlib.Core.Path.{◌≡◌, refl, sym}
+use mathlib.Core.Bool.{true, false}
 use native.Mathlib.Omega.{arith}
 use native.Mathlib.Decide.{dec_lt}
 use borrow.Author.Tests.{lt-ltb, le-ltb}
@@ -11,9 +11,9 @@ use Rattle.zones.specs.declared.Part.{Part}
 use Rattle.zones.specs.declared.Steady.{Steady}
 use Rattle.zones.specs.declared.offsets.Governing.{Governing}
 use Rattle.zones.specs.Parts.{GoodPart, Exactly, clock_end}
-use Rattle.zones.specs.RuleDays.{NthWeekday, RuleDay}
+use Rattle.zones.specs.RuleDays.{RuleDay}
 use Rattle.zones.specs.Onsets.{RuledOnset, IsOnset, at_start, by_rule_holds}
-use Rattle.zones.specs.Offsets.{Governs, BeforeAny, OpeningPart, GoverningFound, offset_after, IsOffset, after, before, offset_of}
+use Rattle.zones.specs.Offsets.{Governs, BeforeAny, OpeningPart, GoverningFound, offset_after, IsOffset, after, before}
 use Rattle.zones.specs.Changes.{NoneUntil, QuietUntil, StaysAfter, SteadyUntil}
 use Rattle.zones.proofs.Parts.{clock_end_lem, not_both, same_found}
 use Rattle.zones.proofs.RuleDayYears.{year_low, years_rise, day_begun, day_over, day_order, no_rule}

@@ -11,8 +11,8 @@ use Rattle.zones.specs.declared.Sought.{Sought}
 use Rattle.zones.specs.declared.Part.{Part}
 use Rattle.zones.specs.declared.offsets.Governing.{Governing}
 use Rattle.zones.specs.Parts.{GoodPart}
-use Rattle.zones.specs.Onsets.{IsOnset, at_start, Latest, LatestFound}
-use Rattle.zones.specs.Offsets.{Governs, BeforeAny, Opens, OpeningPart, offset_after, IsOffset, after, before, GoverningFound, IsUtcClock}
+use Rattle.zones.specs.Onsets.{IsOnset, at_start, LatestFound}
+use Rattle.zones.specs.Offsets.{Governs, Opens, OpeningPart, offset_after, IsOffset, after, before, GoverningFound}
 use Rattle.zones.proofs.OnsetsLaws.{start_least}
 
 -- what holds of the onsets of the parts before k, and of part k

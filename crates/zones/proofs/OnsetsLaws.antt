@@ -11,7 +11,7 @@ use Rattle.time.proofs.DaysLaws.{sum_direct}
 use Rattle.zones.specs.declared.Sought.{Sought}
 use Rattle.zones.specs.declared.Part.{Part}
 use Rattle.zones.specs.Parts.{GoodPart, Exactly}
-use Rattle.zones.specs.RuleDays.{NthWeekday, RuleDay, rule_day}
+use Rattle.zones.specs.RuleDays.{RuleDay, rule_day}
 use Rattle.zones.specs.Onsets.{RuledOnset, IsOnset, at_start, by_rule_holds, Latest, LatestFound, or_else, if_reached, latest_by_rule, or_start, latest_onset}
 use Rattle.zones.proofs.Parts.{not_both, same_found}
 use Rattle.zones.proofs.RuleDays.{rule_day_is}

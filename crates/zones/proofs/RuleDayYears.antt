@@ -11,7 +11,7 @@ use Rattle.time.proofs.Below.{below}
 use Rattle.zones.specs.declared.Part.{Part}
 use Rattle.zones.specs.declared.Sought.{Sought}
 use Rattle.zones.specs.Parts.{Exactly}
-use Rattle.zones.specs.RuleDays.{NthWeekday, RuleDay}
+use Rattle.zones.specs.RuleDays.{RuleDay}
 
 -- ---- years by a division
 

@@ -1,5 +1,7 @@
 // Time zones (R-5): the onsets of a zone's parts, the offset of a wall clock, its UTC time, and until when the offset stays.
 // A clock is the seconds since 00000101T000000, as time::date_time counts them. Parts stand as rows of numbers in lent memory.
+#![tactic(auto)]
+
 pub mod changes;
 pub mod offsets;
 pub mod onsets;
@@ -7,14 +9,14 @@ pub mod rows;
 pub mod rule_days;
 
 // A day or a clock that is looked for.
-#[derive(Drop)]
+#[derive(Clone, Copy)]
 pub enum Sought {
     At(u64),
     Nothing,
 }
 
 // A STANDARD or DAYLIGHT part of a zone.
-#[derive(Drop)]
+#[derive(Clone, Copy)]
 pub struct Part {
     // The clock of its DTSTART.
     pub start: u64,
@@ -31,7 +33,7 @@ pub struct Part {
 }
 
 // The offset of a clock, and a later clock up to which every one has the same.
-#[derive(Drop)]
+#[derive(Clone, Copy)]
 pub struct Steady {
     pub offset: u64,
     pub until: u64,

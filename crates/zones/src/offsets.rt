@@ -8,7 +8,7 @@ ghost use Rattle.zones.specs.Offsets.{GoverningFound, OpeningPart, IsOffset, utc
 use crate::{Sought, onsets, rows};
 
 // The onset that governs a clock, if there is one: which part of the zone has it, and when it is.
-#[derive(Drop)]
+#[derive(Clone, Copy)]
 pub struct Governing {
     pub some: bool,
     pub part: usize,

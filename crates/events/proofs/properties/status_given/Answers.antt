@@ -1,0 +1,11 @@
+-- `events::properties::status_given` meets its contract: each arm is one clause of the definition.
+use Rattle.events.specs.ComponentProperties.{status_given}
+use Rattle.events.proofs.properties.status_given.Goals as goal
+
+pub returns-in-Given : goal.returns-in-Given
+unfolding status_given
+returns-in-Given c = simp c.in-Given.is
+
+pub returns-in-Absent : goal.returns-in-Absent
+unfolding status_given
+returns-in-Absent c = simp c.in-Absent.is

@@ -1,0 +1,11 @@
+-- `events::properties::transparency_given` meets its contract: each arm is one clause of the definition.
+use Rattle.events.specs.ComponentProperties.{transparency_given}
+use Rattle.events.proofs.properties.transparency_given.Goals as goal
+
+pub returns-in-Given : goal.returns-in-Given
+unfolding transparency_given
+returns-in-Given c = simp c.in-Given.is
+
+pub returns-in-Absent : goal.returns-in-Absent
+unfolding transparency_given
+returns-in-Absent c = simp c.in-Absent.is

@@ -1,0 +1,13 @@
+-- `line::scan::name_length` meets its contract: the bytes passed are name bytes, so those counted from the rest and those passed are all.
+use Rattle.line.proofs.ScannerNames.{bytes_here, bytes_on, bytes_end}
+use mathlib.Core.Path.{sym, ◌∙◌}
+use Rattle.line.proofs.scan.name_length.Goals as goal
+
+pub returns-then-not-is_name_byte : goal.returns-then-not-is_name_byte
+returns-then-not-is_name_byte c = sym (bytes_here _ _ c.loop-i-test.true (sym c.is_name_byte.ensures ∙ c.if-not-is_name_byte.true)) ∙ c.loop-i.invariant
+
+pub loop-i-preserved : goal.loop-i-preserved
+loop-i-preserved c = bytes_on _ _ c.loop-i-test.true (sym c.is_name_byte.ensures ∙ c.if-not-is_name_byte.false) ∙ c.loop-i.invariant
+
+pub returns : goal.returns
+returns c = sym (bytes_end _ _ c.loop-i-test.false) ∙ c.loop-i.invariant

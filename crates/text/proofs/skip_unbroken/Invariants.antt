@@ -1,0 +1,11 @@
+use lib.ListN.{length}
+use Prim.Native.Nat.{◌-◌}
+use Rattle.text.specs.Unfolding.{Nowhere}
+use Rattle.text.specs.Lines.{break_at}
+use Rattle.text.proofs.skip_unbroken.Given as goal
+
+abbrev pub invariant-loop-i : goal.invariant-loop-i
+invariant-loop-i l = Nowhere break_at l.s l.from l.i
+
+abbrev pub decreases-loop-i : goal.decreases-loop-i
+decreases-loop-i l = length l.s - l.i

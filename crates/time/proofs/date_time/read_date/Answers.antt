@@ -1,0 +1,17 @@
+-- `time::date_time::read_date` meets its contract: the length and the day's number decide, and a day's number is small.
+use Rattle.time.proofs.DateTime.{read_date_length, read_date_bad, read_date_of, date_at_small}
+use mathlib.Core.Path.{sym, ◌∙◌}
+use native.Mathlib.Omega.{arith}
+use Rattle.time.proofs.date_time.read_date.Goals as goal
+
+pub returns-then-s-ne8 : goal.returns-then-s-ne8
+returns-then-s-ne8 c = read_date_length _ c.if-s-ne8.true
+
+pub overflow_mul-result : goal.overflow_mul-result
+overflow_mul-result c = omega (arith, date_at_small _ _ (sym c.date_at-date.ensures ∙ c.in-Of.is))
+
+pub returns-in-Bad : goal.returns-in-Bad
+returns-in-Bad c = read_date_bad _ c.if-s-ne8.false (sym c.date_at-date.ensures ∙ c.in-Bad.is)
+
+pub returns-in-Of : goal.returns-in-Of
+returns-in-Of c = read_date_of _ _ c.if-s-ne8.false (sym c.date_at-date.ensures ∙ c.in-Of.is)

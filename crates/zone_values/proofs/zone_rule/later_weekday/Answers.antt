@@ -1,0 +1,46 @@
+-- `zone_values::zone_rule::later_weekday` meets its contract: the words are tried in the order of the definition.
+use Rattle.zone_values.specs.ZoneRule.{later_weekday}
+use mathlib.Core.Path.{sym, ◌∙◌}
+use Rattle.zone_values.proofs.zone_rule.later_weekday.Goals as goal
+
+pub returns-then-same_name : goal.returns-then-same_name
+unfolding later_weekday
+returns-then-same_name c = rw (sym c.same_name.ensures ∙ c.if-same_name.true)
+
+pub returns-then-same_name-2 : goal.returns-then-same_name-2
+unfolding later_weekday
+returns-then-same_name-2 c = rw (sym c.same_name.ensures ∙ c.if-same_name.false, sym c.same_name-2.ensures ∙ c.if-same_name-2.true)
+
+pub returns-then-same_name-3 : goal.returns-then-same_name-3
+unfolding later_weekday
+returns-then-same_name-3 c =
+    let same_name = c.same_name in
+    let if1 = c.if-same_name in
+    let same_name2 = c.same_name-2 in
+    let if2 = c.if-same_name-2 in
+    let same_name3 = c.same_name-3 in
+    rw (sym same_name.ensures ∙ if1.false, sym same_name2.ensures ∙ if2.false, sym same_name3.ensures ∙ c.if-same_name-3.true)
+
+pub returns-then-same_name-4 : goal.returns-then-same_name-4
+unfolding later_weekday
+returns-then-same_name-4 c =
+    let same_name = c.same_name in
+    let if1 = c.if-same_name in
+    let same_name2 = c.same_name-2 in
+    let if2 = c.if-same_name-2 in
+    let same_name3 = c.same_name-3 in
+    let if3 = c.if-same_name-3 in
+    let same_name4 = c.same_name-4 in
+    rw (sym same_name.ensures ∙ if1.false, sym same_name2.ensures ∙ if2.false, sym same_name3.ensures ∙ if3.false, sym same_name4.ensures ∙ c.if-same_name-4.true)
+
+pub returns : goal.returns
+unfolding later_weekday
+returns c =
+    let same_name = c.same_name in
+    let if1 = c.if-same_name in
+    let same_name2 = c.same_name-2 in
+    let if2 = c.if-same_name-2 in
+    let same_name3 = c.same_name-3 in
+    let if3 = c.if-same_name-3 in
+    let same_name4 = c.same_name-4 in
+    rw (sym same_name.ensures ∙ if1.false, sym same_name2.ensures ∙ if2.false, sym same_name3.ensures ∙ if3.false, sym same_name4.ensures ∙ c.if-same_name-4.false)
