@@ -7,9 +7,12 @@ use console::out::{print, print_number, print_reason, wrong};
 use console::query::query_at;
 use console::{args, file};
 use engine::{Answer, ReportSeconds};
+use std::io;
+use std::io::Read;
+use std::rt::{Files, Runtime};
 
 // The length of the name that is being read, and the counts.
-#[derive(Drop)]
+#[derive(Clone, Copy)]
 struct Tally {
     n: usize,
     files: u64,
@@ -19,7 +22,7 @@ struct Tally {
 }
 
 // What became of a file.
-#[derive(Drop)]
+#[derive(Clone, Copy)]
 enum Outcome {
     Report,
     Refused,
@@ -42,124 +45,150 @@ fn counted(s: Tally, o: Outcome) -> Tally {
     t
 }
 
-fn print_counts(s: Tally) {
-    print(b"files\t");
-    print_number(s.files);
-    print(b"\treports\t");
-    print_number(s.reports);
-    print(b"\trefused\t");
-    print_number(s.refused);
-    print(b"\tunreadable\t");
-    print_number(s.unreadable);
-    print(b"\n");
+fn print_counts(rt: &impl Print, s: Tally) -> io::Result<()> {
+    print(rt, b"files\t")?;
+    print_number(rt, s.files)?;
+    print(rt, b"\treports\t")?;
+    print_number(rt, s.reports)?;
+    print(rt, b"\trefused\t")?;
+    print_number(rt, s.refused)?;
+    print(rt, b"\tunreadable\t")?;
+    print_number(rt, s.unreadable)?;
+    print(rt, b"\n")
 }
 
-fn print_busy(seconds: u64) {
-    print(b"\t");
-    print_number(seconds);
+fn print_busy(rt: &impl Print, seconds: u64) -> io::Result<()> {
+    print(rt, b"\t")?;
+    print_number(rt, seconds)
 }
 
 // Three columns.
-fn print_seconds(r: ReportSeconds) {
-    print_busy(r.busy);
-    print_busy(r.tentative);
-    print_busy(r.unavailable);
+fn print_seconds(rt: &impl Print, r: ReportSeconds) -> io::Result<()> {
+    print_busy(rt, r.busy)?;
+    print_busy(rt, r.tentative)?;
+    print_busy(rt, r.unavailable)
 }
 
 // Where a refusal's fault stands, if it has a line.
-fn print_line(line: usize) {
+fn print_line(rt: &impl Print, line: usize) -> io::Result<()> {
     if 0 < line {
-        print(b" line ");
-        print_number(line as u64);
+        print(rt, b" line ")?;
+        print_number(rt, line as u64)?;
     }
+    Ok(())
 }
 
 // A column of words and one with a number.
-fn print_pair(words: &[u8], n: u64) {
-    print(b"\t");
-    print(words);
-    print(b"\t");
-    print_number(n);
+fn print_pair(rt: &impl Print, words: &[u8], n: u64) -> io::Result<()> {
+    print(rt, b"\t")?;
+    print(rt, words)?;
+    print(rt, b"\t")?;
+    print_number(rt, n)
 }
 
-fn print_verdict(a: Answer) {
+fn print_verdict(rt: &impl Print, a: Answer) -> io::Result<()> {
     match a {
         Answer::Verdict(yes) => {
             if yes {
-                print(b"\tmatch");
-                return;
+                return print(rt, b"\tmatch");
             }
-            print(b"\tno match");
+            print(rt, b"\tno match")
         }
-        Answer::Length(n) => print_pair(b"report", n as u64),
+        Answer::Length(n) => print_pair(rt, b"report", n as u64),
         Answer::Refused(n, line) => {
-            print(b"\trefused ");
-            print_number(n as u64);
-            print_line(line);
+            print(rt, b"\trefused ")?;
+            print_number(rt, n as u64)?;
+            print_line(rt, line)
         }
     }
 }
 
 // Writes the report beside its file.
-fn save(path: &mut [u8], name: &[u8], report: &[u8], n: usize) -> Saved {
+fn save(
+    rt: &(impl Files + Eprint + Alloc),
+    path: &mut [u8],
+    name: &[u8],
+    report: &[u8],
+    n: usize,
+) -> io::Result<Saved> {
     let k = name.len();
     if 4096 < k {
-        return Saved::Failed;
+        return Ok(Saved::Failed);
     }
     let m = k + 7;
     if path.len() < m {
-        return Saved::Failed;
+        return Ok(Saved::Failed);
     }
     if report.len() < n {
-        return Saved::Failed;
+        return Ok(Saved::Failed);
     }
     time::writing::put_bytes(path, 0, name);
     time::writing::put_bytes(path, k, b".report");
-    file::save_file(&path[0..m], &report[0..n])
+    file::save_file(rt, &path[0..m], &report[0..n])
 }
 
 // A last column where the report is not a new file.
-fn save_beside(name: &[u8], report: &[u8], n: usize) {
+fn save_beside(
+    rt: &(impl Files + Print + Eprint + Alloc),
+    name: &[u8],
+    report: &[u8],
+    n: usize,
+) -> io::Result<()> {
     let mut path = [0u8; 4104];
-    match save(&mut path, name, report, n) {
-        Saved::New => {}
-        Saved::Replaced => print(b"\treplaced"),
-        Saved::Failed => print(b"\tnot written"),
+    match save(rt, &mut path, name, report, n)? {
+        Saved::New => Ok(()),
+        Saved::Replaced => print(rt, b"\treplaced"),
+        Saved::Failed => print(rt, b"\tnot written"),
     }
 }
 
 // The columns behind the verdict.
-fn print_report(name: &[u8], p: Plan, cal: &[u8], work: &mut [u8], out: &mut [u8]) -> Outcome {
+fn print_report(
+    rt: &(impl Files + Print + Eprint + Alloc),
+    name: &[u8],
+    p: Plan,
+    cal: &[u8],
+    work: &mut [u8],
+    out: &mut [u8],
+) -> io::Result<Outcome> {
     let r = engine::report_seconds(cal, p.start, p.end, p.offset, p.stamp, work, out);
     let fault = r.fault;
     match fault {
         Fault::At(n, line) => {
-            print_pair(b"refused", n as u64);
-            print(b"\t");
-            print_number(line as u64);
-            print(b"\t0\t0\t0");
-            Outcome::Refused
+            print_pair(rt, b"refused", n as u64)?;
+            print(rt, b"\t")?;
+            print_number(rt, line as u64)?;
+            print(rt, b"\t0\t0\t0")?;
+            Ok(Outcome::Refused)
         }
         Fault::None => {
-            print_pair(b"report", r.length as u64);
-            print(b"\t0");
-            print_seconds(r);
-            save_beside(name, out, r.length);
-            Outcome::Report
+            print_pair(rt, b"report", r.length as u64)?;
+            print(rt, b"\t0")?;
+            print_seconds(rt, r)?;
+            save_beside(rt, name, out, r.length)?;
+            Ok(Outcome::Report)
         }
     }
 }
 
 // The verdict's column, where a query was given.
-fn verdict(asked: bool, cal: &[u8], query: &[u8], offset: i64, work: &mut [u8]) {
+fn verdict(
+    rt: &impl Print,
+    asked: bool,
+    cal: &[u8],
+    query: &[u8],
+    offset: i64,
+    work: &mut [u8],
+) -> io::Result<()> {
     if !asked {
-        return;
+        return Ok(());
     }
-    print_verdict(engine::matches(cal, query, offset, work));
+    print_verdict(rt, engine::matches(cal, query, offset, work))
 }
 
 // The columns of a file that was read.
 fn print_read(
+    rt: &(impl Files + Print + Eprint + Alloc),
     name: &[u8],
     p: Plan,
     asked: bool,
@@ -168,27 +197,28 @@ fn print_read(
     n: usize,
     work: &mut [u8],
     out: &mut [u8],
-) -> Outcome {
+) -> io::Result<Outcome> {
     if cal.len() < n {
-        return Outcome::Unreadable;
+        return Ok(Outcome::Unreadable);
     }
-    verdict(asked, &cal[0..n], query, p.offset, work);
-    print_report(name, p, &cal[0..n], work, out)
+    verdict(rt, asked, &cal[0..n], query, p.offset, work)?;
+    print_report(rt, name, p, &cal[0..n], work, out)
 }
 
 // The columns of a file that could not be read.
-fn print_unread(asked: bool, error: i32) -> Outcome {
+fn print_unread(rt: &impl Print, asked: bool, error: i32) -> io::Result<Outcome> {
     if asked {
-        print(b"\t-");
+        print(rt, b"\t-")?;
     }
-    print(b"\tunreadable\t");
-    print_reason(error);
-    print(b"\t0\t0\t0\t0");
-    Outcome::Unreadable
+    print(rt, b"\tunreadable\t")?;
+    print_reason(rt, error)?;
+    print(rt, b"\t0\t0\t0\t0")?;
+    Ok(Outcome::Unreadable)
 }
 
 // A file's batch line.
 fn one(
+    rt: &(impl Files + Print + Eprint + Alloc),
     name: &[u8],
     p: Plan,
     asked: bool,
@@ -196,17 +226,18 @@ fn one(
     cal: &mut [u8],
     work: &mut [u8],
     out: &mut [u8],
-) -> Outcome {
-    print(name);
-    let got = file::read_file(name, cal);
+) -> io::Result<Outcome> {
+    print(rt, name)?;
+    let got = file::read_file(rt, name, cal)?;
     match got {
-        Got::Bytes(n) => print_read(name, p, asked, query, cal, n, work, out),
-        Got::Failed(e) => print_unread(asked, e),
+        Got::Bytes(n) => print_read(rt, name, p, asked, query, cal, n, work, out),
+        Got::Failed(e) => print_unread(rt, asked, e),
     }
 }
 
 // The end of a line: an empty one is passed over.
 fn end_line(
+    rt: &(impl Files + Print + Eprint + Alloc),
     name: &[u8],
     s: Tally,
     p: Plan,
@@ -215,17 +246,17 @@ fn end_line(
     cal: &mut [u8],
     work: &mut [u8],
     out: &mut [u8],
-) -> Tally {
+) -> io::Result<Tally> {
     let n = s.n;
     if n == 0 {
-        return s;
+        return Ok(s);
     }
     if name.len() < n {
-        return s;
+        return Ok(s);
     }
-    let o = one(&name[0..n], p, asked, query, cal, work, out);
-    print(b"\n");
-    counted(s, o)
+    let o = one(rt, &name[0..n], p, asked, query, cal, work, out)?;
+    print(rt, b"\n")?;
+    Ok(counted(s, o))
 }
 
 // One more byte of a name; one that is too long for the system stays so.
@@ -241,6 +272,7 @@ fn feed(name: &mut [u8], s: Tally, b: u8) -> Tally {
 
 // One byte of the input.
 fn step(
+    rt: &(impl Files + Print + Eprint + Alloc),
     name: &mut [u8],
     s: Tally,
     p: Plan,
@@ -250,15 +282,16 @@ fn step(
     work: &mut [u8],
     out: &mut [u8],
     b: u8,
-) -> Tally {
+) -> io::Result<Tally> {
     if b == 10 {
-        return end_line(name, s, p, asked, query, cal, work, out);
+        return end_line(rt, name, s, p, asked, query, cal, work, out);
     }
-    feed(name, s, b)
+    Ok(feed(name, s, b))
 }
 
 // One block of the input.
 fn run_block(
+    rt: &(impl Files + Print + Eprint + Alloc),
     block: &[u8],
     name: &mut [u8],
     s: Tally,
@@ -268,18 +301,17 @@ fn run_block(
     cal: &mut [u8],
     work: &mut [u8],
     out: &mut [u8],
-) -> Tally {
+) -> io::Result<Tally> {
     let mut now = s;
-    let mut i: usize = 0;
-    while i < block.len() {
-        now = step(name, now, p, asked, query, cal, work, out, block[i]);
-        i += 1;
+    for b in block {
+        now = step(rt, name, now, p, asked, query, cal, work, out, *b)?;
     }
-    now
+    Ok(now)
 }
 
 // Block after block, as many as can be; the last line may lack its end.
 fn run_all(
+    rt: &impl Runtime,
     block: &mut [u8],
     name: &mut [u8],
     p: Plan,
@@ -288,7 +320,7 @@ fn run_all(
     cal: &mut [u8],
     work: &mut [u8],
     out: &mut [u8],
-) {
+) -> io::Result<()> {
     let mut now = Tally {
         n: 0,
         files: 0,
@@ -296,19 +328,20 @@ fn run_all(
         refused: 0,
         unreadable: 0,
     };
-    let mut left: u64 = 1000000000;
-    while 0 < left {
-        let n = io::read_full(libc::STDIN_FILENO, block);
+    let mut input = rt.reader();
+    for _ in 0..u64::MAX {
+        let n = input.read(block)?;
         if n == 0 {
-            print_counts(end_line(name, now, p, asked, query, cal, work, out));
-            return;
+            break;
         }
-        now = run_block(&block[..n], name, now, p, asked, query, cal, work, out);
-        left -= 1;
+        now = run_block(rt, &block[..n], name, now, p, asked, query, cal, work, out)?;
     }
+    let ended = end_line(rt, name, now, p, asked, query, cal, work, out)?;
+    print_counts(rt, ended)
 }
 
 fn with_buffers(
+    rt: &impl Runtime,
     p: Plan,
     asked: bool,
     query: &[u8],
@@ -316,11 +349,12 @@ fn with_buffers(
     cal: &mut [u8],
     work: &mut [u8],
     out: &mut [u8],
-) {
-    let mut block = io::buffer();
-    let mut name = io::buffer();
+) -> io::Result<()> {
+    let mut block = [0u8; 4096];
+    let mut name = [0u8; 4096];
     if k <= query.len() {
         run_all(
+            rt,
             &mut block,
             &mut name,
             p,
@@ -329,25 +363,33 @@ fn with_buffers(
             cal,
             work,
             out,
-        );
+        )?;
     }
+    Ok(())
 }
 
-pub fn run(cal: &mut [u8], query: &mut [u8], work: &mut [u8], out: &mut [u8]) {
-    let many = os::arg_count();
+pub fn run(
+    rt: &impl Runtime,
+    cal: &mut [u8],
+    query: &mut [u8],
+    work: &mut [u8],
+    out: &mut [u8],
+) -> io::Result<()> {
+    let many = args::count(rt);
     if (many != 6) & (many != 7) {
-        wrong(b"batch takes START END OFFSET STAMP, and a QUERY or none");
-        return;
+        return wrong(
+            rt,
+            b"batch takes START END OFFSET STAMP, and a QUERY or none",
+        );
     }
-    let Planned::Of(p) = args::read_plan(2, 3, 4, 5) else {
-        return;
+    let Planned::Of(p) = args::read_plan(rt, 2, 3, 4, 5)? else {
+        return Ok(());
     };
     if many == 6 {
-        with_buffers(p, false, query, 0, cal, work, out);
-        return;
+        return with_buffers(rt, p, false, query, 0, cal, work, out);
     }
-    let Got::Bytes(k) = query_at(6, work, query) else {
-        return;
+    let Got::Bytes(k) = query_at(rt, 6, work, query)? else {
+        return Ok(());
     };
-    with_buffers(p, true, query, k, cal, work, out);
+    with_buffers(rt, p, true, query, k, cal, work, out)
 }

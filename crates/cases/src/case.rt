@@ -2,7 +2,7 @@
 // between two; an empty byte string is a dot. A line that cannot be read is marked so, and passed over to its end.
 
 // How far a line has been read.
-#[derive(Drop)]
+#[derive(Clone, Copy)]
 pub struct Case {
     // The line's number, from 1.
     pub line: u64,
@@ -146,7 +146,7 @@ fn feed_number(c: Case, b: u8) -> Case {
 }
 
 // The offset: a number with its sign, where 64 bits hold it.
-#[derive(Drop)]
+#[derive(Clone, Copy)]
 pub enum Offset {
     Of(i64),
     Bad,

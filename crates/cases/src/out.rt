@@ -1,18 +1,18 @@
 // Printing.
 // Standard output alone.
-use libc::STDOUT_FILENO;
+use std::io;
 
-pub fn print(s: &[u8]) {
-    io::write_all(STDOUT_FILENO, s);
+pub fn print(rt: &impl Print, s: &[u8]) -> io::Result<()> {
+    rt.write_all(s)
 }
 
-pub fn print_number(n: u64) {
-    io::print_decimal(STDOUT_FILENO, n);
+pub fn print_number(rt: &impl Print, n: u64) -> io::Result<()> {
+    rt.print(n)
 }
 
 // A line that is no case.
-pub fn print_unreadable(line: u64) {
-    print(b"line ");
-    print_number(line);
-    print(b" cannot be read\n");
+pub fn print_unreadable(rt: &impl Print, line: u64) -> io::Result<()> {
+    print(rt, b"line ")?;
+    print_number(rt, line)?;
+    print(rt, b" cannot be read\n")
 }

@@ -12,103 +12,139 @@
 // its length, refusal number or reason, the line at fault or 0, and the busy seconds of BUSY, BUSY-TENTATIVE and BUSY-UNAVAILABLE; then a line of
 // counts that begins with `files`. A report that replaces an older one beside its file adds `replaced`, and one that cannot be
 // written `not written`.
+#![tactic(auto)]
+
 mod verify;
 
 use cli::arguments::{Command, Offset};
 use console::args::{Plan, Planned};
 use console::file::Got;
-use console::{args, file, line, out, query};
+use console::{args, fault_line, file, out, query};
 use engine::Answer;
+use std::io;
+use std::rt::Runtime;
 
 // The first n bytes.
-fn print_first(bytes: &[u8], n: usize) {
+fn print_first(rt: &impl Print, bytes: &[u8], n: usize) -> io::Result<()> {
     if n <= bytes.len() {
-        out::print(&bytes[0..n]);
+        out::print(rt, &bytes[0..n])?;
     }
+    Ok(())
 }
 
 // What was answered: a verdict, the first of these bytes, or a refusal with the line at fault.
-fn print_answer(a: Answer, bytes: &[u8], cal: &[u8], work: &mut [u8]) {
+fn print_answer(
+    rt: &impl Print,
+    a: Answer,
+    bytes: &[u8],
+    cal: &[u8],
+    work: &mut [u8],
+) -> io::Result<()> {
     match a {
         Answer::Verdict(yes) => {
             if yes {
-                out::print(b"match\n");
-                return;
+                return out::print(rt, b"match\n");
             }
-            out::print(b"no match\n");
+            out::print(rt, b"no match\n")
         }
-        Answer::Length(n) => print_first(bytes, n),
+        Answer::Length(n) => print_first(rt, bytes, n),
         Answer::Refused(n, line) => {
-            out::refused(n, line);
-            line::show_fault(cal, work, line);
+            out::refused(rt, n, line)?;
+            fault_line::show_fault(rt, cal, work, line)
         }
     }
 }
 
-fn report_on(p: Plan, cal: &[u8], n: usize, work: &mut [u8], out: &mut [u8]) {
+fn report_on(
+    rt: &impl Print,
+    p: Plan,
+    cal: &[u8],
+    n: usize,
+    work: &mut [u8],
+    out: &mut [u8],
+) -> io::Result<()> {
     if n <= cal.len() {
         let a = engine::report(&cal[0..n], p.start, p.end, p.offset, p.stamp, work, out);
-        print_answer(a, out, &cal[0..n], work);
+        print_answer(rt, a, out, &cal[0..n], work)?;
     }
+    Ok(())
 }
 
-fn report(cal: &mut [u8], work: &mut [u8], out: &mut [u8]) {
-    if os::arg_count() != 7 {
-        out::wrong(b"report takes CALENDAR START END OFFSET STAMP");
-        return;
+fn report(rt: &impl Runtime, cal: &mut [u8], work: &mut [u8], out: &mut [u8]) -> io::Result<()> {
+    if args::count(rt) != 7 {
+        return out::wrong(rt, b"report takes CALENDAR START END OFFSET STAMP");
     }
-    let Planned::Of(p) = args::read_plan(3, 4, 5, 6) else {
-        return;
+    let Planned::Of(p) = args::read_plan(rt, 3, 4, 5, 6)? else {
+        return Ok(());
     };
-    let Got::Bytes(n) = file::file_at(2, cal) else {
-        return;
+    let Got::Bytes(n) = file::file_at(rt, 2, cal)? else {
+        return Ok(());
     };
-    report_on(p, cal, n, work, out);
+    report_on(rt, p, cal, n, work, out)
 }
 
-fn match_on(offset: i64, cal: &[u8], n: usize, query: &[u8], k: usize, work: &mut [u8]) {
+fn match_on(
+    rt: &impl Print,
+    offset: i64,
+    cal: &[u8],
+    n: usize,
+    query: &[u8],
+    k: usize,
+    work: &mut [u8],
+) -> io::Result<()> {
     if n <= cal.len() {
         if k <= query.len() {
             let a = engine::matches(&cal[0..n], &query[0..k], offset, work);
-            print_answer(a, query, &cal[0..n], work);
+            print_answer(rt, a, query, &cal[0..n], work)?;
         }
     }
+    Ok(())
 }
 
-fn match_query(cal: &mut [u8], query: &mut [u8], work: &mut [u8]) {
-    if os::arg_count() != 5 {
-        out::wrong(b"match takes CALENDAR QUERY OFFSET");
-        return;
+fn match_query(
+    rt: &impl Runtime,
+    cal: &mut [u8],
+    query: &mut [u8],
+    work: &mut [u8],
+) -> io::Result<()> {
+    if args::count(rt) != 5 {
+        return out::wrong(rt, b"match takes CALENDAR QUERY OFFSET");
     }
-    let Offset::Of(offset) = args::offset_at(4) else {
-        return;
+    let Offset::Of(offset) = args::offset_at(rt, 4)? else {
+        return Ok(());
     };
-    let Got::Bytes(k) = query::query_at(3, work, query) else {
-        return;
+    let Got::Bytes(k) = query::query_at(rt, 3, work, query)? else {
+        return Ok(());
     };
-    let Got::Bytes(n) = file::file_at(2, cal) else {
-        return;
+    let Got::Bytes(n) = file::file_at(rt, 2, cal)? else {
+        return Ok(());
     };
-    match_on(offset, cal, n, query, k, work);
+    match_on(rt, offset, cal, n, query, k, work)
 }
 
-fn run(cal: &mut [u8], query: &mut [u8], work: &mut [u8], out: &mut [u8]) {
+fn run(
+    rt: &impl Runtime,
+    cal: &mut [u8],
+    query: &mut [u8],
+    work: &mut [u8],
+    out: &mut [u8],
+) -> io::Result<()> {
     let mut word = [0u8; 16];
-    let n = os::arg(1, &mut word);
+    let n = args::word_at(rt, 1, &mut word);
     let command = cli::arguments::command_of(&word[..n]);
     match command {
-        Command::Report => report(cal, work, out),
-        Command::Verify => verify::run(cal, work, out),
-        Command::Match => match_query(cal, query, work),
-        Command::Batch => batch::batch::run(cal, query, work, out),
-        Command::Other => out::wrong(b"the first word is report, verify, match or batch"),
+        Command::Report => report(rt, cal, work, out),
+        Command::Verify => verify::run(rt, cal, work, out),
+        Command::Match => match_query(rt, cal, query, work),
+        Command::Batch => batch::batch::run(rt, cal, query, work, out),
+        Command::Other => out::wrong(rt, b"the first word is report, verify, match or batch"),
     }
 }
 
-fn main() {
+fn main(rt: HostRuntime) -> io::Result<()> {
     let mut cal = [0u8; 131072];
     let mut query = [0u8; 16384];
     let mut work = [0u8; 131072];
     let mut out = [0u8; 40000];
-    run(&mut cal, &mut query, &mut work, &mut out);
+    run(&rt, &mut cal, &mut query, &mut work, &mut out)
 }

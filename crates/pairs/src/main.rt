@@ -1,13 +1,17 @@
 // Runs the calls made in pairs on cases of a report: one a line on standard input (`cases::case`), the answers on standard output.
 // A line for each case: its report read back at the offset with the other sign. A line for each two that follow one another: their reports
 // over the range of the first, with its stamp. Every buffer is filled with 0xA5 before the call; a match is passed over.
+#![tactic(auto)]
+
 use cases::case;
 use cases::case::{Case, Offset};
 use cases::out::{print, print_number, print_unreadable};
 use engine::Answer;
+use std::io;
+use std::io::Read;
 
 // The line that is being read, and the case before it, where there is one.
-#[derive(Drop)]
+#[derive(Clone, Copy)]
 struct State {
     now: Case,
     before: Case,
@@ -15,49 +19,56 @@ struct State {
 }
 
 // Where a refusal's fault stands, if it has a line.
-fn print_line(line: usize) {
+fn print_line(rt: &impl Print, line: usize) -> io::Result<()> {
     if 0 < line {
-        print(b" at line ");
-        print_number(line as u64);
+        print(rt, b" at line ")?;
+        print_number(rt, line as u64)?;
     }
+    Ok(())
 }
 
-fn print_answer(a: Answer) {
+fn print_answer(rt: &impl Print, a: Answer) -> io::Result<()> {
     match a {
         Answer::Verdict(yes) => {
-            print(b"verdict ");
-            print_number(yes as u64);
+            print(rt, b"verdict ")?;
+            print_number(rt, yes as u64)
         }
         Answer::Length(n) => {
-            print(b"report ");
-            print_number(n as u64);
+            print(rt, b"report ")?;
+            print_number(rt, n as u64)
         }
         Answer::Refused(n, line) => {
-            print(b"refused ");
-            print_number(n as u64);
-            print_line(line);
+            print(rt, b"refused ")?;
+            print_number(rt, n as u64)?;
+            print_line(rt, line)
         }
     }
 }
 
-fn print_same(same: bool) {
+fn print_same(rt: &impl Print, same: bool) -> io::Result<()> {
     if same {
-        print(b", the same bytes");
-        return;
+        return print(rt, b", the same bytes");
     }
-    print(b", not the same bytes");
+    print(rt, b", not the same bytes")
 }
 
-fn print_heads(heads: bool) {
+fn print_heads(rt: &impl Print, heads: bool) -> io::Result<()> {
     if heads {
-        print(b", heads match\n");
-        return;
+        return print(rt, b", heads match\n");
     }
-    print(b", heads do not match\n");
+    print(rt, b", heads do not match\n")
 }
 
 // A report is at most 35,006 bytes long.
-fn read_back(c: Case, offset: i64, again: i64, cal: &[u8], work: &mut [u8], out: &mut [u8]) {
+fn read_back(
+    rt: &impl Print,
+    c: Case,
+    offset: i64,
+    again: i64,
+    cal: &[u8],
+    work: &mut [u8],
+    out: &mut [u8],
+) -> io::Result<()> {
     let mut work_again = [165u8; 40000];
     let mut out_again = [165u8; 40000];
     let t = demands::read_back(
@@ -74,45 +85,50 @@ fn read_back(c: Case, offset: i64, again: i64, cal: &[u8], work: &mut [u8], out:
     );
     let first = t.first;
     let second = t.second;
-    print_number(c.line);
-    print(b": ");
-    print_answer(first);
-    print(b", read back ");
-    print_answer(second);
-    print_same(demands::same_reports(first, out, second, &out_again));
-    print_heads(t.heads);
+    print_number(rt, c.line)?;
+    print(rt, b": ")?;
+    print_answer(rt, first)?;
+    print(rt, b", read back ")?;
+    print_answer(rt, second)?;
+    print_same(rt, demands::same_reports(first, out, second, &out_again))?;
+    print_heads(rt, t.heads)
 }
 
 // With buffers as long as the case asks for.
-fn read_back_in(c: Case, offset: i64, again: i64, cal: &[u8]) {
+fn read_back_in(rt: &impl Print, c: Case, offset: i64, again: i64, cal: &[u8]) -> io::Result<()> {
     let mut work = [165u8; 131072];
     let mut out = [165u8; 131072];
     let w = c.work;
     let o = c.out;
     if w <= 131072 {
         if o <= 131072 {
-            read_back(c, offset, again, cal, &mut work[0..w], &mut out[0..o]);
-            return;
+            return read_back(rt, c, offset, again, cal, &mut work[0..w], &mut out[0..o]);
         }
     }
-    print_unreadable(c.line);
+    print_unreadable(rt, c.line)
 }
 
-fn read_back_case(c: Case, cal: &[u8]) {
+fn read_back_case(rt: &impl Print, c: Case, cal: &[u8]) -> io::Result<()> {
     let line = c.line;
     let Offset::Of(offset) = case::offset_of(c.offset, c.below) else {
-        print_unreadable(line);
-        return;
+        return print_unreadable(rt, line);
     };
     let Offset::Of(again) = case::offset_of(c.offset, !c.below) else {
-        print_unreadable(line);
-        return;
+        return print_unreadable(rt, line);
     };
-    read_back_in(c, offset, again, cal);
+    read_back_in(rt, c, offset, again, cal)
 }
 
 // With buffers that are long enough for any calendar and report.
-fn compare(p: Case, offset: i64, cal: &[u8], c: Case, offset_other: i64, other: &[u8]) {
+fn compare(
+    rt: &impl Print,
+    p: Case,
+    offset: i64,
+    cal: &[u8],
+    c: Case,
+    offset_other: i64,
+    other: &[u8],
+) -> io::Result<()> {
     let mut work = [165u8; 131072];
     let mut out = [165u8; 40000];
     let mut work_other = [165u8; 131072];
@@ -132,43 +148,44 @@ fn compare(p: Case, offset: i64, cal: &[u8], c: Case, offset_other: i64, other: 
     );
     let first = t.first;
     let second = t.second;
-    print_number(p.line);
-    print(b" and ");
-    print_number(c.line);
-    print(b": ");
-    print_answer(first);
-    print(b", ");
-    print_answer(second);
-    print_same(demands::same_reports(first, &out, second, &out_other));
-    print(b"\n");
+    print_number(rt, p.line)?;
+    print(rt, b" and ")?;
+    print_number(rt, c.line)?;
+    print(rt, b": ")?;
+    print_answer(rt, first)?;
+    print(rt, b", ")?;
+    print_answer(rt, second)?;
+    print_same(rt, demands::same_reports(first, &out, second, &out_other))?;
+    print(rt, b"\n")
 }
 
-fn compare_cases(p: Case, cal: &[u8], c: Case, other: &[u8]) {
+fn compare_cases(rt: &impl Print, p: Case, cal: &[u8], c: Case, other: &[u8]) -> io::Result<()> {
     let Offset::Of(offset) = case::offset_of(p.offset, p.below) else {
-        return;
+        return Ok(());
     };
     let Offset::Of(offset_other) = case::offset_of(c.offset, c.below) else {
-        return;
+        return Ok(());
     };
-    compare(p, offset, cal, c, offset_other, other);
+    compare(rt, p, offset, cal, c, offset_other, other)
 }
 
 // Both lines of a case that has been read whole.
-fn answer(s: State, before: &[u8], cal: &[u8]) {
+fn answer(rt: &impl Print, s: State, before: &[u8], cal: &[u8]) -> io::Result<()> {
     let c = s.now;
     let p = s.before;
     let n = c.cal;
     let k = p.cal;
     if cal.len() < n {
-        return;
+        return Ok(());
     }
-    read_back_case(c, &cal[0..n]);
+    read_back_case(rt, c, &cal[0..n])?;
     if before.len() < k {
-        return;
+        return Ok(());
     }
     if s.any {
-        compare_cases(p, &before[0..k], c, &cal[0..n]);
+        compare_cases(rt, p, &before[0..k], c, &cal[0..n])?;
     }
+    Ok(())
 }
 
 // The calendar is kept for the case behind it.
@@ -194,26 +211,33 @@ fn passed(s: State) -> State {
 }
 
 // The end of a line.
-fn end_line(cal: &[u8], before: &mut [u8], s: State) -> State {
+fn end_line(rt: &impl Print, cal: &[u8], before: &mut [u8], s: State) -> io::Result<State> {
     let c = s.now;
     if !case::is_whole(c) {
-        print_unreadable(c.line);
-        return passed(s);
+        print_unreadable(rt, c.line)?;
+        return Ok(passed(s));
     }
     if c.is_match {
-        return passed(s);
+        return Ok(passed(s));
     }
-    answer(s, before, cal);
+    answer(rt, s, before, cal)?;
     keep(before, cal, c.cal);
-    State {
+    Ok(State {
         now: case::next_line(c),
         before: c,
         any: true,
-    }
+    })
 }
 
 // One byte of the input; a line that is empty is passed over.
-fn step(cal: &mut [u8], query: &mut [u8], before: &mut [u8], s: State, b: u8) -> State {
+fn step(
+    rt: &impl Print,
+    cal: &mut [u8],
+    query: &mut [u8],
+    before: &mut [u8],
+    s: State,
+    b: u8,
+) -> io::Result<State> {
     let c = s.now;
     let p = s.before;
     let next = State {
@@ -222,47 +246,58 @@ fn step(cal: &mut [u8], query: &mut [u8], before: &mut [u8], s: State, b: u8) ->
         any: s.any,
     };
     if b != 10 {
-        return next;
+        return Ok(next);
     }
     if case::is_empty(c) {
-        return s;
+        return Ok(s);
     }
-    end_line(cal, before, next)
+    end_line(rt, cal, before, next)
 }
 
 // One block of the input.
-fn run_block(block: &[u8], cal: &mut [u8], query: &mut [u8], before: &mut [u8], s: State) -> State {
+fn run_block(
+    rt: &impl Print,
+    block: &[u8],
+    cal: &mut [u8],
+    query: &mut [u8],
+    before: &mut [u8],
+    s: State,
+) -> io::Result<State> {
     let mut now = s;
-    let mut i: usize = 0;
-    while i < block.len() {
-        now = step(cal, query, before, now, block[i]);
-        i += 1;
+    for b in block {
+        now = step(rt, cal, query, before, now, *b)?;
     }
-    now
+    Ok(now)
 }
 
 // Block after block, as many as can be.
-fn run(block: &mut [u8], cal: &mut [u8], query: &mut [u8], before: &mut [u8]) {
+fn run(
+    rt: &(impl Input + Print),
+    block: &mut [u8],
+    cal: &mut [u8],
+    query: &mut [u8],
+    before: &mut [u8],
+) -> io::Result<()> {
     let mut now = State {
         now: case::begin(1),
         before: case::begin(0),
         any: false,
     };
-    let mut left: u64 = 1000000000;
-    while 0 < left {
-        let n = io::read_full(libc::STDIN_FILENO, block);
+    let mut input = rt.reader();
+    for _ in 0..u64::MAX {
+        let n = input.read(block)?;
         if n == 0 {
-            return;
+            break;
         }
-        now = run_block(&block[..n], cal, query, before, now);
-        left -= 1;
+        now = run_block(rt, &block[..n], cal, query, before, now)?;
     }
+    Ok(())
 }
 
-fn main() {
-    let mut block = io::large_buffer();
+fn main(rt: HostRuntime) -> io::Result<()> {
+    let mut block = [0u8; 65536];
     let mut cal = [0u8; 131072];
     let mut query = [0u8; 16384];
     let mut before = [0u8; 131072];
-    run(&mut block, &mut cal, &mut query, &mut before);
+    run(&rt, &mut block, &mut cal, &mut query, &mut before)
 }

@@ -3,10 +3,8 @@
 
 // Every byte becomes 0xA5.
 pub fn fill(s: &mut [u8]) {
-    let mut i: usize = 0;
-    while i < s.len() {
-        s[i] = 165;
-        i += 1;
+    for byte in s {
+        *byte = 165;
     }
 }
 
@@ -27,11 +25,9 @@ fn joined(a: u64, b: u64) -> u64 {
 pub fn adler(s: &[u8]) -> u64 {
     let mut a: u64 = 1;
     let mut b: u64 = 0;
-    let mut i: usize = 0;
-    while i < s.len() {
-        a = sum(a, wide(s[i]));
+    for byte in s {
+        a = sum(a, wide(*byte));
         b = sum(b, a);
-        i += 1;
     }
     joined(a, b)
 }

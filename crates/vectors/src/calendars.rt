@@ -8,6 +8,7 @@ use crate::lines::decode;
 use crate::out::{print, print_number};
 use calendar::Fault;
 use contents::walks;
+use std::io;
 use values::times::Context;
 
 // A number in decimal, up to 100,800; any other byte counts as 0.
@@ -41,14 +42,14 @@ fn wide(b: u8) -> u64
     b as u64
 }
 
-fn show_fault(f: Fault) {
+fn show_fault(rt: &impl Print, f: Fault) -> io::Result<()> {
     match f {
-        Fault::None => print(b"good"),
+        Fault::None => print(rt, b"good"),
         Fault::At(n, line) => {
-            print(b"refused ");
-            print_number(n as u64);
-            print(b" at line ");
-            print_number(line as u64);
+            print(rt, b"refused ")?;
+            print_number(rt, n as u64)?;
+            print(rt, b" at line ")?;
+            print_number(rt, line as u64)
         }
     }
 }
@@ -92,26 +93,24 @@ fn fault_of(s: &[u8], c: Context) -> Fault
     }
 }
 
-fn check(cal: &[u8], shift: u64)
+fn check(rt: &impl Print, cal: &[u8], shift: u64) -> io::Result<()>
     requires { shift ≤ 100800 }
 {
-    let mut work = io::large_buffer();
+    let mut work = [0u8; 65536];
     if work.len() < cal.len() {
-        print(b"too long");
-        return;
+        return print(rt, b"too long");
     }
     if 65536 < cal.len() {
-        print(b"too long");
-        return;
+        return print(rt, b"too long");
     }
     let n = text::unfold_into(&mut work, cal);
-    show_fault(fault_of(&work[..n], Context { shift }));
+    show_fault(rt, fault_of(&work[..n], Context { shift }))
 }
 
 // The offset as 50,400 more than it, a blank, and the calendar in hex.
-pub fn check_hex(s: &[u8]) {
-    let mut cal = io::large_buffer();
+pub fn check_hex(rt: &impl Print, s: &[u8]) -> io::Result<()> {
+    let mut cal = [0u8; 65536];
     let n = decode(&mut cal, line::split::after(s, 32, false));
     let offset = shift(line::split::before(s, 32, false));
-    check(&cal[..n], offset);
+    check(rt, &cal[..n], offset)
 }

@@ -5,6 +5,7 @@ ghost use Rattle.std.specs.Prelude.{◌≤◌, length};
 use crate::out::{print, print_number};
 use index::Filled;
 use line::check::Next;
+use std::io;
 use text::{Collation, Span};
 
 // The number of a hex digit in lower case; any other byte is 0.
@@ -34,119 +35,121 @@ pub fn decode(out: &mut [u8], hex: &[u8]) -> usize
     n
 }
 
-fn show_value(v: &[u8]) {
-    print(b" <");
-    print(v);
-    print(b">");
+fn show_value(rt: &impl Print, v: &[u8]) -> io::Result<()> {
+    print(rt, b" <")?;
+    print(rt, v)?;
+    print(rt, b">")
 }
 
-fn show_values(p: &[u8]) {
+fn show_values(rt: &impl Print, p: &[u8]) -> io::Result<()> {
     let count = line::read::value_count(p);
-    let mut i = 0;
-    while i < count {
-        show_value(line::read::parameter_value(p, i));
-        i += 1;
+    for i in 0..count {
+        show_value(rt, line::read::parameter_value(p, i))?;
     }
+    Ok(())
 }
 
-fn show_parameter(p: &[u8]) {
-    print(b" parameter ");
-    print(line::read::parameter_name(p));
-    show_values(p);
+fn show_parameter(rt: &impl Print, p: &[u8]) -> io::Result<()> {
+    print(rt, b" parameter ")?;
+    print(rt, line::read::parameter_name(p))?;
+    show_values(rt, p)
 }
 
-fn show_parameters(l: &[u8]) {
+fn show_parameters(rt: &impl Print, l: &[u8]) -> io::Result<()> {
     let count = line::read::parameter_count(l);
     let texts = line::split::after(line::read::head(l), 59, true);
-    let mut i = 0;
-    while i < count {
-        show_parameter(line::split::nth_part(texts, 59, true, i));
-        i += 1;
+    for i in 0..count {
+        show_parameter(rt, line::split::nth_part(texts, 59, true, i))?;
     }
+    Ok(())
 }
 
-fn show_parts(l: &[u8]) {
-    print(b" [");
-    print(line::split::before(line::read::head(l), 59, true));
-    show_parameters(l);
-    print(b" value");
-    show_value(line::read::value(l));
-    print(b"]");
+fn show_parts(rt: &impl Print, l: &[u8]) -> io::Result<()> {
+    print(rt, b" [")?;
+    print(rt, line::split::before(line::read::head(l), 59, true))?;
+    show_parameters(rt, l)?;
+    print(rt, b" value")?;
+    show_value(rt, line::read::value(l))?;
+    print(rt, b"]")
 }
 
-fn show_bad(l: &[u8]) {
-    print(b" [bad ");
-    print_number(l.len() as u64);
-    print(b"]");
+fn show_bad(rt: &impl Print, l: &[u8]) -> io::Result<()> {
+    print(rt, b" [bad ")?;
+    print_number(rt, l.len() as u64)?;
+    print(rt, b"]")
 }
 
 // The line l, which starts at this place of s.
-fn show_line(s: &[u8], from: usize, l: &[u8]) {
+fn show_line(rt: &impl Print, s: &[u8], from: usize, l: &[u8]) -> io::Result<()> {
     match line::check::next_good(s, from) {
-        Next::Line(_, _) => show_parts(l),
-        Next::Bad => show_bad(l),
-        Next::End => {}
+        Next::Line(_, _) => show_parts(rt, l),
+        Next::Bad => show_bad(rt, l),
+        Next::End => Ok(()),
     }
 }
 
-fn show_lines(s: &[u8]) {
+fn show_lines(rt: &impl Print, s: &[u8]) -> io::Result<()> {
     let mut from = 0;
     loop {
         match text::next_line(s, from) {
             Span::Line(e, next) => {
-                show_line(s, from, &s[from..e]);
+                show_line(rt, s, from, &s[from..e])?;
                 from = next;
             }
-            Span::End => return,
+            Span::End => return Ok(()),
         }
     }
 }
 
-fn show_check(s: &[u8])
+fn show_check(rt: &impl Print, s: &[u8]) -> io::Result<()>
     requires { length s.now ≤ 65536 }
 {
     let mut index = [0u32; 16385];
     match index::fill_index(&mut index, s) {
-        Filled::Lines(_) => print(b" good"),
+        Filled::Lines(_) => print(rt, b" good"),
         Filled::BadLine(n) => {
-            print(b" bad line ");
-            print_number(n as u64);
+            print(rt, b" bad line ")?;
+            print_number(rt, n as u64)
         }
-        Filled::Full => print(b" too many lines"),
+        Filled::Full => print(rt, b" too many lines"),
     }
 }
 
-fn show_unfolded(cal: &[u8]) {
-    let mut work = io::buffer();
+fn show_unfolded(rt: &impl Print, cal: &[u8]) -> io::Result<()> {
+    let mut work = [0u8; 4096];
     if work.len() < cal.len() {
-        print(b" too long");
-        return;
+        return print(rt, b" too long");
     }
     let n = text::unfold_into(&mut work, cal);
-    print_number(n as u64);
-    show_check(&work[..n]);
-    show_lines(&work[..n]);
+    print_number(rt, n as u64)?;
+    show_check(rt, &work[..n])?;
+    show_lines(rt, &work[..n])
 }
 
-fn show_contains(value: &[u8], wanted: &[u8], collation: Collation) {
+fn show_contains(
+    rt: &impl Print,
+    value: &[u8],
+    wanted: &[u8],
+    collation: Collation,
+) -> io::Result<()> {
     if search::contains(value, wanted, collation) {
-        print(b"contained");
+        print(rt, b"contained")
     } else {
-        print(b"not contained");
+        print(rt, b"not contained")
     }
 }
 
 // Both texts, with a comma between them.
-pub fn compare(hex: &[u8], collation: Collation) {
-    let mut value = io::buffer();
-    let mut wanted = io::buffer();
+pub fn compare(rt: &impl Print, hex: &[u8], collation: Collation) -> io::Result<()> {
+    let mut value = [0u8; 4096];
+    let mut wanted = [0u8; 4096];
     let v = decode(&mut value, line::split::before(hex, 44, false));
     let w = decode(&mut wanted, line::split::after(hex, 44, false));
-    show_contains(&value[..v], &wanted[..w], collation);
+    show_contains(rt, &value[..v], &wanted[..w], collation)
 }
 
-pub fn unfold_hex(hex: &[u8]) {
-    let mut cal = io::buffer();
+pub fn unfold_hex(rt: &impl Print, hex: &[u8]) -> io::Result<()> {
+    let mut cal = [0u8; 4096];
     let n = decode(&mut cal, hex);
-    show_unfolded(&cal[..n]);
+    show_unfolded(rt, &cal[..n])
 }

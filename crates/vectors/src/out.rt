@@ -1,11 +1,11 @@
 // Printing.
 // Standard output alone.
-use libc::STDOUT_FILENO;
+use std::io;
 
-pub fn print(s: &[u8]) {
-    io::write_all(STDOUT_FILENO, s);
+pub fn print(rt: &impl Print, s: &[u8]) -> io::Result<()> {
+    rt.write_all(s)
 }
 
-pub fn print_number(n: u64) {
-    io::print_decimal(STDOUT_FILENO, n);
+pub fn print_number(rt: &impl Print, n: u64) -> io::Result<()> {
+    rt.print(n)
 }

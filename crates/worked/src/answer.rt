@@ -2,6 +2,7 @@
 // The same bytes are compared with what is written and printed where they differ.
 use crate::lines::{find, part, starts_with};
 use engine::Answer;
+use itoa::Buffer;
 
 // Puts bytes at a place and gives the place behind them; past the end, where there is no room.
 pub fn put(into: &mut [u8], at: usize, bytes: &[u8]) -> usize {
@@ -42,9 +43,8 @@ fn put_report(given: &mut [u8], report: &[u8], whole: bool) -> usize {
 }
 
 fn put_number(given: &mut [u8], at: usize, n: u64) -> usize {
-    let mut digits = [0u8; 20];
-    let k = io::decimal(n, &mut digits);
-    put(given, at, &digits[..k])
+    let mut digits = Buffer::new();
+    put(given, at, digits.format(n).as_bytes())
 }
 
 // Where a refusal's fault stands, if it has a line.

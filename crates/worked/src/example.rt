@@ -4,8 +4,9 @@ use crate::answer::put;
 use crate::lines::{after_blank, first_word};
 use crate::out::malformed;
 use cli::arguments::{Number, decimal_of};
+use std::io;
 
-#[derive(Drop)]
+#[derive(Clone, Copy)]
 pub struct Example {
     // The number of the line that is read, from 1.
     pub line: u64,
@@ -50,9 +51,9 @@ pub fn begin(line: u64, name: usize, name_end: usize) -> Example {
 }
 
 // Says what is wrong, and passes the line over.
-pub fn wrong(e: Example, what: &[u8]) -> Example {
-    malformed(e.line, what);
-    e
+pub fn wrong(rt: &impl Print, e: Example, what: &[u8]) -> io::Result<Example> {
+    malformed(rt, e.line, what)?;
+    Ok(e)
 }
 
 // An empty line ends a query and an answer, and a comment ends an answer.
@@ -64,56 +65,64 @@ pub fn pass(e: Example) -> Example {
 }
 
 // A line of an answer was read with its question.
-pub fn pass_answer(e: Example) -> Example {
+pub fn pass_answer(rt: &impl Print, e: Example) -> io::Result<Example> {
     if e.answering {
-        return e;
+        return Ok(e);
     }
-    wrong(e, b"an answer without a question")
+    wrong(rt, e, b"an answer without a question")
 }
 
 // The lengths that the next questions lend, each at most that of a block.
-pub fn lend(e: Example, words: &[u8]) -> Example {
+pub fn lend(rt: &impl Print, e: Example, words: &[u8]) -> io::Result<Example> {
     let Number::Of(work) = decimal_of(first_word(words)) else {
-        return wrong(e, b"the length of the work buffer is wanted");
+        return wrong(rt, e, b"the length of the work buffer is wanted");
     };
     let Number::Of(output) = decimal_of(after_blank(words)) else {
-        return wrong(e, b"the length of the output buffer is wanted");
+        return wrong(rt, e, b"the length of the output buffer is wanted");
     };
     let mut n = e;
     n.work = work as usize;
     n.output = output as usize;
-    n
+    Ok(n)
 }
 
 // A line so many times, each with CR LF.
 fn add_lines(cal: &mut [u8], from: usize, line: &[u8], times: u64) -> usize {
     let mut n = from;
-    let mut left = times;
-    while 0 < left {
+    for _ in 0..times {
         n = put(cal, n, line);
         n = put(cal, n, b"\r\n");
-        left -= 1;
     }
     n
 }
 
 // A line of the calendar so many times, where one can stand.
-pub fn add_calendar(cal: &mut [u8], e: Example, line: &[u8], times: u64) -> Example {
+pub fn add_calendar(
+    rt: &impl Print,
+    cal: &mut [u8],
+    e: Example,
+    line: &[u8],
+    times: u64,
+) -> io::Result<Example> {
     if e.asked | !e.begun {
-        return wrong(e, b"a calendar line that stands in no example's calendar");
+        return wrong(
+            rt,
+            e,
+            b"a calendar line that stands in no example's calendar",
+        );
     }
     let mut n = e;
     n.length = add_lines(cal, e.length, line, times);
     if cal.len() < n.length {
-        return wrong(e, b"there is no room for so long a calendar");
+        return wrong(rt, e, b"there is no room for so long a calendar");
     }
-    n
+    Ok(n)
 }
 
 // A number of times, and the line.
-pub fn add_times(cal: &mut [u8], e: Example, words: &[u8]) -> Example {
+pub fn add_times(rt: &impl Print, cal: &mut [u8], e: Example, words: &[u8]) -> io::Result<Example> {
     let Number::Of(times) = decimal_of(first_word(words)) else {
-        return wrong(e, b"a number of times is wanted");
+        return wrong(rt, e, b"a number of times is wanted");
     };
-    add_calendar(cal, e, after_blank(words), times)
+    add_calendar(rt, cal, e, after_blank(words), times)
 }

@@ -2,7 +2,7 @@
 // No calendar line that is well formed can be taken for another kind.
 use crate::lines::{first_word, same};
 
-#[derive(Drop)]
+#[derive(Clone, Copy)]
 pub enum Kind {
     Empty,
     Comment,

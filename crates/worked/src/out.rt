@@ -1,16 +1,16 @@
 // Printing.
 // Standard output alone.
-use libc::STDOUT_FILENO;
+use std::io;
 
-pub fn print(s: &[u8]) {
-    io::write_all(STDOUT_FILENO, s);
+pub fn print(rt: &impl Print, s: &[u8]) -> io::Result<()> {
+    rt.write_all(s)
 }
 
 // What is wrong with a line of the file.
-pub fn malformed(line: u64, what: &[u8]) {
-    print(b"line ");
-    io::print_decimal(STDOUT_FILENO, line);
-    print(b" cannot be read: ");
-    print(what);
-    print(b"\n");
+pub fn malformed(rt: &impl Print, line: u64, what: &[u8]) -> io::Result<()> {
+    print(rt, b"line ")?;
+    rt.print(line)?;
+    print(rt, b" cannot be read: ")?;
+    print(rt, what)?;
+    print(rt, b"\n")
 }

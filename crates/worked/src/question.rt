@@ -6,7 +6,7 @@ use cli::arguments::{Number, Offset, offset_of, second_of};
 use engine::Answer;
 
 // What a report is asked for.
-#[derive(Drop)]
+#[derive(Clone, Copy)]
 pub struct Plan {
     pub start: u64,
     pub end: u64,
@@ -14,7 +14,7 @@ pub struct Plan {
     pub stamp: u64,
 }
 
-#[derive(Drop)]
+#[derive(Clone, Copy)]
 pub enum Planned {
     Of(Plan),
     Bad,
@@ -80,15 +80,15 @@ fn match_lent(work: &mut [u8], cal: &[u8], query: &[u8], offset: i64, w: usize) 
 
 // The answer to a report's question, as the file writes it.
 pub fn ask_report(given: &mut [u8], cal: &[u8], p: Plan, w: usize, o: usize, whole: bool) -> usize {
-    let mut work = io::large_buffer();
-    let mut out = io::large_buffer();
+    let mut work = [0u8; 65536];
+    let mut out = [0u8; 65536];
     let a = report_lent(&mut work, &mut out, cal, p, w, o);
     put_answer(given, a, &out, whole)
 }
 
 // The answer to a match's question.
 pub fn ask_match(given: &mut [u8], cal: &[u8], query: &[u8], offset: i64, w: usize) -> usize {
-    let mut work = io::large_buffer();
+    let mut work = [0u8; 65536];
     let a = match_lent(&mut work, cal, query, offset, w);
     put_answer(given, a, query, true)
 }
