@@ -1,4 +1,4 @@
-//! Links liblokuwaine.a, which `rt staticlib lokuwaine` writes below the repository's target folder.
+//! Links liblokuwaine.a, which bindings/build writes below the repository's target folder.
 //! LOKUWAINE_LIB names another folder that has it.
 use std::path::PathBuf;
 
