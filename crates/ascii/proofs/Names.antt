@@ -1,13 +1,14 @@
 -- Laws of names: a test of every byte, and names compared without regard to case.
 use Prim.Native.Nat.{ℕ, ◌+◌, ◌≤◌, ◌<◌, suc}
 use mathlib.Core.Path.{◌≡◌, refl, ap, subst}
-use mathlib.Core.Bool.{Bool, true, false, and-false}
+use mathlib.Core.Bool.{Bool, true, false, ◌&&◌, and-false}
 use mathlib.Core.List.{List, [], ◌∷◌, ◌++◌, map}
 use mathlib.Core.Logic.{◌↔◌}
 use native.Mathlib.Omega.{arith}
 use lib.ListN.{length, drop, get_or}
 use lib.Dec.{eqb}
 use borrow.Author.Tests.{eqb-true, eq-eqb, ne_eqb}
+use Rattle.std.specs.List.{list_all}
 use Rattle.ascii.specs.Names.{every, same_bytes, same_name, is_name}
 use Rattle.ascii.specs.Bytes.{upper, is_name_byte}
 use Rattle.ascii.proofs.Bools.{and_left, and_right, and_both, clash}
@@ -96,3 +97,8 @@ pub every_of_name : (n : List ℕ) → is_name n ≡ true → every is_name_byte
 unfolding is_name
 every_of_name [] e = clash e refl
 every_of_name (b ∷ n) e = e
+
+-- the library's test of every element
+pub every_all : (f : ℕ → Bool) (s : List ℕ) → list_all f s ≡ every f s
+every_all f [] = refl
+every_all f (b ∷ s) = ap (λ (t : Bool). f b && t) (every_all f s)

@@ -9,13 +9,13 @@ ghost use Rattle.ascii.specs.Names.{same_name, is_name};
 pub fn is_digit(b: u8) -> bool
     ensures { result ≡ is_digit b }
 {
-    (48 <= b) & (b <= 57)
+    b.is_ascii_digit()
 }
 
 fn is_letter(b: u8) -> bool
     ensures { result ≡ is_letter b }
 {
-    ((65 <= b) & (b <= 90)) | ((97 <= b) & (b <= 122))
+    b.is_ascii_alphabetic()
 }
 
 pub fn is_name_byte(b: u8) -> bool
@@ -37,16 +37,11 @@ pub fn is_control(b: u8) -> bool
 pub fn upper(b: u8) -> u8
     ensures { result ≡ upper b }
 {
-    if b < 97 {
-        return b;
-    }
-    if 122 < b {
-        return b;
-    }
-    b - 32
+    b.to_ascii_uppercase()
 }
 
 // Are the two the same byte, ASCII case disregarded? Mostly they are so as they stand.
+// It is the test of the loop in `same_name`, which by the library's `eq_ignore_ascii_case` took twice the time.
 fn same_byte(a: u8, b: u8) -> bool
     ensures { result ≡ eqb (upper a) (upper b) }
 {
@@ -57,18 +52,17 @@ fn same_byte(a: u8, b: u8) -> bool
 }
 
 // Are the two the same bytes, ASCII case disregarded?
+// By an index: `eq_ignore_ascii_case` took twice the time of this, and so did a loop over `a.iter().enumerate()`.
 pub fn same_name(a: &[u8], b: &[u8]) -> bool
     ensures { result ≡ same_name a.now b.now }
 {
     if a.len() != b.len() {
         return false;
     }
-    let mut i = 0;
-    while i < a.len() {
+    for i in 0..a.len() {
         if !same_byte(a[i], b[i]) {
             return false;
         }
-        i += 1;
     }
     true
 }
@@ -77,15 +71,5 @@ pub fn same_name(a: &[u8], b: &[u8]) -> bool
 pub fn is_name(s: &[u8]) -> bool
     ensures { result ≡ is_name s.now }
 {
-    if s.len() == 0 {
-        return false;
-    }
-    let mut i = 0;
-    while i < s.len() {
-        if !is_name_byte(s[i]) {
-            return false;
-        }
-        i += 1;
-    }
-    true
+    !s.is_empty() && s.iter().all(|&b| is_name_byte(b))
 }

@@ -1,24 +1,23 @@
 // Many calendars: their names on standard input, a batch line each, and each report beside its file.
 // The engine answers; here answers are counted and printed.
-use calendar::Fault;
-use console::args::{Plan, Planned};
-use console::file::{Got, Saved};
-use console::out::{print, print_number, print_reason, wrong};
+use arrayvec::ArrayVec;
+use cli::arguments::Plan;
+use console::args;
+use console::file::{Reason, Saved, read_file, save_file, tell};
+use console::out::wrong;
 use console::query::query_at;
-use console::{args, file};
+use console::room::Room;
+use console::stop::Stop;
 use engine::{Answer, ReportSeconds};
-use std::io;
 use std::io::Read;
 use std::rt::{Files, Runtime};
+use std::{fmt, io};
 
-// The length of the name that is being read, and the counts.
+// What each calendar is asked: a report, and a match where there is a query.
 #[derive(Clone, Copy)]
-struct Tally {
-    n: usize,
-    files: u64,
-    reports: u64,
-    refused: u64,
-    unreadable: u64,
+struct Asked<'a> {
+    plan: Plan,
+    query: Option<&'a [u8]>,
 }
 
 // What became of a file.
@@ -29,102 +28,52 @@ enum Outcome {
     Unreadable,
 }
 
-fn more(n: u64) -> u64 {
-    std::num::wrapping_add_u64(n, 1)
+#[derive(Clone, Copy)]
+struct Tally {
+    files: u64,
+    reports: u64,
+    refused: u64,
+    unreadable: u64,
 }
 
-fn counted(s: Tally, o: Outcome) -> Tally {
-    let mut t = s;
-    t.n = 0;
-    t.files = more(t.files);
-    match o {
-        Outcome::Report => t.reports = more(t.reports),
-        Outcome::Refused => t.refused = more(t.refused),
-        Outcome::Unreadable => t.unreadable = more(t.unreadable),
+impl Tally {
+    fn add(&mut self, o: Outcome) {
+        self.files = self.files.wrapping_add(1);
+        match o {
+            Outcome::Report => self.reports = self.reports.wrapping_add(1),
+            Outcome::Refused => self.refused = self.refused.wrapping_add(1),
+            Outcome::Unreadable => self.unreadable = self.unreadable.wrapping_add(1),
+        }
     }
-    t
 }
 
-fn print_counts(rt: &impl Print, s: Tally) -> io::Result<()> {
-    print(rt, b"files\t")?;
-    print_number(rt, s.files)?;
-    print(rt, b"\treports\t")?;
-    print_number(rt, s.reports)?;
-    print(rt, b"\trefused\t")?;
-    print_number(rt, s.refused)?;
-    print(rt, b"\tunreadable\t")?;
-    print_number(rt, s.unreadable)?;
-    print(rt, b"\n")
-}
-
-fn print_busy(rt: &impl Print, seconds: u64) -> io::Result<()> {
-    print(rt, b"\t")?;
-    print_number(rt, seconds)
-}
-
-// Three columns.
-fn print_seconds(rt: &impl Print, r: ReportSeconds) -> io::Result<()> {
-    print_busy(rt, r.busy)?;
-    print_busy(rt, r.tentative)?;
-    print_busy(rt, r.unavailable)
-}
-
-// Where a refusal's fault stands, if it has a line.
-fn print_line(rt: &impl Print, line: usize) -> io::Result<()> {
-    if 0 < line {
-        print(rt, b" line ")?;
-        print_number(rt, line as u64)?;
+impl fmt::Display for Tally {
+    fn fmt<W: fmt::Write>(&self, f: &mut fmt::Formatter<W>) -> fmt::Result {
+        write!(
+            f,
+            "files\t{}\treports\t{}\trefused\t{}\tunreadable\t{}",
+            self.files, self.reports, self.refused, self.unreadable
+        )
     }
-    Ok(())
 }
 
-// A column of words and one with a number.
-fn print_pair(rt: &impl Print, words: &[u8], n: u64) -> io::Result<()> {
-    print(rt, b"\t")?;
-    print(rt, words)?;
-    print(rt, b"\t")?;
-    print_number(rt, n)
-}
-
+// The verdict's column, where a query was given.
 fn print_verdict(rt: &impl Print, a: Answer) -> io::Result<()> {
     match a {
-        Answer::Verdict(yes) => {
-            if yes {
-                return print(rt, b"\tmatch");
-            }
-            print(rt, b"\tno match")
-        }
-        Answer::Length(n) => print_pair(rt, b"report", n as u64),
-        Answer::Refused(n, line) => {
-            print(rt, b"\trefused ")?;
-            print_number(rt, n as u64)?;
-            print_line(rt, line)
-        }
+        Answer::Verdict(true) => print!(rt; "\tmatch"),
+        Answer::Verdict(false) => print!(rt; "\tno match"),
+        Answer::Length(n) => print!(rt; "\treport\t{n}"),
+        Answer::Refused(n, 0) => print!(rt; "\trefused {n}"),
+        Answer::Refused(n, line) => print!(rt; "\trefused {n} line {line}"),
     }
 }
 
-// Writes the report beside its file.
-fn save(
-    rt: &(impl Files + Eprint + Alloc),
-    path: &mut [u8],
-    name: &[u8],
-    report: &[u8],
-    n: usize,
-) -> io::Result<Saved> {
+// The name of the report beside a file.
+fn report_name<'a>(path: &'a mut [u8; 4104], name: &[u8]) -> Option<&'a [u8]> {
     let k = name.len();
-    if 4096 < k {
-        return Ok(Saved::Failed);
-    }
-    let m = k + 7;
-    if path.len() < m {
-        return Ok(Saved::Failed);
-    }
-    if report.len() < n {
-        return Ok(Saved::Failed);
-    }
-    time::writing::put_bytes(path, 0, name);
-    time::writing::put_bytes(path, k, b".report");
-    file::save_file(rt, &path[0..m], &report[0..n])
+    path.get_mut(..k)?.copy_from_slice(name);
+    path.get_mut(k..)?.get_mut(..7)?.copy_from_slice(b".report");
+    path.get(..k + 7)
 }
 
 // A last column where the report is not a new file.
@@ -132,18 +81,32 @@ fn save_beside(
     rt: &(impl Files + Print + Eprint + Alloc),
     name: &[u8],
     report: &[u8],
-    n: usize,
 ) -> io::Result<()> {
     let mut path = [0u8; 4104];
-    match save(rt, &mut path, name, report, n)? {
-        Saved::New => Ok(()),
-        Saved::Replaced => print(rt, b"\treplaced"),
-        Saved::Failed => print(rt, b"\tnot written"),
+    let Some(path) = report_name(&mut path, name) else {
+        return print!(rt; "\tnot written");
+    };
+    match save_file(rt, path, report) {
+        Ok(Saved::New) => Ok(()),
+        Ok(Saved::Replaced) => print!(rt; "\treplaced"),
+        Err(error) => {
+            tell(rt, path, error)?;
+            print!(rt; "\tnot written")
+        }
     }
 }
 
+// The columns of a report: its length, no line at fault, and the seconds of the three busy types.
+fn print_report(rt: &impl Print, length: usize, r: ReportSeconds) -> io::Result<()> {
+    print!(rt;
+        "\treport\t{length}\t0\t{}\t{}\t{}",
+        r.busy, r.tentative, r.unavailable
+    )
+}
+
 // The columns behind the verdict.
-fn print_report(
+// Calendar and buffers stand apart, as `engine::report_seconds` takes them, which docs/TRACE.md names.
+fn report(
     rt: &(impl Files + Print + Eprint + Alloc),
     name: &[u8],
     p: Plan,
@@ -152,67 +115,28 @@ fn print_report(
     out: &mut [u8],
 ) -> io::Result<Outcome> {
     let r = engine::report_seconds(cal, p.start, p.end, p.offset, p.stamp, work, out);
-    let fault = r.fault;
-    match fault {
-        Fault::At(n, line) => {
-            print_pair(rt, b"refused", n as u64)?;
-            print(rt, b"\t")?;
-            print_number(rt, line as u64)?;
-            print(rt, b"\t0\t0\t0")?;
+    match r.written {
+        Err(e) => {
+            print!(rt; "\trefused\t{}\t{}\t0\t0\t0", e.number, e.line)?;
             Ok(Outcome::Refused)
         }
-        Fault::None => {
-            print_pair(rt, b"report", r.length as u64)?;
-            print(rt, b"\t0")?;
-            print_seconds(rt, r)?;
-            save_beside(rt, name, out, r.length)?;
+        Ok(length) => {
+            print_report(rt, length, r)?;
+            match out.get(..length) {
+                Some(report) => save_beside(rt, name, report)?,
+                None => print!(rt; "\tnot written")?,
+            }
             Ok(Outcome::Report)
         }
     }
 }
 
-// The verdict's column, where a query was given.
-fn verdict(
-    rt: &impl Print,
-    asked: bool,
-    cal: &[u8],
-    query: &[u8],
-    offset: i64,
-    work: &mut [u8],
-) -> io::Result<()> {
-    if !asked {
-        return Ok(());
-    }
-    print_verdict(rt, engine::matches(cal, query, offset, work))
-}
-
-// The columns of a file that was read.
-fn print_read(
-    rt: &(impl Files + Print + Eprint + Alloc),
-    name: &[u8],
-    p: Plan,
-    asked: bool,
-    query: &[u8],
-    cal: &[u8],
-    n: usize,
-    work: &mut [u8],
-    out: &mut [u8],
-) -> io::Result<Outcome> {
-    if cal.len() < n {
-        return Ok(Outcome::Unreadable);
-    }
-    verdict(rt, asked, &cal[0..n], query, p.offset, work)?;
-    print_report(rt, name, p, &cal[0..n], work, out)
-}
-
 // The columns of a file that could not be read.
-fn print_unread(rt: &impl Print, asked: bool, error: i32) -> io::Result<Outcome> {
-    if asked {
-        print(rt, b"\t-")?;
+fn print_unread(rt: &impl Print, asked: Asked, reason: Reason) -> io::Result<Outcome> {
+    if asked.query.is_some() {
+        print!(rt; "\t-")?;
     }
-    print(rt, b"\tunreadable\t")?;
-    print_reason(rt, error)?;
-    print(rt, b"\t0\t0\t0\t0")?;
+    print!(rt; "\tunreadable\t{reason}\t0\t0\t0\t0")?;
     Ok(Outcome::Unreadable)
 }
 
@@ -220,18 +144,21 @@ fn print_unread(rt: &impl Print, asked: bool, error: i32) -> io::Result<Outcome>
 fn one(
     rt: &(impl Files + Print + Eprint + Alloc),
     name: &[u8],
-    p: Plan,
-    asked: bool,
-    query: &[u8],
-    cal: &mut [u8],
-    work: &mut [u8],
-    out: &mut [u8],
+    asked: Asked,
+    room: &mut Room,
 ) -> io::Result<Outcome> {
-    print(rt, name)?;
-    let got = file::read_file(rt, name, cal)?;
-    match got {
-        Got::Bytes(n) => print_read(rt, name, p, asked, query, cal, n, work, out),
-        Got::Failed(e) => print_unread(rt, asked, e),
+    rt.write_all(name)?;
+    match read_file(rt, name, &mut room.cal) {
+        Ok(cal) => {
+            if let Some(query) = asked.query {
+                print_verdict(
+                    rt,
+                    engine::matches(cal, query, asked.plan.offset, &mut room.work),
+                )?;
+            }
+            report(rt, name, asked.plan, cal, &mut room.work, &mut room.out)
+        }
+        Err(error) => print_unread(rt, asked, tell(rt, name, error)?),
     }
 }
 
@@ -239,157 +166,62 @@ fn one(
 fn end_line(
     rt: &(impl Files + Print + Eprint + Alloc),
     name: &[u8],
-    s: Tally,
-    p: Plan,
-    asked: bool,
-    query: &[u8],
-    cal: &mut [u8],
-    work: &mut [u8],
-    out: &mut [u8],
-) -> io::Result<Tally> {
-    let n = s.n;
-    if n == 0 {
-        return Ok(s);
+    asked: Asked,
+    room: &mut Room,
+    tally: &mut Tally,
+) -> io::Result<()> {
+    if name.is_empty() {
+        return Ok(());
     }
-    if name.len() < n {
-        return Ok(s);
-    }
-    let o = one(rt, &name[0..n], p, asked, query, cal, work, out)?;
-    print(rt, b"\n")?;
-    Ok(counted(s, o))
-}
-
-// One more byte of a name; one that is too long for the system stays so.
-fn feed(name: &mut [u8], s: Tally, b: u8) -> Tally {
-    let mut t = s;
-    let n = t.n;
-    if n < name.len() {
-        name[n] = b;
-        t.n = n + 1;
-    }
-    t
-}
-
-// One byte of the input.
-fn step(
-    rt: &(impl Files + Print + Eprint + Alloc),
-    name: &mut [u8],
-    s: Tally,
-    p: Plan,
-    asked: bool,
-    query: &[u8],
-    cal: &mut [u8],
-    work: &mut [u8],
-    out: &mut [u8],
-    b: u8,
-) -> io::Result<Tally> {
-    if b == 10 {
-        return end_line(rt, name, s, p, asked, query, cal, work, out);
-    }
-    Ok(feed(name, s, b))
-}
-
-// One block of the input.
-fn run_block(
-    rt: &(impl Files + Print + Eprint + Alloc),
-    block: &[u8],
-    name: &mut [u8],
-    s: Tally,
-    p: Plan,
-    asked: bool,
-    query: &[u8],
-    cal: &mut [u8],
-    work: &mut [u8],
-    out: &mut [u8],
-) -> io::Result<Tally> {
-    let mut now = s;
-    for b in block {
-        now = step(rt, name, now, p, asked, query, cal, work, out, *b)?;
-    }
-    Ok(now)
+    tally.add(one(rt, name, asked, room)?);
+    println!(rt)
 }
 
 // Block after block, as many as can be; the last line may lack its end.
-fn run_all(
-    rt: &impl Runtime,
-    block: &mut [u8],
-    name: &mut [u8],
-    p: Plan,
-    asked: bool,
-    query: &[u8],
-    cal: &mut [u8],
-    work: &mut [u8],
-    out: &mut [u8],
-) -> io::Result<()> {
-    let mut now = Tally {
-        n: 0,
+fn run_all(rt: &impl Runtime, asked: Asked, room: &mut Room) -> io::Result<()> {
+    let mut tally = Tally {
         files: 0,
         reports: 0,
         refused: 0,
         unreadable: 0,
     };
+    let mut name = ArrayVec::<u8, 4096>::new();
+    let mut block = [0u8; 4096];
     let mut input = rt.reader();
     for _ in 0..u64::MAX {
-        let n = input.read(block)?;
+        let n = input.read(&mut block)?;
         if n == 0 {
             break;
         }
-        now = run_block(rt, &block[..n], name, now, p, asked, query, cal, work, out)?;
+        for &b in &block[..n] {
+            if b == b'\n' {
+                end_line(rt, &name, asked, room, &mut tally)?;
+                name.clear();
+            } else {
+                // A name that is too long for the system stays so.
+                let _ = name.try_push(b);
+            }
+        }
     }
-    let ended = end_line(rt, name, now, p, asked, query, cal, work, out)?;
-    print_counts(rt, ended)
+    end_line(rt, &name, asked, room, &mut tally)?;
+    println!(rt; "{tally}")
 }
 
-fn with_buffers(
-    rt: &impl Runtime,
-    p: Plan,
-    asked: bool,
-    query: &[u8],
-    k: usize,
-    cal: &mut [u8],
-    work: &mut [u8],
-    out: &mut [u8],
-) -> io::Result<()> {
-    let mut block = [0u8; 4096];
-    let mut name = [0u8; 4096];
-    if k <= query.len() {
-        run_all(
-            rt,
-            &mut block,
-            &mut name,
-            p,
-            asked,
-            &query[0..k],
-            cal,
-            work,
-            out,
-        )?;
-    }
-    Ok(())
-}
-
-pub fn run(
-    rt: &impl Runtime,
-    cal: &mut [u8],
-    query: &mut [u8],
-    work: &mut [u8],
-    out: &mut [u8],
-) -> io::Result<()> {
+// Query buffer and room are two: a query in hex is read through the room's work buffer. With the runtime in one struct, they would be taken apart here.
+pub fn run(rt: &impl Runtime, query: &mut [u8], room: &mut Room) -> Result<(), Stop> {
     let many = args::count(rt);
-    if (many != 6) & (many != 7) {
+    if many != 6 && many != 7 {
         return wrong(
             rt,
-            b"batch takes START END OFFSET STAMP, and a QUERY or none",
+            "batch takes START END OFFSET STAMP, and a QUERY or none",
         );
     }
-    let Planned::Of(p) = args::read_plan(rt, 2, 3, 4, 5)? else {
-        return Ok(());
-    };
+    let plan = args::read_plan(rt, 2)?;
     if many == 6 {
-        return with_buffers(rt, p, false, query, 0, cal, work, out);
-    }
-    let Got::Bytes(k) = query_at(rt, 6, work, query)? else {
+        run_all(rt, Asked { plan, query: None }, room)?;
         return Ok(());
-    };
-    with_buffers(rt, p, true, query, k, cal, work, out)
+    }
+    let query = Some(query_at(rt, 6, &mut room.work, query)?);
+    run_all(rt, Asked { plan, query }, room)?;
+    Ok(())
 }

@@ -1,5 +1,6 @@
 -- THE THEOREM of refusal 10 for one component: it breaks no rule exactly where it keeps its rules, beside those before it and all.
 -- That the first that does not is named is in FirstFaults.
+use Rattle.std.specs.Prelude.{None, Option, Some}
 use Prim.Native.Nat.{ℕ}
 use mathlib.Core.Path.{◌≡◌, refl, ap}
 use mathlib.Core.Bool.{Bool, true, false, cond}
@@ -21,9 +22,7 @@ use Rattle.property.proofs.Properties.{time_keeps, zoned_keeps, type_keeps, item
 use Rattle.nesting.specs.Components.{Numbered, Component, properties_in}
 use Rattle.events.specs.ComponentRules.{property_name, lines_named, BlockLines, EventRules}
 use Rattle.events.specs.declared.Event.{Event}
-use Rattle.events.specs.declared.EventRead.{EventRead}
 use Rattle.events.specs.declared.Block.{Block}
-use Rattle.events.specs.declared.BlockRead.{BlockRead}
 use Rattle.events.proofs.ComponentRules.{event_iff, block_iff}
 use Rattle.overrides.specs.VEvents.{VEvent}
 use Rattle.overrides.proofs.Keeping.{keeps_iff as tied-iff}
@@ -66,7 +65,7 @@ block_line c x =
     (go (same_name x.name (ascii "DTSTART")) (same_name x.name (ascii "DTEND")) (same_name x.name (ascii "FREEBUSY")))
   where
     go : (s e p : Bool)
-        → BlockLine (value_as (cond s Property.Start (cond e Property.End (cond p Property.Periods Property.Unread))) c Scope.FreeBusy x)
+        → BlockLine (value_as (cond s (Some Property.Start) (cond e (Some Property.End) (cond p (Some Property.Periods) None))) c Scope.FreeBusy x)
     go true e p = zoned_keeps BlockLine (fault_line unsupported) x _ (time_keeps BlockLine (fault_line bad) (λ t. span (start t)) (time_in Scope.FreeBusy (time_of c x)) (λ t h. start_line t))
     go false true p = zoned_keeps BlockLine (fault_line unsupported) x _ (time_keeps BlockLine (fault_line bad) (λ t. span (end t)) (time_in Scope.FreeBusy (time_of c x)) (λ t h. end_line t))
     go false false true = type_keeps BlockLine (fault_line bad) x (periods_line (busy_of x))
@@ -94,13 +93,13 @@ block_lines c (x ∷ xs) =
 
 -- ---- one component
 
-block_read : (r : BlockRead) → block_broken r ≡ false → (b : Block) × (r ≡ BlockRead.Of b)
-block_read (BlockRead.Of b) h = (b, refl)
-block_read BlockRead.Broken h = clash refl h
+block_read : (r : Option Block) → block_broken r ≡ false → (b : Block) × (r ≡ Some b)
+block_read (Some b) h = (b, refl)
+block_read None h = clash refl h
 
 -- a VEVENT is an event exactly where its lines keep the rules of document 01
 pub event_rules_iff : (c : Context) (k : Component)
-    → ((e : Event) × ((vevent_of c k).event ≡ EventRead.Of e)) ↔ EventRules (property_values_in c Scope.Event (properties_in k.items))
+    → ((e : Event) × ((vevent_of c k).event ≡ Some e)) ↔ EventRules (property_values_in c Scope.Event (properties_in k.items))
 unfolding vevent_of event_of
 event_rules_iff c k = event_iff (property_values_in c Scope.Event (properties_in k.items))
 

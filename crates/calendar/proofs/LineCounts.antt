@@ -1,5 +1,7 @@
 -- The lines that the component rules count are the lines with that name, where no value is bad or unsupported.
+use Rattle.std.specs.Prelude.{None, Ok, Option, Result, Some}
 use Prim.Native.Nat.{ℕ}
+use Rattle.calendar.specs.declared.LineError.{LineError}
 use mathlib.Core.Path.{◌≡◌, refl, sym, ap, ◌∙◌, subst}
 use mathlib.Core.Bool.{Bool, true, false, cond, ◌||◌}
 use mathlib.Core.List.{List, [], ◌∷◌, map, Memᴰ}
@@ -22,7 +24,6 @@ use Rattle.nesting.specs.Components.{Numbered, Component, properties_in}
 use Rattle.events.specs.ComponentRules.{property_name, count_if, lines_named}
 use Rattle.calendar.specs.Meaning.{component_scope, property_values_in, fault_or, fault_in, value_fault}
 use Rattle.calendar.specs.ComponentRules.{lines_called, EventCounts, BlockCounts}
-use Rattle.calendar.specs.declared.ValueCheck.{ValueCheck}
 
 -- ---- a good value
 
@@ -32,7 +33,7 @@ Good unread = Unit {0}
 Good (fault f) = ⊥
 Good (of f) = Unit {0}
 
-fault_good : (n : ℕ) (s : Reading) (r : ValueCheck) → fault_or n s r ≡ ValueCheck.Good → Good s × (r ≡ ValueCheck.Good)
+fault_good : (n : ℕ) (s : Reading) (r : Result (Unit {0}) LineError) → fault_or n s r ≡ Ok tt → Good s × (r ≡ Ok tt)
 unfolding fault_or
 fault_good n unread r e = (tt, e)
 fault_good n (fault unsupported) r e = let z : ◌≡◌ {A = ℕ} 0 1 = cc in absurd (omega arith)
@@ -42,7 +43,7 @@ fault_good n (of f) r e = (tt, e)
 -- ---- the name of what a line says, where it is good
 
 module _ (c : Context) (s : Scope) (x : ContentLine) where
-  abbrev value_of_line : Property → Reading
+  abbrev value_of_line : Option Property → Reading
   value_of_line p = with_items c x.value (value_as p c s x)
 
   -- where it is good, it has this name
@@ -56,42 +57,42 @@ module _ (c : Context) (s : Scope) (x : ContentLine) where
   named_time : (w : List ℕ) (v : Reading) → NamedSo w v → NamedSo w (with_items c x.value (unless_zoned x v))
   named_time w v h = named_line w (unless_zoned x v) (zoned_keeps (NamedSo w) (λ k. absurd k) x v h)
 
-  start_name : NamedSo (ascii "DTSTART") (value_of_line Property.Start)
+  start_name : NamedSo (ascii "DTSTART") (value_of_line (Some Property.Start))
   unfolding value_as property_name
   start_name = named_time (ascii "DTSTART") _ (time_keeps (NamedSo (ascii "DTSTART")) (λ k. absurd k) (λ t. span (start t)) (time_in s (time_of c x)) (λ t e h. refl))
 
-  end_name : NamedSo (ascii "DTEND") (value_of_line Property.End)
+  end_name : NamedSo (ascii "DTEND") (value_of_line (Some Property.End))
   unfolding value_as property_name
   end_name = named_time (ascii "DTEND") _ (time_keeps (NamedSo (ascii "DTEND")) (λ k. absurd k) (λ t. span (end t)) (time_in s (time_of c x)) (λ t e h. refl))
 
-  duration_name : NamedSo (ascii "DURATION") (value_of_line Property.Duration)
+  duration_name : NamedSo (ascii "DURATION") (value_of_line (Some Property.Duration))
   unfolding value_as property_name
   duration_name = named_line (ascii "DURATION") _ (duration_keeps (NamedSo (ascii "DURATION")) (λ k. absurd k) (read_duration x.value) (λ d e h. refl))
 
-  rule_name : NamedSo (ascii "RRULE") (value_of_line Property.Rule)
+  rule_name : NamedSo (ascii "RRULE") (value_of_line (Some Property.Rule))
   unfolding value_as property_name
   rule_name = named_line (ascii "RRULE") _ (rule_keeps (NamedSo (ascii "RRULE")) (λ k. absurd k) (λ k. absurd k) (rule_of c x.value) (λ r e h. refl))
 
-  status_name : property_name (value_of_line Property.Status) ≡ ascii "STATUS"
+  status_name : property_name (value_of_line (Some Property.Status)) ≡ ascii "STATUS"
   unfolding value_as with_items items_good property_name
   status_name = refl
 
-  transparency_name : property_name (value_of_line Property.Transparency) ≡ ascii "TRANSP"
+  transparency_name : property_name (value_of_line (Some Property.Transparency)) ≡ ascii "TRANSP"
   unfolding value_as with_items items_good property_name
   transparency_name = refl
 
-  recurrence_name : NamedSo (ascii "RECURRENCE-ID") (value_of_line Property.RecurrenceId)
+  recurrence_name : NamedSo (ascii "RECURRENCE-ID") (value_of_line (Some Property.RecurrenceId))
   unfolding value_as property_name
   recurrence_name =
       let so = NamedSo (ascii "RECURRENCE-ID") in
       named_line (ascii "RECURRENCE-ID") _
       (ranged_keeps so (λ k. absurd k) x _ (zoned_keeps so (λ k. absurd k) x _ (time_keeps so (λ k. absurd k) (λ t. identity (recurrence_id t)) (time_of c x) (λ t e h. refl))))
 
-  exceptions_name : NamedSo (ascii "EXDATE") (value_of_line Property.Exceptions)
+  exceptions_name : NamedSo (ascii "EXDATE") (value_of_line (Some Property.Exceptions))
   unfolding value_as property_name
   exceptions_name = named_time (ascii "EXDATE") _ (exceptions_keep (NamedSo (ascii "EXDATE")) (λ k. absurd k) (form_of x) (λ h. refl))
 
-  periods_name : NamedSo (ascii "FREEBUSY") (value_of_line Property.Periods)
+  periods_name : NamedSo (ascii "FREEBUSY") (value_of_line (Some Property.Periods))
   unfolding value_as property_name
   periods_name = named_line (ascii "FREEBUSY") (type_value x) (type_keeps (NamedSo (ascii "FREEBUSY")) (λ k. absurd k) x (λ h. refl))
 
@@ -129,29 +130,29 @@ agree n u v p e f =
     }
 
 -- one of two tests is the two tests one by one
-two_tests : (a b : Bool) (p q : Property) → cond (a || b) p q ≡ cond a p (cond b p q)
+two_tests : (a b : Bool) (p q : Option Property) → cond (a || b) p q ≡ cond a p (cond b p q)
 two_tests true b p q = refl
 two_tests false b p q = refl
 
 -- the property of a name, by its comparisons
-abbrev picked : Bool → Bool → Bool → Bool → Bool → Bool → Bool → Bool → Bool → Property → Property
+abbrev picked : Bool → Bool → Bool → Bool → Bool → Bool → Bool → Bool → Bool → Option Property → Option Property
 picked s e d r t p i m x q =
-    cond s Property.Start
-    (cond e Property.End
-    (cond d Property.Duration
-    (cond r Property.Rule
-    (cond t Property.Status (cond p Property.Transparency (cond i Property.Uid (cond m Property.RecurrenceId (cond x Property.Exceptions q))))))))
+    cond s (Some Property.Start)
+    (cond e (Some Property.End)
+    (cond d (Some Property.Duration)
+    (cond r (Some Property.Rule)
+    (cond t (Some Property.Status) (cond p (Some Property.Transparency) (cond i (Some Property.Uid) (cond m (Some Property.RecurrenceId) (cond x (Some Property.Exceptions) q))))))))
 
 module _ (c : Context) (x : ContentLine) where
   abbrev named : List ℕ → Bool
   named w = same_name x.name w
 
-  abbrev AgreesBy : Property → Type 0
+  abbrev AgreesBy : Option Property → Type 0
   AgreesBy q = Good (value_of_line c Scope.Event x q) → Agree x.name (value_of_line c Scope.Event x q)
 
   event_agree_by : (s e d r t p i m o u : Bool) → named (ascii "DTSTART") ≡ s → named (ascii "DTEND") ≡ e → named (ascii "DURATION") ≡ d → named (ascii "RRULE") ≡ r
       → named (ascii "STATUS") ≡ t → named (ascii "TRANSP") ≡ p → named (ascii "UID") ≡ i → named (ascii "RECURRENCE-ID") ≡ m → named (ascii "EXDATE") ≡ o
-      → AgreesBy (picked s e d r t p i m o (cond u Property.Unsupported Property.Unread))
+      → AgreesBy (picked s e d r t p i m o (cond u (Some Property.Unsupported) None))
   unfolding upper value_as with_items items_good property_name
   event_agree_by true e d r t p i m o u es ee ed er et ep ei em eo h = agree x.name (ascii "DTSTART") _ refl es (start_name c Scope.Event x h)
   event_agree_by false true d r t p i m o u es ee ed er et ep ei em eo h = agree x.name (ascii "DTEND") _ refl ee (end_name c Scope.Event x h)
@@ -178,7 +179,7 @@ module _ (c : Context) (x : ContentLine) where
       let i = named (ascii "UID") in
       let m = named (ascii "RECURRENCE-ID") in
       let o = named (ascii "EXDATE") in
-      subst AgreesBy (ap (picked s e d r t p i m o) (two_tests (named (ascii "RDATE")) (named (ascii "EXRULE")) Property.Unsupported Property.Unread))
+      subst AgreesBy (ap (picked s e d r t p i m o) (two_tests (named (ascii "RDATE")) (named (ascii "EXRULE")) (Some Property.Unsupported) None))
       (event_agree_by s e d r t p i m o (named (ascii "RDATE") || named (ascii "EXRULE")) refl refl refl refl refl refl refl refl refl) h
 
 -- the same in a VFREEBUSY, of DTSTART and DTEND
@@ -192,8 +193,8 @@ agree_times n u v p e f = let a = agree n u v p e f in record { starts = a.start
 module _ (c : Context) (x : ContentLine) where
   block_agree_by : (s e p : Bool) → same_name x.name (ascii "DTSTART") ≡ s → same_name x.name (ascii "DTEND") ≡ e
       → same_name x.name (ascii "FREEBUSY") ≡ p
-      → Good (value_of_line c Scope.FreeBusy x (cond s Property.Start (cond e Property.End (cond p Property.Periods Property.Unread))))
-      → AgreeTimes x.name (value_of_line c Scope.FreeBusy x (cond s Property.Start (cond e Property.End (cond p Property.Periods Property.Unread))))
+      → Good (value_of_line c Scope.FreeBusy x (cond s (Some Property.Start) (cond e (Some Property.End) (cond p (Some Property.Periods) None))))
+      → AgreeTimes x.name (value_of_line c Scope.FreeBusy x (cond s (Some Property.Start) (cond e (Some Property.End) (cond p (Some Property.Periods) None))))
   unfolding upper value_as with_items items_good property_name
   block_agree_by true e p es ee ep h = agree_times x.name (ascii "DTSTART") _ refl es (start_name c Scope.FreeBusy x h)
   block_agree_by false true p es ee ep h = agree_times x.name (ascii "DTEND") _ refl ee (end_name c Scope.FreeBusy x h)
@@ -214,7 +215,7 @@ count_step w s ss x xs e h =
     ap (λ (b : Bool). count_if b (lines_named w ss)) e ∙ ap (λ (n : ℕ). count_if (same_name x.line.name w) n) h
 
 -- where no value of a VEVENT is bad or unsupported, its lines are counted by their names
-pub event_counts : (c : Context) (xs : List Numbered) (r : ValueCheck) → fault_in c Scope.Event xs r ≡ ValueCheck.Good
+pub event_counts : (c : Context) (xs : List Numbered) (r : Result (Unit {0}) LineError) → fault_in c Scope.Event xs r ≡ Ok tt
     → EventCounts xs (property_values_in c Scope.Event xs)
 unfolding fault_in property_values_in lines_named lines_called
 event_counts c [] r e = record { starts = refl; ends = refl; durations = refl; rules = refl; statuses = refl; transparencies = refl }
@@ -234,7 +235,7 @@ event_counts c (x ∷ xs) r e =
     }
 
 -- and so are those of a VFREEBUSY
-pub block_counts : (c : Context) (xs : List Numbered) (r : ValueCheck) → fault_in c Scope.FreeBusy xs r ≡ ValueCheck.Good
+pub block_counts : (c : Context) (xs : List Numbered) (r : Result (Unit {0}) LineError) → fault_in c Scope.FreeBusy xs r ≡ Ok tt
     → BlockCounts xs (property_values_in c Scope.FreeBusy xs)
 unfolding fault_in property_values_in lines_named lines_called
 block_counts c [] r e = record { starts = refl; ends = refl }
@@ -251,16 +252,16 @@ block_counts c (x ∷ xs) r e =
 
 -- ---- all components: where 8 and 9 are not given, no component has such a value
 
-rest_good : (c : Context) (s : Scope) (xs : List Numbered) (r : ValueCheck) → fault_in c s xs r ≡ ValueCheck.Good → r ≡ ValueCheck.Good
+rest_good : (c : Context) (s : Scope) (xs : List Numbered) (r : Result (Unit {0}) LineError) → fault_in c s xs r ≡ Ok tt → r ≡ Ok tt
 unfolding fault_in
 rest_good c s [] r e = e
 rest_good c s (x ∷ xs) r e = rest_good c s xs r (fault_good x.number (property_value_of c s x.line) (fault_in c s xs r) e).1
 
-pub values_good : (c : Context) (ks : List Component) → value_fault c ks ≡ ValueCheck.Good → (k : Component) → Memᴰ k ks
-    → (r : ValueCheck) × (fault_in c (component_scope k) (properties_in k.items) r ≡ ValueCheck.Good)
+pub values_good : (c : Context) (ks : List Component) → value_fault c ks ≡ Ok tt → (k : Component) → Memᴰ k ks
+    → (r : Result (Unit {0}) LineError) × (fault_in c (component_scope k) (properties_in k.items) r ≡ Ok tt)
 unfolding value_fault
 values_good c [] e k x'' = elim x'' [ ]
 values_good c (j ∷ ks) e k (Memᴰ.head q) =
-    (value_fault c ks, subst (λ (i : Component). fault_in c (component_scope i) (properties_in i.items) (value_fault c ks) ≡ ValueCheck.Good) (sym q) e)
+    (value_fault c ks, subst (λ (i : Component). fault_in c (component_scope i) (properties_in i.items) (value_fault c ks) ≡ Ok tt) (sym q) e)
 values_good c (j ∷ ks) e k (Memᴰ.tail m) =
     values_good c ks (rest_good c (component_scope j) (properties_in j.items) (value_fault c ks) e) k m

@@ -1,5 +1,9 @@
 -- What the fault of a calendar tells of its meaning, and how large its events and blocks are.
+use Rattle.std.specs.Prelude.{Err, None, Ok, Option, Result, Some}
 use Prim.Native.Nat.{ℕ}
+use Rattle.nesting.specs.declared.StructureError.{StructureError}
+use Rattle.calendar.specs.declared.LineError.{LineError}
+use Rattle.events.specs.declared.Block.{Block}
 use mathlib.Core.Path.{◌≡◌, refl, ap, ◌∙◌, sym, subst}
 use mathlib.Core.List.Memᴰ
 use mathlib.Core.List.{List, [], ◌∷◌, Memᴰ}
@@ -7,13 +11,9 @@ use native.Mathlib.Omega.{arith}
 use Rattle.line.specs.WellFormed.{line_check, LineCheck, all_good, bad_line}
 use Rattle.nesting.specs.Nesting.{nesting_of}
 use Rattle.nesting.specs.Files.{nesting_in, structure_by}
-use Rattle.nesting.specs.declared.Structure.{Structure}
 use Rattle.values.specs.declared.times.Context.{Context}
 use Rattle.events.specs.Events.{Entry, event, block}
 use Rattle.calendar.specs.Meaning.{Meaning, fault, calendar, by_rules, by_values, by_lines, value_fault, rule_fault, entries_among, entries_of, file_lines, components_of, contents_of, meaning_of, fault_of, structure_fault, structure_refusal, property_values_in, event_of, block_of, event_entry, block_entry, entry_of, component_scope}
-use Rattle.calendar.specs.declared.ValueCheck.{ValueCheck}
-use Rattle.calendar.specs.declared.RuleCheck.{RuleCheck}
-use Rattle.calendar.specs.declared.Fault.{Fault}
 use mathlib.Core.Bool.{Bool, true, false}
 use mathlib.Core.Logic.{◌⊎◌, inl, inr}
 use Rattle.ascii.proofs.Bools.{clash}
@@ -23,8 +23,6 @@ use Rattle.nesting.specs.Components.{Numbered, Component, properties_in}
 use Rattle.periods.specs.BusyTypes.{BusyPeriod}
 use Rattle.events.specs.Sizes.{EventSmall, EventsSmall}
 use Rattle.events.specs.declared.Event.{Event}
-use Rattle.events.specs.declared.EventRead.{EventRead}
-use Rattle.events.specs.declared.BlockRead.{BlockRead}
 use Rattle.events.proofs.ComponentPropertiesLaws.{AllSmall}
 use Rattle.events.proofs.Sizes.{event_small}
 
@@ -33,24 +31,24 @@ pub nesting_file : (u : List ℕ) → nesting_in u ≡ nesting_of (file_lines u)
 unfolding nesting_in file_lines
 nesting_file u = refl
 
-rules_good : (k : RuleCheck) (es : List Entry) → fault_of (by_rules k es) ≡ Fault.None → by_rules k es ≡ calendar es
+rules_good : (k : Option ℕ) (es : List Entry) → fault_of (by_rules k es) ≡ Ok tt → by_rules k es ≡ calendar es
 unfolding fault_of by_rules
-rules_good RuleCheck.Good es e = refl
-rules_good (RuleCheck.Broken n) es e = let z : ◌≡◌ {A = ℕ} 0 1 = cc in absurd (omega arith)
+rules_good None es e = refl
+rules_good (Some n) es e = let z : ◌≡◌ {A = ℕ} 0 1 = cc in absurd (omega arith)
 
-values_good : (k : ValueCheck) (m : Meaning) → fault_of (by_values k m) ≡ Fault.None → (by_values k m ≡ m) × (fault_of m ≡ Fault.None)
+values_good : (k : Result (Unit {0}) LineError) (m : Meaning) → fault_of (by_values k m) ≡ Ok tt → (by_values k m ≡ m) × (fault_of m ≡ Ok tt)
 unfolding fault_of by_values
-values_good ValueCheck.Good m e = (refl, e)
-values_good (ValueCheck.Unsupported n) m e = let z : ◌≡◌ {A = ℕ} 0 1 = cc in absurd (omega arith)
-values_good (ValueCheck.Bad n) m e = let z : ◌≡◌ {A = ℕ} 0 1 = cc in absurd (omega arith)
+values_good (Ok _) m e = (refl, e)
+values_good (Err (LineError.Unsupported n)) m e = let z : ◌≡◌ {A = ℕ} 0 1 = cc in absurd (omega arith)
+values_good (Err (LineError.Bad n)) m e = let z : ◌≡◌ {A = ℕ} 0 1 = cc in absurd (omega arith)
 
-lines_good : (i : ℕ) (k : LineCheck) (m : Meaning) → fault_of (by_lines i k m) ≡ Fault.None → (by_lines i k m ≡ m) × (fault_of m ≡ Fault.None)
+lines_good : (i : ℕ) (k : LineCheck) (m : Meaning) → fault_of (by_lines i k m) ≡ Ok tt → (by_lines i k m ≡ m) × (fault_of m ≡ Ok tt)
 unfolding fault_of by_lines
 lines_good i all_good m e = (refl, e)
 lines_good i (bad_line n) m e = let z : ◌≡◌ {A = ℕ} 0 1 = cc in absurd (omega arith)
 
 -- a calendar without a fault means its events and blocks
-pub no_fault : (c : Context) (u : List ℕ) → fault_of (meaning_of c u) ≡ Fault.None → meaning_of c u ≡ calendar (entries_of c (components_of u))
+pub no_fault : (c : Context) (u : List ℕ) → fault_of (meaning_of c u) ≡ Ok tt → meaning_of c u ≡ calendar (entries_of c (components_of u))
 unfolding meaning_of contents_of
 no_fault c u e =
     let ks = components_of u in
@@ -73,20 +71,20 @@ module _ (c : Context) (u : List ℕ) where
     refused_7 n h = rw (l, h)
 
     module _ (k : nesting_of (file_lines u) ≡ all_good) where
-      pub refused_8 : (n : ℕ) → value_fault c (components_of u) ≡ ValueCheck.Unsupported n → meaning_of c u ≡ fault 8 n
+      pub refused_8 : (n : ℕ) → value_fault c (components_of u) ≡ Err (LineError.Unsupported n) → meaning_of c u ≡ fault 8 n
       unfolding meaning_of by_lines contents_of by_values
       refused_8 n h = rw (l, k, h)
 
-      pub refused_9 : (n : ℕ) → value_fault c (components_of u) ≡ ValueCheck.Bad n → meaning_of c u ≡ fault 9 n
+      pub refused_9 : (n : ℕ) → value_fault c (components_of u) ≡ Err (LineError.Bad n) → meaning_of c u ≡ fault 9 n
       unfolding meaning_of by_lines contents_of by_values
       refused_9 n h = rw (l, k, h)
 
-      pub refused_10 : (n : ℕ) → value_fault c (components_of u) ≡ ValueCheck.Good → rule_fault c (components_of u) ≡ RuleCheck.Broken n
+      pub refused_10 : (n : ℕ) → value_fault c (components_of u) ≡ Ok tt → rule_fault c (components_of u) ≡ Some n
           → meaning_of c u ≡ fault 10 n
       unfolding meaning_of by_lines contents_of by_values by_rules
       refused_10 n v h = rw (l, k, v, h)
 
-      pub not_refused : value_fault c (components_of u) ≡ ValueCheck.Good → rule_fault c (components_of u) ≡ RuleCheck.Good
+      pub not_refused : value_fault c (components_of u) ≡ Ok tt → rule_fault c (components_of u) ≡ None
           → meaning_of c u ≡ calendar (entries_of c (components_of u))
       unfolding meaning_of by_lines contents_of by_values by_rules
       not_refused v h = rw (l, k, v, h)
@@ -99,17 +97,17 @@ refusal_by (bad_line n) k = refl
 refusal_by all_good (bad_line n) = refl
 refusal_by all_good all_good = refl
 
-pub structure_refusal_lem : (u : List ℕ) {r : Structure} → r ≡ structure_by (line_check u) (nesting_in u) → structure_refusal r ≡ structure_fault u
+pub structure_refusal_lem : (u : List ℕ) {r : Result (Unit {0}) StructureError} → r ≡ structure_by (line_check u) (nesting_in u) → structure_refusal r ≡ structure_fault u
 unfolding structure_fault
 structure_refusal_lem u e =
     ap structure_refusal e
     ∙ refusal_by (line_check u) (nesting_in u)
     ∙ ap (λ (k : LineCheck). fault_of (by_lines 6 (line_check u) (by_lines 7 k (calendar [])))) (nesting_file u)
 
-pub no_refusal : (r : Structure) → structure_refusal r ≡ Fault.None → r ≡ Structure.Good
-no_refusal (Structure.BadLine n) e = let z : ◌≡◌ {A = ℕ} 0 1 = cc in absurd (omega arith)
-no_refusal (Structure.BadNesting n) e = let z : ◌≡◌ {A = ℕ} 0 1 = cc in absurd (omega arith)
-no_refusal Structure.Good e = refl
+pub no_refusal : (r : Result (Unit {0}) StructureError) → structure_refusal r ≡ Ok tt → r ≡ Ok tt
+no_refusal (Err (StructureError.BadLine n)) e = let z : ◌≡◌ {A = ℕ} 0 1 = cc in absurd (omega arith)
+no_refusal (Err (StructureError.BadNesting n)) e = let z : ◌≡◌ {A = ℕ} 0 1 = cc in absurd (omega arith)
+no_refusal (Ok _) e = refl
 
 -- ---- sizes: an event and a block are small, since what any line says is
 
@@ -118,7 +116,7 @@ unfolding property_values_in
 property_values_small c o [] = AllSmall.none
 property_values_small c o (x ∷ xs) = AllSmall.then (property_value_of_small c o x.line) (property_values_small c o xs)
 
-pub event_of_small : (c : Context) (k : Component) (e : Event) → event_of c k ≡ EventRead.Of e → EventSmall e
+pub event_of_small : (c : Context) (k : Component) (e : Event) → event_of c k ≡ Some e → EventSmall e
 unfolding event_of
 event_of_small c k e q = event_small _ e (property_values_small c Scope.Event (properties_in k.items)) q
 
@@ -134,15 +132,15 @@ is_one (event e gone) = true
 is_one (block k ps) = false
 
 module _ (c : Context) (all : List Component) (e : Event) (gone : List ℕ) where
-  event_entry_small : (k : Component) (r : EventRead) (g : List ℕ) → event_of c k ≡ r → Memᴰ (event e gone) (event_entry r g) → EventSmall e
+  event_entry_small : (k : Component) (r : Option Event) (g : List ℕ) → event_of c k ≡ r → Memᴰ (event e gone) (event_entry r g) → EventSmall e
   unfolding event_or
-  event_entry_small k (EventRead.Of y) g q d = subst EventSmall (sym (ap (event_or e) (Memᴰ.eq_of_singleton d))) (event_of_small c k y q)
-  event_entry_small k EventRead.Broken g q d = absurd (Memᴰ.not-nil d)
+  event_entry_small k (Some y) g q d = subst EventSmall (sym (ap (event_or e) (Memᴰ.eq_of_singleton d))) (event_of_small c k y q)
+  event_entry_small k None g q d = absurd (Memᴰ.not-nil d)
 
-  no_block_entry : (r : BlockRead) (ps : List BusyPeriod) → Memᴰ (event e gone) (block_entry r ps) → ⊥
+  no_block_entry : (r : Option Block) (ps : List BusyPeriod) → Memᴰ (event e gone) (block_entry r ps) → ⊥
   unfolding is_one
-  no_block_entry (BlockRead.Of k) ps d = clash refl (ap is_one (Memᴰ.eq_of_singleton d))
-  no_block_entry BlockRead.Broken ps d = Memᴰ.not-nil d
+  no_block_entry (Some k) ps d = clash refl (ap is_one (Memᴰ.eq_of_singleton d))
+  no_block_entry None ps d = Memᴰ.not-nil d
 
   entry_small : (o : Scope) (k : Component) → Memᴰ (event e gone) (entry_of c all o k) → EventSmall e
   unfolding entry_of

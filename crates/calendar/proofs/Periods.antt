@@ -1,4 +1,5 @@
 -- From period to period of a FREEBUSY value: what is passed over is no period.
+use Rattle.std.specs.Prelude.{None, Option, Some}
 use Prim.Native.Nat.{ℕ, ◌+◌, ◌≤◌, ◌<◌}
 use mathlib.Core.Path.{◌≡◌, refl, sym, ap, ◌∙◌, subst}
 use mathlib.Core.Bool.{Bool, true, false}
@@ -11,11 +12,9 @@ use Rattle.ascii.proofs.Lists.{drop_end}
 use Rattle.line.specs.Splitting.{first_outside, next_place, split_parts, plain_split}
 use Rattle.values.specs.Period.{period_of, period_items, good_periods}
 use Rattle.periods.specs.declared.Period.{Period}
-use Rattle.values.specs.declared.period.PeriodRead.{PeriodRead}
 use Rattle.line.proofs.Splitting.{item_at, item_rises, item_inside, item_more, item_last}
 use Rattle.values.proofs.PeriodLaws.{period_of_small}
 use Rattle.calendar.specs.Periods.{periods_from, behind, NextPeriod, NoPeriod, PeriodAt}
-use Rattle.calendar.specs.declared.period_list.PeriodStep.{PeriodStep}
 
 -- from place 0 on they are all
 pub periods_all : (v : List ℕ) → periods_from v 0 ≡ good_periods (period_items v)
@@ -32,10 +31,10 @@ unfolding periods_from
 periods_past v from h = ap (λ (l : List ℕ). good_periods (period_items l)) (drop_end v from h) ∙ no_bytes
 
 -- the first item, and the periods behind it
-with_first : (x : PeriodRead) (xs ys : List PeriodRead) → good_periods xs ≡ good_periods ys → good_periods (x ∷ xs) ≡ good_periods (x ∷ ys)
+with_first : (x : Option Period) (xs ys : List (Option Period)) → good_periods xs ≡ good_periods ys → good_periods (x ∷ xs) ≡ good_periods (x ∷ ys)
 unfolding good_periods
-with_first (PeriodRead.Of p) xs ys e = ap (λ (l : List Period). p ∷ l) e
-with_first PeriodRead.Bad xs ys e = e
+with_first (Some p) xs ys e = ap (λ (l : List Period). p ∷ l) e
+with_first None xs ys e = e
 
 behind_in : (v : List ℕ) (e : ℕ) → ltb e (length v) ≡ true → behind v e ≡ e + 1
 unfolding behind
@@ -81,39 +80,39 @@ pub leaving_start : (v : List ℕ) (from : ℕ) → Leaving v from from
 leaving_start v from = record { onward = omega arith; rest = refl }
 
 module _ {v : List ℕ} {from at : ℕ} (r : Leaving v from at) where
-  module _ {e next : ℕ} {x : PeriodRead} (h : at < length v) (q : e ≡ next_place false 44 v at) (w : next ≡ behind v e)
+  module _ {e next : ℕ} {x : Option Period} (h : at < length v) (q : e ≡ next_place false 44 v at) (w : next ≡ behind v e)
       (y : x ≡ period_of (item_at v at e)) where
     period_here : periods_from v from ≡ good_periods (x ∷ period_items (drop next v))
-    period_here = r.rest ∙ period_first v h q w ∙ ap (λ (z : PeriodRead). good_periods (z ∷ period_items (drop next v))) (sym y)
+    period_here = r.rest ∙ period_first v h q w ∙ ap (λ (z : Option Period). good_periods (z ∷ period_items (drop next v))) (sym y)
 
-    pub leaving_bad : x ≡ PeriodRead.Bad → Leaving v from next
+    pub leaving_bad : x ≡ None → Leaving v from next
     unfolding good_periods periods_from
     leaving_bad z =
         record {
           onward = omega (arith, r.onward, (period_onward v h q w).0);
-          rest = period_here ∙ ap (λ (p : PeriodRead). good_periods (p ∷ period_items (drop next v))) z;
+          rest = period_here ∙ ap (λ (p : Option Period). good_periods (p ∷ period_items (drop next v))) z;
         }
 
-    pub leaving_found : (p : Period) → x ≡ PeriodRead.Of p → PeriodAt v from (PeriodStep.Of p next)
+    pub leaving_found : (p : Period) → x ≡ Some p → PeriodAt v from (Some (p, next))
     unfolding good_periods periods_from PeriodAt
     leaving_found p z =
         record {
           onward = omega (arith, r.onward, (period_onward v h q w).0);
           within = (period_onward v h q w).1;
           small = period_of_small (item_at v at e) p (sym y ∙ z);
-          periods = period_here ∙ ap (λ (g : PeriodRead). good_periods (g ∷ period_items (drop next v))) z;
+          periods = period_here ∙ ap (λ (g : Option Period). good_periods (g ∷ period_items (drop next v))) z;
         }
 
-  pub leaving_end : length v ≤ at → PeriodAt v from PeriodStep.Done
+  pub leaving_end : length v ≤ at → PeriodAt v from None
   unfolding PeriodAt
   leaving_end h = record { periods = r.rest ∙ periods_past v at h }
 
 -- what a caller learns
-pub next_period_at : {v : List ℕ} {from : ℕ} {r : PeriodStep} (p : Period) (next : ℕ) → PeriodAt v from r → r ≡ PeriodStep.Of p next
+pub next_period_at : {v : List ℕ} {from : ℕ} {r : Option (Period × ℕ)} (p : Period) (next : ℕ) → PeriodAt v from r → r ≡ Some (p, next)
     → NextPeriod v from p next
 unfolding PeriodAt
 next_period_at {v} {from} p next h q = subst (PeriodAt v from) q h
 
-pub no_period_at : {v : List ℕ} {from : ℕ} {r : PeriodStep} → PeriodAt v from r → r ≡ PeriodStep.Done → NoPeriod v from
+pub no_period_at : {v : List ℕ} {from : ℕ} {r : Option (Period × ℕ)} → PeriodAt v from r → r ≡ None → NoPeriod v from
 unfolding PeriodAt
 no_period_at {v} {from} h q = subst (PeriodAt v from) q h

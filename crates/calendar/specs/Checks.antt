@@ -1,13 +1,12 @@
 -- The first fault of a value and the first broken component, of those before and those behind.
-use Rattle.calendar.specs.declared.RuleCheck.{RuleCheck}
-use Rattle.calendar.specs.declared.ValueCheck.{ValueCheck}
+use Rattle.std.specs.Prelude.{Err, None, Ok, Option, Result, Some, ℕ}
+use Rattle.calendar.specs.declared.LineError.{LineError}
 
 -- the one, or where it is good the other
-unfoldable pub fault_else : ValueCheck → ValueCheck → ValueCheck
-fault_else ValueCheck.Good r = r
-fault_else (ValueCheck.Unsupported n) r = ValueCheck.Unsupported n
-fault_else (ValueCheck.Bad n) r = ValueCheck.Bad n
+unfoldable pub fault_else : Result (Unit {0}) LineError → Result (Unit {0}) LineError → Result (Unit {0}) LineError
+fault_else (Ok _) r = r
+fault_else (Err f) r = Err f
 
-unfoldable pub rule_else : RuleCheck → RuleCheck → RuleCheck
-rule_else RuleCheck.Good r = r
-rule_else (RuleCheck.Broken n) r = RuleCheck.Broken n
+unfoldable pub rule_else : Option ℕ → Option ℕ → Option ℕ
+rule_else None r = r
+rule_else (Some n) r = Some n

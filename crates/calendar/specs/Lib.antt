@@ -1,3 +1,4 @@
+pub mod Refused
 pub mod Meaning
 pub mod ComponentRules
 pub mod Checks

@@ -1,5 +1,9 @@
 -- The meaning of a calendar (document 01, refusals 6 to 10): the first fault with its place, or its events and blocks in file order.
-use Rattle.std.specs.Prelude.{ℕ, Bool, true, false, cond, List, [], ◌∷◌, ◌++◌, map}
+use Rattle.std.specs.Prelude.{ℕ, Bool, true, false, cond, List, [], ◌∷◌, ◌++◌, map, Err, None, Ok, Option, Result, Some}
+use Rattle.nesting.specs.declared.StructureError.{StructureError}
+use Rattle.calendar.specs.declared.LineError.{LineError}
+use Rattle.events.specs.declared.Event.{Event}
+use Rattle.events.specs.declared.Block.{Block}
 use Rattle.text.specs.Lines.{content_lines}
 use Rattle.line.specs.Grammar.{ContentLine}
 use Rattle.line.specs.Reading.{line_of}
@@ -12,19 +16,15 @@ use Rattle.property.specs.Properties.{property_value_of}
 use Rattle.property.specs.declared.Scope.{Scope}
 use Rattle.nesting.specs.Nesting.{nesting_of}
 use Rattle.nesting.specs.Components.{Numbered, Component, tree_of, items_below, components_in, properties_in}
-use Rattle.nesting.specs.declared.Structure.{Structure}
 use Rattle.events.specs.ComponentProperties.{no_properties, with_properties}
 use Rattle.periods.specs.BusyTypes.{BusyPeriod, typed}
 use Rattle.events.specs.Events.{event_by, block_by, Entry, event, block}
-use Rattle.events.specs.declared.EventRead.{EventRead}
-use Rattle.events.specs.declared.BlockRead.{BlockRead}
 use Rattle.overrides.specs.VEvents.{VEvent}
 use Rattle.overrides.specs.Instances.{removed_from as starts_removed}
 use Rattle.overrides.specs.Rules.{breaks}
 use Rattle.calendar.specs.Identities.{identity_of}
-use Rattle.calendar.specs.declared.ValueCheck.{ValueCheck}
-use Rattle.calendar.specs.declared.RuleCheck.{RuleCheck}
-use Rattle.calendar.specs.declared.Fault.{Fault}
+use Rattle.calendar.specs.declared.Refusal.{Refusal}
+use Rattle.calendar.specs.Refused.{refused_at}
 
 -- what a component is, by its name
 unfoldable pub scope_of : List ℕ → Scope
@@ -41,27 +41,27 @@ property_values_in c s (x ∷ xs) = property_value_of c s x.line ∷ property_va
 -- ---- 8 and 9: the first line in file order with either
 
 -- a line's own fault, else what the lines after it have
-unfoldable pub fault_or : ℕ → Reading → ValueCheck → ValueCheck
+unfoldable pub fault_or : ℕ → Reading → Result (Unit {0}) LineError → Result (Unit {0}) LineError
 fault_or n unread r = r
-fault_or n (Reading.fault unsupported) r = ValueCheck.Unsupported n
-fault_or n (Reading.fault bad) r = ValueCheck.Bad n
+fault_or n (Reading.fault unsupported) r = Err (LineError.Unsupported n)
+fault_or n (Reading.fault bad) r = Err (LineError.Bad n)
 fault_or n (of f) r = r
 
 -- the lines of one component, and then what is to follow
-unfoldable pub fault_in : Context → Scope → List Numbered → ValueCheck → ValueCheck
+unfoldable pub fault_in : Context → Scope → List Numbered → Result (Unit {0}) LineError → Result (Unit {0}) LineError
 fault_in c s [] r = r
 fault_in c s (x ∷ xs) r = fault_or x.number (property_value_of c s x.line) (fault_in c s xs r)
 
-unfoldable pub value_fault : Context → List Component → ValueCheck
-value_fault c [] = ValueCheck.Good
+unfoldable pub value_fault : Context → List Component → Result (Unit {0}) LineError
+value_fault c [] = Ok tt
 value_fault c (k ∷ ks) = fault_in c (component_scope k) (properties_in k.items) (value_fault c ks)
 
 -- ---- events, blocks, and the VEVENTs of a calendar
 
-unfoldable pub event_of : Context → Component → EventRead
+unfoldable pub event_of : Context → Component → Option Event
 event_of c k = event_by (with_properties no_properties (property_values_in c Scope.Event (properties_in k.items)))
 
-unfoldable pub block_of : Context → Component → BlockRead
+unfoldable pub block_of : Context → Component → Option Block
 block_of c k = block_by (with_properties no_properties (property_values_in c Scope.FreeBusy (properties_in k.items)))
 
 -- a VEVENT: its event, and what ties it to others
@@ -88,9 +88,9 @@ vevents c (k ∷ ks) = vevents_as c (component_scope k) k ++ vevents c ks
 
 -- ---- 10: the first component in file order that breaks a rule
 
-abbrev pub block_broken : BlockRead → Bool
-block_broken (BlockRead.Of b) = false
-block_broken BlockRead.Broken = true
+abbrev pub block_broken : Option Block → Bool
+block_broken (Some b) = false
+block_broken None = true
 
 -- a VEVENT is asked beside the VEVENTs before it and all of the file, a VFREEBUSY by itself
 unfoldable pub breaks_rule : Context → List VEvent → List VEvent → Scope → Component → Bool
@@ -98,18 +98,18 @@ breaks_rule c before all Scope.Event k = breaks before all (vevent_of c k)
 breaks_rule c before all Scope.FreeBusy k = block_broken (block_of c k)
 breaks_rule c before all Scope.Other k = false
 
-unfoldable pub broken_or : Bool → ℕ → RuleCheck → RuleCheck
-broken_or true n r = RuleCheck.Broken n
+unfoldable pub broken_or : Bool → ℕ → Option ℕ → Option ℕ
+broken_or true n r = Some n
 broken_or false n r = r
 
 -- of components that stand behind the VEVENTs `before`; a broken one is named by its BEGIN line
-unfoldable pub first_fault : Context → List VEvent → List VEvent → List Component → RuleCheck
-first_fault c before all [] = RuleCheck.Good
+unfoldable pub first_fault : Context → List VEvent → List VEvent → List Component → Option ℕ
+first_fault c before all [] = None
 first_fault c before all (k ∷ ks) =
     broken_or (breaks_rule c before all (component_scope k) k) k.begin.number (first_fault c (before ++ vevents_as c (component_scope k) k) all ks)
 
 -- of a whole file
-unfoldable pub rule_fault : Context → List Component → RuleCheck
+unfoldable pub rule_fault : Context → List Component → Option ℕ
 rule_fault c ks = first_fault c [] (vevents c ks) ks
 
 -- ---- the meaning
@@ -139,13 +139,13 @@ removed_as c all Scope.Other k = []
 unfoldable pub removed_from : Context → List Component → Component → List ℕ
 removed_from c all k = removed_as c (vevents c all) (component_scope k) k
 
-abbrev pub event_entry : EventRead → List ℕ → List Entry
-event_entry (EventRead.Of e) gone = event e gone ∷ []
-event_entry EventRead.Broken gone = []
+abbrev pub event_entry : Option Event → List ℕ → List Entry
+event_entry (Some e) gone = event e gone ∷ []
+event_entry None gone = []
 
-abbrev pub block_entry : BlockRead → List BusyPeriod → List Entry
-block_entry (BlockRead.Of b) ps = block b ps ∷ []
-block_entry BlockRead.Broken ps = []
+abbrev pub block_entry : Option Block → List BusyPeriod → List Entry
+block_entry (Some b) ps = block b ps ∷ []
+block_entry None ps = []
 
 -- the entry of a component, beside all the components of its calendar
 unfoldable pub entry_of : Context → List Component → Scope → Component → List Entry
@@ -174,14 +174,14 @@ pub data Meaning : Type 0 where
   fault : ℕ → ℕ → Meaning
   calendar : List Entry → Meaning
 
-unfoldable pub by_rules : RuleCheck → List Entry → Meaning
-by_rules RuleCheck.Good es = calendar es
-by_rules (RuleCheck.Broken n) es = fault 10 n
+unfoldable pub by_rules : Option ℕ → List Entry → Meaning
+by_rules None es = calendar es
+by_rules (Some n) es = fault 10 n
 
-unfoldable pub by_values : ValueCheck → Meaning → Meaning
-by_values ValueCheck.Good m = m
-by_values (ValueCheck.Unsupported n) m = fault 8 n
-by_values (ValueCheck.Bad n) m = fault 9 n
+unfoldable pub by_values : Result (Unit {0}) LineError → Meaning → Meaning
+by_values (Ok _) m = m
+by_values (Err (LineError.Unsupported n)) m = fault 8 n
+by_values (Err (LineError.Bad n)) m = fault 9 n
 
 -- k is 6 for the lines, 7 for their nesting
 unfoldable pub by_lines : ℕ → LineCheck → Meaning → Meaning
@@ -198,16 +198,16 @@ unfoldable pub meaning_of : Context → List ℕ → Meaning
 meaning_of c u = by_lines 6 (line_check u) (by_lines 7 (nesting_of (file_lines u)) (contents_of c u))
 
 -- the fault alone
-unfoldable pub fault_of : Meaning → Fault
-fault_of (fault n i) = Fault.At n i
-fault_of (calendar es) = Fault.None
+unfoldable pub fault_of : Meaning → Result (Unit {0}) Refusal
+fault_of (fault n i) = refused_at n i
+fault_of (calendar es) = Ok tt
 
 -- the first of refusals 6 and 7 that applies
-unfoldable pub structure_fault : List ℕ → Fault
+unfoldable pub structure_fault : List ℕ → Result (Unit {0}) Refusal
 structure_fault u = fault_of (by_lines 6 (line_check u) (by_lines 7 (nesting_of (file_lines u)) (calendar [])))
 
 -- the same by what reading the structure answers
-abbrev pub structure_refusal : Structure → Fault
-structure_refusal (Structure.BadLine n) = Fault.At 6 n
-structure_refusal (Structure.BadNesting n) = Fault.At 7 n
-structure_refusal Structure.Good = Fault.None
+abbrev pub structure_refusal : Result (Unit {0}) StructureError → Result (Unit {0}) Refusal
+structure_refusal (Err (StructureError.BadLine n)) = refused_at 6 n
+structure_refusal (Err (StructureError.BadNesting n)) = refused_at 7 n
+structure_refusal (Ok _) = Ok tt

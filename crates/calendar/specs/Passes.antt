@@ -1,13 +1,12 @@
 -- Refusal 10 as two passes over the components find it: the first asks each by itself,
 -- the second asks the VEVENTs beside others. That both together find the first that breaks a rule is in proofs/Passes.antt.
-use Rattle.std.specs.Prelude.{Bool, false, cond, List, [], ◌∷◌, ◌++◌}
+use Rattle.std.specs.Prelude.{Bool, false, cond, List, [], ◌∷◌, ◌++◌, None, Option, ℕ}
 use Rattle.values.specs.declared.times.Context.{Context}
 use Rattle.property.specs.declared.Scope.{Scope}
 use Rattle.nesting.specs.Components.{Component}
 use Rattle.overrides.specs.VEvents.{VEvent}
 use Rattle.overrides.specs.Rules.{breaks_alone, breaks_beside}
 use Rattle.calendar.specs.Meaning.{component_scope, block_of, vevent_of, vevents_as, block_broken, broken_or}
-use Rattle.calendar.specs.declared.RuleCheck.{RuleCheck}
 
 -- ---- by itself
 
@@ -17,8 +16,8 @@ broken_alone c Scope.FreeBusy k = block_broken (block_of c k)
 broken_alone c Scope.Other k = false
 
 -- the first that breaks a rule by itself
-unfoldable pub alone_fault : Context → List Component → RuleCheck
-alone_fault c [] = RuleCheck.Good
+unfoldable pub alone_fault : Context → List Component → Option ℕ
+alone_fault c [] = None
 alone_fault c (k ∷ ks) = broken_or (broken_alone c (component_scope k) k) k.begin.number (alone_fault c ks)
 
 -- the components before it, all where there is none
@@ -34,7 +33,7 @@ broken_beside c before all Scope.FreeBusy k = false
 broken_beside c before all Scope.Other k = false
 
 -- the first that breaks a rule beside others
-unfoldable pub beside_fault : Context → List VEvent → List VEvent → List Component → RuleCheck
-beside_fault c before all [] = RuleCheck.Good
+unfoldable pub beside_fault : Context → List VEvent → List VEvent → List Component → Option ℕ
+beside_fault c before all [] = None
 beside_fault c before all (k ∷ ks) =
     broken_or (broken_beside c before all (component_scope k) k) k.begin.number (beside_fault c (before ++ vevents_as c (component_scope k) k) all ks)

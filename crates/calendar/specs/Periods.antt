@@ -1,8 +1,7 @@
 -- The periods of a FREEBUSY value from a place on, which a caller reads one after the other.
-use Rattle.std.specs.Prelude.{ℕ, ◌+◌, ◌≤◌, ◌<◌, ◌≡◌, cond, List, [], ◌∷◌, ltb, length, drop}
+use Rattle.std.specs.Prelude.{ℕ, ◌+◌, ◌≤◌, ◌<◌, ◌≡◌, cond, List, [], ◌∷◌, ltb, length, drop, None, Option, Some}
 use Rattle.values.specs.Period.{period_items, good_periods, PeriodSmall}
 use Rattle.periods.specs.declared.Period.{Period}
-use Rattle.calendar.specs.declared.period_list.PeriodStep.{PeriodStep}
 
 -- the periods from a place on; from place 0 on they are all those of the value
 unfoldable pub periods_from : List ℕ → ℕ → List Period
@@ -24,6 +23,6 @@ pub record NoPeriod (v : List ℕ) (from : ℕ) : Type 0 where
   pub periods : periods_from v from ≡ []
 
 -- what a step from period to period answers
-unfoldable pub PeriodAt : List ℕ → ℕ → PeriodStep → Type 0
-PeriodAt v from (PeriodStep.Of p next) = NextPeriod v from p next
-PeriodAt v from PeriodStep.Done = NoPeriod v from
+unfoldable pub PeriodAt : List ℕ → ℕ → Option (Period × ℕ) → Type 0
+PeriodAt v from (Some (p, next)) = NextPeriod v from p next
+PeriodAt v from None = NoPeriod v from

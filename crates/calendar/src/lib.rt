@@ -5,24 +5,17 @@
 pub mod faults;
 pub mod period_list;
 
-// The first line with a fault of its value, or none.
-#[derive(Clone, Copy)]
-pub enum ValueCheck {
-    Good,
+// The first line whose value is refused: refusal 8 or 9, at this line.
+#[derive(Clone, Copy, PartialEq, Eq)]
+pub enum LineError {
     Unsupported(usize),
     Bad(usize),
 }
 
-// The first component that breaks a rule, by its BEGIN line, or none.
-#[derive(Clone, Copy)]
-pub enum RuleCheck {
-    Good,
-    Broken(usize),
-}
-
-// The first refusal of 6 to 10 that applies, with its line, or none.
-#[derive(Clone, Copy)]
-pub enum Fault {
-    None,
-    At(u8, usize),
+// A refusal, and the line at fault, 0 where it has none.
+// Its number stays a number: the table of document 01, the C interface and the theorems speak of numbers.
+#[derive(Clone, Copy, PartialEq, Eq)]
+pub struct Refusal {
+    pub number: u8,
+    pub line: usize,
 }

@@ -6,16 +6,6 @@ ghost use Rattle.calendar.specs.Periods.{behind, PeriodAt};
 use line::split;
 use periods::Period;
 use values::period;
-use values::period::PeriodRead;
-
-// The next period of a value.
-#[derive(Clone, Copy)]
-pub enum PeriodStep {
-    // The period, and the place from which those after it are read.
-    Of(Period, usize),
-    // No period is left.
-    Done,
-}
 
 // The place behind the separator at a place; the end, where there is none.
 fn place_behind(v: &[u8], at: usize) -> usize
@@ -25,19 +15,20 @@ fn place_behind(v: &[u8], at: usize) -> usize
 }
 
 // The first period from a place on; what is no period is passed over.
-pub fn next_period(v: &[u8], from: usize) -> PeriodStep
+pub fn next_period(v: &[u8], from: usize) -> Option<(Period, usize)>
     ensures { PeriodAt v.now from result }
 {
     let mut at = from;
+    // A `while`: the place behind the period is answered with it, and `split` tells no places.
     while at < v.len() {
         let e = split::find(v, at, 44, false);
         let next = place_behind(v, e);
         match period::read_period(&v[at..e]) {
-            PeriodRead::Of(p) => return PeriodStep::Of(p, next),
-            PeriodRead::Bad => {
+            Some(p) => return Some((p, next)),
+            None => {
                 at = next;
             }
         }
     }
-    PeriodStep::Done
+    None
 }

@@ -1,6 +1,8 @@
-// Cases of the public calls as the test programs read them, a line each, and what they print.
+// Cases of the public calls as the test programs read them, a line each, and how they are run.
 // Nothing here makes a call.
 #![tactic(auto)]
 
 pub mod case;
-pub mod out;
+mod number;
+mod reader;
+pub mod run;

@@ -1,111 +1,34 @@
 -- Ways through the decoder of hex: what is left of the text, and of the bytes to store, makes the whole.
-use Prim.Native.Nat.{ℕ, suc, ◌+◌, ◌-◌, ◌*◌, ◌≤◌, ◌<◌}
+use Prim.Native.Nat.{ℕ, suc, ◌+◌, ◌-◌, ◌≤◌, ◌<◌}
 use mathlib.Core.Path.{◌≡◌, refl, sym, ap, ◌∙◌}
-use mathlib.Core.Bool.{Bool, true, false, cond, and-false}
+use mathlib.Core.Bool.{Bool, true, false, cond}
 use mathlib.Core.List.{List, [], ◌∷◌}
 use native.Mathlib.Omega.{arith}
-use lib.Dec.{ltb}
 use lib.ListN.{length, take, drop, get_or, set, length-set}
 use lib.Seq.{sets, take-nil}
-use borrow.Author.Tests.{lt-ltb, le-ltb, eq-eqb, ne_eqb}
+use borrow.Author.Tests.{lt-ltb, le-ltb, leb-true, ltb-false}
 use Rattle.ascii.specs.Bytes.{between}
-use Rattle.ascii.proofs.Bytes.{inside, below, above}
+use Rattle.ascii.proofs.Bools.{and_right}
+use lib.Dec.{leb, ltb}
+use Rattle.std.specs.Prelude.{Some, None, Result, Ok, Err}
 use Rattle.ascii.proofs.Lists.{drop_next, drop_end}
 use Rattle.cli.specs.declared.hex.Place.{Place}
 use Rattle.cli.specs.declared.hex.Step.{Step}
-use Rattle.cli.specs.declared.hex.Decoded.{Decoded}
-use Rattle.cli.specs.Hex.{hex_digit, is_blank, from_between, from_half, from_comment, step_of, bytes_from, good_from, whole, at_end, decoded_of, Decodes}
+use Rattle.cli.specs.declared.hex.HexError.{HexError}
+use Rattle.cli.specs.Hex.{hex_digit, step_of, bytes_from, good_from, at_end, decoded_of, Decodes}
 
--- ---- one byte
+-- ---- a digit
 
-pub digit_decimal : (b : ℕ) → 48 ≤ b → b ≤ 57 → b - 48 ≡ hex_digit b
+pub digit_small : (b : ℕ) {d : ℕ} → Some d ≡ hex_digit b → d ≤ 15
 unfolding hex_digit
-digit_decimal b p q = rw (inside 48 57 b p q)
-
-pub digit_upper : (b : ℕ) → 65 ≤ b → b ≤ 70 → b - 55 ≡ hex_digit b
-unfolding hex_digit
-digit_upper b p q = rw (above 48 57 b (omega arith), inside 65 70 b p q)
-
-pub digit_lower : (b : ℕ) → 97 ≤ b → b ≤ 102 → b - 87 ≡ hex_digit b
-unfolding hex_digit
-digit_lower b p q = rw (above 48 57 b (omega arith), above 65 70 b (omega arith), inside 97 102 b p q)
-
-digit_none : (b : ℕ) → between 48 57 b ≡ false → between 65 70 b ≡ false → between 97 102 b ≡ false → 16 ≡ hex_digit b
-unfolding hex_digit
-digit_none b p q r = rw (p, q, r)
-
--- the four gaps
-pub gap_first : (b : ℕ) → b < 48 → 16 ≡ hex_digit b
-gap_first b h = digit_none b (below 48 57 b h) (below 65 70 b (omega arith)) (below 97 102 b (omega arith))
-
-pub gap_second : (b : ℕ) → 57 < b → b < 65 → 16 ≡ hex_digit b
-gap_second b h k = digit_none b (above 48 57 b h) (below 65 70 b k) (below 97 102 b (omega arith))
-
-pub gap_third : (b : ℕ) → 70 < b → b < 97 → 16 ≡ hex_digit b
-gap_third b h k = digit_none b (above 48 57 b (omega arith)) (above 65 70 b h) (below 97 102 b k)
-
-pub gap_last : (b : ℕ) → 102 < b → 16 ≡ hex_digit b
-gap_last b h = digit_none b (above 48 57 b (omega arith)) (above 65 70 b (omega arith)) (above 97 102 b h)
-
-pub between_mark : (b : ℕ) → b ≡ 35 → Step.To Place.Comment ≡ from_between b
-unfolding from_between
-between_mark b e = rw (eq-eqb b 35 e)
-
-pub between_blank : (b : ℕ) {t : Bool} → (b ≡ 35 → ⊥) → t ≡ is_blank b → t ≡ true → Step.To Place.Between ≡ from_between b
-unfolding from_between
-between_blank b h p e = rw (ne_eqb b 35 h, ← p, e)
-
-pub between_digit : (b : ℕ) {t : Bool} {d : ℕ} → (b ≡ 35 → ⊥) → t ≡ is_blank b → t ≡ false → d ≡ hex_digit b → d < 16 → Step.To (Place.Half d) ≡ from_between b
-unfolding from_between
-between_digit b {d = d} h p e q k = rw (ne_eqb b 35 h, ← p, e, ← q, lt-ltb d 16 k)
-
-pub between_wrong : (b : ℕ) {t : Bool} {d : ℕ} → (b ≡ 35 → ⊥) → t ≡ is_blank b → t ≡ false → d ≡ hex_digit b → 16 ≤ d → Step.Wrong ≡ from_between b
-unfolding from_between
-between_wrong b {d = d} h p e q k = rw (ne_eqb b 35 h, ← p, e, ← q, le-ltb d 16 k)
-
-pub pair_of : (h b : ℕ) {d : ℕ} → d ≡ hex_digit b → h ≤ 15 → d ≤ 15 → Step.Byte (h * 16 + d) ≡ from_half h b
-unfolding from_half
-pair_of h b {d} q k l = rw (← q, lt-ltb h 16 (omega arith), lt-ltb d 16 (omega arith))
-
-pub pair_first : (h b : ℕ) → 15 < h → Step.Wrong ≡ from_half h b
-unfolding from_half
-pair_first h b k = rw (le-ltb h 16 (omega arith))
-
-pub pair_second : (h b : ℕ) {d : ℕ} → d ≡ hex_digit b → 15 < d → Step.Wrong ≡ from_half h b
-unfolding from_half
-pair_second h b {d} q k = rw (← q, le-ltb d 16 (omega arith), and-false (ltb h 16))
-
-pub comment_end : (b : ℕ) → b ≡ 10 → Step.To Place.Between ≡ from_comment b
-unfolding from_comment
-comment_end b e = rw (eq-eqb b 10 e)
-
-pub comment_on : (b : ℕ) → (b ≡ 10 → ⊥) → Step.To Place.Comment ≡ from_comment b
-unfolding from_comment
-comment_on b e = rw (ne_eqb b 10 e)
-
-pub step_between : (p : Place) (b : ℕ) {r : Step} → p ≡ Place.Between → r ≡ from_between b → r ≡ step_of p b
-unfolding step_of
-step_between p b e k = k ∙ rw e
-
-pub step_half : (p : Place) (b : ℕ) {h : ℕ} {r : Step} → p ≡ Place.Half h → r ≡ from_half h b → r ≡ step_of p b
-unfolding step_of
-step_half p b e k = k ∙ rw e
-
-pub step_comment : (p : Place) (b : ℕ) {r : Step} → p ≡ Place.Comment → r ≡ from_comment b → r ≡ step_of p b
-unfolding step_of
-step_comment p b e k = k ∙ rw e
-
-pub end_between : (p : Place) (n : ℕ) → p ≡ Place.Between → Decoded.Of n ≡ at_end p n
-unfolding at_end whole
-end_between p n e = rw e
-
-pub end_half : (p : Place) (n : ℕ) {h : ℕ} → p ≡ Place.Half h → Decoded.Bad ≡ at_end p n
-unfolding at_end whole
-end_half p n e = rw e
-
-pub end_comment : (p : Place) (n : ℕ) → p ≡ Place.Comment → Decoded.Of n ≡ at_end p n
-unfolding at_end whole
-end_comment p n e = rw e
+digit_small b {d} e = go (between 48 57 b) (between 65 70 b) (between 97 102 b) refl refl refl e
+  where
+    go : (t u v : Bool) → between 48 57 b ≡ t → between 65 70 b ≡ u → between 97 102 b ≡ v
+        → Some d ≡ cond t (Some (b - 48)) (cond u (Some (b - 55)) (cond v (Some (b - 87)) None)) → d ≤ 15
+    go true u v p q r e = let z : d ≡ b - 48 = cc in omega (arith, leb-true b 57 (and_right (leb 48 b) (leb b 57) p), z)
+    go false true v p q r e = let z : d ≡ b - 55 = cc in omega (arith, leb-true b 70 (and_right (leb 65 b) (leb b 70) q), z)
+    go false false true p q r e = let z : d ≡ b - 87 = cc in omega (arith, leb-true b 102 (and_right (leb 97 b) (leb b 102) r), z)
+    go false false false p q r e = let z : ◌≡◌ {A = ℕ} 0 1 = cc in absurd (omega arith)
 
 -- ---- the loop
 
@@ -119,27 +42,27 @@ pub record Storing (s o₀ o : List ℕ) (p : Place) (n i : ℕ) : Type 0 where
 
 -- what one byte does to the bytes that are written, and to whether all is good
 module _ (p : Place) (b : ℕ) (s : List ℕ) where
-  bytes_to : {q : Place} → step_of p b ≡ Step.To q → bytes_from p (b ∷ s) ≡ bytes_from q s
+  bytes_to : {q : Place} → step_of p b ≡ Some (Step.To q) → bytes_from p (b ∷ s) ≡ bytes_from q s
   unfolding bytes_from
   bytes_to e = rw (e, bytes_from)
 
-  bytes_byte : {x : ℕ} → step_of p b ≡ Step.Byte x → bytes_from p (b ∷ s) ≡ x ∷ bytes_from Place.Between s
+  bytes_byte : {x : ℕ} → step_of p b ≡ Some (Step.Byte x) → bytes_from p (b ∷ s) ≡ x ∷ bytes_from Place.Between s
   unfolding bytes_from
   bytes_byte e = rw (e, bytes_from)
 
-  bytes_wrong : step_of p b ≡ Step.Wrong → bytes_from p (b ∷ s) ≡ []
+  bytes_wrong : step_of p b ≡ None → bytes_from p (b ∷ s) ≡ []
   unfolding bytes_from
   bytes_wrong e = rw (e, bytes_from)
 
-  good_to : {q : Place} → step_of p b ≡ Step.To q → good_from p (b ∷ s) ≡ good_from q s
+  good_to : {q : Place} → step_of p b ≡ Some (Step.To q) → good_from p (b ∷ s) ≡ good_from q s
   unfolding good_from
   good_to e = rw (e, good_from)
 
-  good_byte : {x : ℕ} → step_of p b ≡ Step.Byte x → good_from p (b ∷ s) ≡ good_from Place.Between s
+  good_byte : {x : ℕ} → step_of p b ≡ Some (Step.Byte x) → good_from p (b ∷ s) ≡ good_from Place.Between s
   unfolding good_from
   good_byte e = rw (e, good_from)
 
-  good_wrong : step_of p b ≡ Step.Wrong → good_from p (b ∷ s) ≡ false
+  good_wrong : step_of p b ≡ None → good_from p (b ∷ s) ≡ false
   unfolding good_from
   good_wrong e = rw (e, good_from)
 
@@ -154,7 +77,7 @@ storing_start s o =
     }
 
 -- a byte that is passed
-pub storing_pass : {s o₀ o : List ℕ} {p q : Place} {n i : ℕ} → Storing s o₀ o p n i → i < length s → step_of p (get_or s i 0) ≡ Step.To q
+pub storing_pass : {s o₀ o : List ℕ} {p q : Place} {n i : ℕ} → Storing s o₀ o p n i → i < length s → step_of p (get_or s i 0) ≡ Some (Step.To q)
     → Storing s o₀ o q n (i + 1)
 storing_pass {s} {o₀} {o} {p} {q} {n} {i} w h e =
     record {
@@ -172,7 +95,7 @@ storing_pass {s} {o₀} {o} {p} {q} {n} {i} w h e =
     same_good = ap (good_from p) (drop_next s i h) ∙ good_to p (get_or s i 0) (drop (i + 1) s) e
 
 -- a byte that completes a byte, which is stored
-pub storing_byte : {s o₀ o : List ℕ} {p : Place} {n i x : ℕ} → Storing s o₀ o p n i → i < length s → step_of p (get_or s i 0) ≡ Step.Byte x
+pub storing_byte : {s o₀ o : List ℕ} {p : Place} {n i x : ℕ} → Storing s o₀ o p n i → i < length s → step_of p (get_or s i 0) ≡ Some (Step.Byte x)
     → (n ≡ length o → ⊥) → Storing s o₀ (set o n x) Place.Between (n + 1) (i + 1)
 storing_byte {s} {o₀} {o} {p} {n} {i} {x} w h e k =
     record {
@@ -197,8 +120,8 @@ storing_byte {s} {o₀} {o} {p} {n} {i} {x} w h e k =
     same_good = ap (good_from p) (drop_next s i h) ∙ good_byte p (get_or s i 0) (drop (i + 1) s) e
 
 -- there is no room for the next byte
-pub storing_full : {s o₀ o : List ℕ} {p : Place} {n i x : ℕ} → Storing s o₀ o p n i → i < length s → step_of p (get_or s i 0) ≡ Step.Byte x
-    → n ≡ length o → Decodes s o₀ o Decoded.TooLong
+pub storing_full : {s o₀ o : List ℕ} {p : Place} {n i x : ℕ} → Storing s o₀ o p n i → i < length s → step_of p (get_or s i 0) ≡ Some (Step.Byte x)
+    → n ≡ length o → Decodes s o₀ o (Err HexError.TooLong)
 unfolding decoded_of
 storing_full {s} {o₀} {o} {p} {n} {i} {x} w h e k =
     record {
@@ -213,8 +136,8 @@ storing_full {s} {o₀} {o} {p} {n} {i} {x} w h e k =
     more = omega (arith, w.count, w.long, k, ap (λ (l : List ℕ). length l) same)
 
 -- nothing more is stored
-done : {s o₀ o : List ℕ} {p : Place} {n i : ℕ} (r : Decoded) → Storing s o₀ o p n i → bytes_from p (drop i s) ≡ []
-    → r ≡ cond (good_from p (drop i s)) (Decoded.Of n) Decoded.Bad → Decodes s o₀ o r
+done : {s o₀ o : List ℕ} {p : Place} {n i : ℕ} (r : Result ℕ HexError) → Storing s o₀ o p n i → bytes_from p (drop i s) ≡ []
+    → r ≡ cond (good_from p (drop i s)) (Ok n) (Err HexError.Bad) → Decodes s o₀ o r
 unfolding decoded_of
 done {s} {o₀} {o} {p} {n} {i} r w e a =
     record {
@@ -225,14 +148,29 @@ done {s} {o₀} {o} {p} {n} {i} r w e a =
     many : n ≡ length (bytes_from Place.Between s)
     many = omega (arith, w.count, ap (λ (l : List ℕ). length l) e)
 
-pub storing_wrong : {s o₀ o : List ℕ} {p : Place} {n i : ℕ} → Storing s o₀ o p n i → i < length s → step_of p (get_or s i 0) ≡ Step.Wrong
-    → Decodes s o₀ o Decoded.Bad
+pub storing_wrong : {s o₀ o : List ℕ} {p : Place} {n i : ℕ} → Storing s o₀ o p n i → i < length s → step_of p (get_or s i 0) ≡ None
+    → Decodes s o₀ o (Err HexError.Bad)
 storing_wrong {s} {p = p} {n} {i} w h e =
-    done Decoded.Bad w
+    done (Err HexError.Bad) w
     (ap (bytes_from p) (drop_next s i h) ∙ bytes_wrong p (get_or s i 0) (drop (i + 1) s) e)
-    (sym (ap (λ (t : Bool). cond t (Decoded.Of n) Decoded.Bad) (ap (good_from p) (drop_next s i h) ∙ good_wrong p (get_or s i 0) (drop (i + 1) s) e)))
+    (sym (ap (λ (t : Bool). cond t (Ok n) (Err HexError.Bad)) (ap (good_from p) (drop_next s i h) ∙ good_wrong p (get_or s i 0) (drop (i + 1) s) e)))
 
-pub storing_end : {s o₀ o : List ℕ} {p : Place} {n i : ℕ} {r : Decoded} → Storing s o₀ o p n i → length s ≤ i → r ≡ at_end p n → Decodes s o₀ o r
+pub storing_end : {s o₀ o : List ℕ} {p : Place} {n i : ℕ} {r : Result ℕ HexError} → Storing s o₀ o p n i → length s ≤ i → r ≡ at_end p n → Decodes s o₀ o r
 unfolding bytes_from good_from at_end
 storing_end {s} {p = p} {n} {i} {r} w h a =
-    done r w (ap (bytes_from p) (drop_end s i h)) (a ∙ sym (ap (λ (l : List ℕ). cond (good_from p l) (Decoded.Of n) Decoded.Bad) (drop_end s i h)))
+    done r w (ap (bytes_from p) (drop_end s i h)) (a ∙ sym (ap (λ (l : List ℕ). cond (good_from p l) (Ok n) (Err HexError.Bad)) (drop_end s i h)))
+
+-- ---- its answer
+
+-- what was decoded lies within the output
+pub decoded_within : {s o o' : List ℕ} {r : Result ℕ HexError} {n : ℕ} → Decodes s o o' r → r ≡ Ok n → n ≤ length o
+unfolding decoded_of
+decoded_within {s} {o} {n = n} d e = go (ltb (length o) k) (good_from Place.Between s) refl (sym e ∙ d.answer)
+  where
+    k : ℕ
+    k = length (bytes_from Place.Between s)
+
+    go : (t u : Bool) → ltb (length o) k ≡ t → Ok n ≡ cond t (Err HexError.TooLong) (cond u (Ok k) (Err HexError.Bad)) → n ≤ length o
+    go false true p q = let z : n ≡ k = cc in omega (arith, z, ltb-false (length o) k p)
+    go false false p q = let z : ◌≡◌ {A = ℕ} 0 1 = cc in absurd (omega arith)
+    go true u p q = let z : ◌≡◌ {A = ℕ} 0 1 = cc in absurd (omega arith)

@@ -1,3 +1,2 @@
 pub mod ArgumentsLaws
 pub mod HexLaws
-pub mod WordsLaws

@@ -1,6 +1,5 @@
 -- What the refusals mean, in words.
-use Rattle.std.specs.Prelude.{ℕ, ◌≡◌, List, [], ◌∷◌, length, get_or}
-use Rattle.std.proofs.lemmas.List.Edits.{sets}
+use Rattle.std.specs.Prelude.{ℕ, List, [], ◌∷◌, get_or}
 use Rattle.ascii.specs.Words.{ascii}
 
 unfoldable pub unknown : List ℕ
@@ -26,8 +25,3 @@ meanings =
 
 unfoldable pub refusal_words : ℕ → List ℕ
 refusal_words n = get_or meanings n unknown
-
--- the words stand first, later bytes are as they were, and the answer is how many they are
-pub record Says (words o o' : List ℕ) (r : ℕ) : Type 0 where
-  pub long : r ≡ length words
-  pub output : o' ≡ sets o 0 words

@@ -1,220 +1,172 @@
 // What an argument means: a command, a second, an offset, a file name.
-// Any bytes are read: as what they mean, or as a wrong argument.
+// Any bytes are read: as what they mean, or as none.
 ghost use Rattle.std.specs.Prelude.{◌≡◌};
 ghost use Rattle.cli.specs.Arguments.{command_of, with_digit, decimal_of, in_limits, utc_clock, utc_of, second_of, hours_minutes, clock_of, size_of, signed, with_sign, offset_of, is_hex_name};
 
-use time::date_time::{DateTime, Kind};
-use time::limits::Second;
+use time::date_time::Kind;
 
-#[derive(Clone, Copy)]
+#[derive(Clone, Copy, Debug, PartialEq, Eq)]
 pub enum Command {
     Report,
     Verify,
     Match,
     Batch,
-    Other,
 }
 
-// A number without a sign.
-#[derive(Clone, Copy)]
-pub enum Number {
-    Of(u64),
-    Bad,
+// What a report is asked for.
+#[derive(Clone, Copy, Debug, PartialEq, Eq)]
+pub struct Plan {
+    pub start: u64,
+    pub end: u64,
+    pub offset: i64,
+    pub stamp: u64,
 }
 
-// Seconds ahead of UTC.
-#[derive(Clone, Copy)]
-pub enum Offset {
-    Of(i64),
-    Bad,
-}
-
-pub fn command_of(word: &[u8]) -> Command
+// No TryFrom, which would want an error type: of a word that is no command there is no more to say.
+#[tactic(auto, unfolding(crate::specs::Arguments::command_of))]
+pub fn command_of(word: &[u8]) -> Option<Command>
     ensures { result ≡ command_of word.now }
 {
     if ascii::same_name(word, b"report") {
-        return Command::Report;
+        return Some(Command::Report);
     }
     if ascii::same_name(word, b"verify") {
-        return Command::Verify;
+        return Some(Command::Verify);
     }
     if ascii::same_name(word, b"match") {
-        return Command::Match;
+        return Some(Command::Match);
     }
     if ascii::same_name(word, b"batch") {
-        return Command::Batch;
+        return Some(Command::Batch);
     }
-    Command::Other
+    None
 }
 
 // The number with one more digit, where 64 bits hold it.
-fn with_digit(n: u64, b: u8) -> Number
+#[tactic(auto, unfolding(crate::specs::Arguments::with_digit, crate::specs::Arguments::decimal_onto, crate::specs::Arguments::onto, crate::specs::Arguments::most))]
+fn with_digit(n: u64, b: u8) -> Option<u64>
     ensures { result ≡ with_digit n b }
 {
-    if b < 48 {
-        return Number::Bad;
+    if !b.is_ascii_digit() {
+        return None;
     }
-    if 57 < b {
-        return Number::Bad;
-    }
-    let d = b as u64 - 48;
-    if (18446744073709551615 - d) / 10 < n {
-        return Number::Bad;
-    }
-    Number::Of(n * 10 + d)
+    n.checked_mul(10)?.checked_add(u64::from(b - b'0'))
 }
 
 // Decimal digits, one or more, that 64 bits hold.
-pub fn decimal_of(text: &[u8]) -> Number
+pub fn decimal_of(text: &[u8]) -> Option<u64>
     ensures { result ≡ decimal_of text.now }
 {
-    if text.len() == 0 {
-        return Number::Bad;
+    if text.is_empty() {
+        return None;
     }
-    let mut n: u64 = 0;
-    let mut i = 0;
-    while i < text.len() {
-        let k = i + 1;
-        let more = with_digit(n, text[i]);
-        match more {
-            Number::Of(m) => {
-                n = m;
-                i = k;
-            }
-            Number::Bad => return Number::Bad,
-        }
+    let mut n = 0;
+    for &b in text {
+        n = with_digit(n, b)?;
     }
-    Number::Of(n)
+    Some(n)
 }
 
-fn in_limits(t: Second) -> Number
+#[tactic(auto, unfolding(crate::specs::Arguments::in_limits))]
+fn in_limits(t: Option<u64>) -> Option<u64>
     ensures { result ≡ in_limits t }
 {
     match t {
-        Second::At(s) => Number::Of(s),
-        Second::Outside => Number::Bad,
+        Some(s) => Some(s),
+        None => None,
     }
 }
 
 // The second of a UTC clock.
-fn utc_clock(kind: Kind, clock: u64) -> Number
+// Not one with `zone_values::onset::floating_only`: they share the test of the kind alone, and here the second is reckoned from the clock, within the limits.
+#[tactic(auto, unfolding(crate::specs::Arguments::utc_clock))]
+fn utc_clock(kind: Kind, clock: u64) -> Option<u64>
     ensures { result ≡ utc_clock kind clock }
 {
     match kind {
         Kind::Utc => in_limits(time::limits::utc_second(kind, clock, 50400)),
-        Kind::Floating => Number::Bad,
-        Kind::Date => Number::Bad,
+        Kind::Floating => None,
+        Kind::Date => None,
     }
 }
 
 // A UTC DATE-TIME within the limits.
-fn utc_of(text: &[u8]) -> Number
+#[tactic(auto, unfolding(crate::specs::Arguments::utc_of, crate::specs::Arguments::utc_read))]
+fn utc_of(text: &[u8]) -> Option<u64>
     ensures { result ≡ utc_of text.now }
 {
-    let read = time::date_time::read_date_time(text);
-    match read {
-        DateTime::At(kind, clock) => utc_clock(kind, clock),
-        DateTime::Bad => Number::Bad,
-    }
+    let read = time::date_time::read_date_time(text)?;
+    utc_clock(read.kind, read.clock)
 }
 
 // Seconds in decimal, or a UTC DATE-TIME.
-pub fn second_of(text: &[u8]) -> Number
+#[tactic(auto, unfolding(crate::specs::Arguments::second_of, crate::specs::Arguments::or_else))]
+pub fn second_of(text: &[u8]) -> Option<u64>
     ensures { result ≡ second_of text.now }
 {
-    let plain = decimal_of(text);
-    match plain {
-        Number::Of(n) => Number::Of(n),
-        Number::Bad => utc_of(text),
-    }
+    decimal_of(text).or_else(|| utc_of(text))
 }
 
 // Hours and minutes as seconds.
-fn hours_minutes(hours: Number, minutes: Number) -> Number
-    ensures { result ≡ hours_minutes hours minutes }
+#[tactic(auto, unfolding(crate::specs::Arguments::hours_minutes))]
+fn hours_minutes(h: u64, m: u64) -> Option<u64>
+    ensures { result ≡ hours_minutes (Some h) (Some m) }
 {
-    match hours {
-        Number::Bad => Number::Bad,
-        Number::Of(h) => match minutes {
-            Number::Bad => Number::Bad,
-            Number::Of(m) => {
-                if 99 < h {
-                    return Number::Bad;
-                }
-                if 59 < m {
-                    return Number::Bad;
-                }
-                Number::Of(h * 3600 + m * 60)
-            }
-        },
+    if 99 < h || 59 < m {
+        return None;
     }
+    Some(h * 3600 + m * 60)
 }
 
 // HH:MM as seconds.
-fn clock_of(text: &[u8]) -> Number
+#[tactic(auto, unfolding(crate::specs::Arguments::clock_of, crate::specs::Arguments::hours_minutes))]
+fn clock_of(text: &[u8]) -> Option<u64>
     ensures { result ≡ clock_of text.now }
 {
-    if text.len() != 5 {
-        return Number::Bad;
+    if text.len() != 5 || text[2] != b':' {
+        return None;
     }
-    if text[2] != 58 {
-        return Number::Bad;
-    }
-    hours_minutes(decimal_of(&text[0..2]), decimal_of(&text[3..5]))
+    hours_minutes(decimal_of(&text[0..2])?, decimal_of(&text[3..5])?)
 }
 
 // Seconds in decimal, or HH:MM.
-fn size_of(text: &[u8]) -> Number
+#[tactic(auto, unfolding(crate::specs::Arguments::size_of, crate::specs::Arguments::or_else))]
+fn size_of(text: &[u8]) -> Option<u64>
     ensures { result ≡ size_of text.now }
 {
-    let plain = decimal_of(text);
-    match plain {
-        Number::Of(n) => Number::Of(n),
-        Number::Bad => clock_of(text),
-    }
+    decimal_of(text).or_else(|| clock_of(text))
 }
 
 // A number and its sign, where 64 bits hold it.
-fn signed(minus: bool, n: u64) -> Offset
+#[tactic(auto, unfolding(crate::specs::Arguments::signed, crate::specs::Arguments::most_signed))]
+fn signed(minus: bool, n: u64) -> Option<i64>
     ensures { result ≡ signed minus n }
 {
-    if 9223372036854775807 < n {
-        if minus & (n == 9223372036854775808) {
-            return Offset::Of(-9223372036854775808);
-        }
-        return Offset::Bad;
-    }
-    let plain = n as i64;
     if minus {
-        return Offset::Of(-plain);
+        0i64.checked_sub_unsigned(n)
+    } else {
+        0i64.checked_add_unsigned(n)
     }
-    Offset::Of(plain)
 }
 
-fn with_sign(minus: bool, size: Number) -> Offset
-    ensures { result ≡ with_sign minus size }
+#[tactic(auto, unfolding(crate::specs::Arguments::with_sign))]
+fn with_sign(minus: bool, size: &[u8]) -> Option<i64>
+    ensures { result ≡ with_sign minus (size_of size.now) }
 {
-    match size {
-        Number::Of(n) => signed(minus, n),
-        Number::Bad => Offset::Bad,
-    }
+    signed(minus, size_of(size)?)
 }
 
 // An optional sign, and seconds in decimal or HH:MM.
-pub fn offset_of(text: &[u8]) -> Offset
+#[tactic(auto, unfolding(crate::specs::Arguments::offset_of))]
+pub fn offset_of(text: &[u8]) -> Option<i64>
     ensures { result ≡ offset_of text.now }
 {
-    let n = text.len();
-    if n == 0 {
-        return Offset::Bad;
+    match text {
+        [] => None,
+        [b'-', size @ ..] => with_sign(true, size),
+        [b'+', size @ ..] => with_sign(false, size),
+        _ => with_sign(false, text),
     }
-    if text[0] == 45 {
-        return with_sign(true, size_of(&text[1..n]));
-    }
-    if text[0] == 43 {
-        return with_sign(false, size_of(&text[1..n]));
-    }
-    with_sign(false, size_of(text))
 }
 
 // Does the name end in .hex?

@@ -1,6 +1,9 @@
 -- The stages of collecting: range, stamp and offset read; tables, none where something is refused,
 -- otherwise, from the stored pieces, the covered seconds of the range; and the work buffer that goes with them.
+use Rattle.std.specs.Prelude.{None, Option, Result, Some, Ok, Err}
 use Prim.Native.Nat.{ℕ, ◌≤◌, ◌<◌, zero, suc, ◌+◌, ◌-◌}
+use Rattle.nesting.specs.declared.StructureError.{StructureError}
+use Rattle.std.specs.Result.{IsErrAnd}
 use mathlib.Core.Path.{◌≡◌, sym, ap, ◌∙◌, refl, subst}
 use mathlib.Core.Bool.{Bool, true, false, ◌&&◌}
 use mathlib.Core.List.{List, [], ◌∷◌, append_assoc, Memᴰ}
@@ -26,8 +29,9 @@ use Rattle.table.proofs.Tables.{listed_kept}
 use Rattle.table.proofs.Runs.{runs_same}
 use Rattle.report.specs.Writing.{packed}
 use Rattle.events.specs.Events.{Entry}
-use Rattle.calendar.specs.Meaning.{structure_refusal, entries_of, components_of}
-use Rattle.calendar.specs.declared.Fault.{Fault}
+use Rattle.calendar.specs.Meaning.{structure_refusal, entries_of, components_of, contents_of, fault_of}
+use Rattle.calendar.specs.declared.Refusal.{Refusal}
+use Rattle.calendar.specs.Refused.{refused_at}
 use Rattle.pieces.specs.BusyPeriods.{stated_periods, instance_periods, gathered, busy_periods}
 use Rattle.pieces.specs.Columns.{flat, stored, Stored, Room}
 use Rattle.pieces.specs.Covered.{covered_by, covered}
@@ -37,60 +41,57 @@ use Rattle.pieces.proofs.Pieces.{pieces_of_append, busy_pieces_cover, pieces_ins
 use Rattle.refusals.specs.Refusals.{Row, first_refusal, row, structure_rows, contents_rows, calendar_rows}
 use Rattle.refusals.specs.Offsets.{offset_good, offset_read}
 use Rattle.refusals.specs.Stages.{work_by}
-use Rattle.refusals.specs.declared.OffsetRead.{OffsetRead}
 use Rattle.refusals.proofs.Offsets.{read_out, shift_bound, offset_given}
 use Rattle.refusals.proofs.Refusals.{row_applies, row_passed, structure_passed, structure_refused, contents_passed, contents_refused}
 use Rattle.structure.specs.Reading.{StructureRead}
-use Rattle.nesting.specs.declared.Structure.{Structure}
 use Rattle.contents.specs.Contents.{EntryTerms}
-use Rattle.contents.specs.Walks.{WalksTell}
-use Rattle.contents.specs.declared.walks.WalksRead.{WalksRead}
+use Rattle.contents.specs.Walks.{WalksPass}
 use Rattle.contents.proofs.Contents.{structure_found}
 use Rattle.tables.specs.Building.{periods_at, BuiltAt}
 use Rattle.tables.proofs.Building.{built_stored, periods_few}
-use Rattle.collecting.specs.declared.Collected.{Collected}
+use Rattle.periods.specs.declared.Counts.{Counts}
 use Rattle.collecting.specs.CalendarTerms.{stamp_good, piece_row}
-use Rattle.collecting.specs.CollectStages.{call_read, no_tables, periods_in, Tabled, ContentsTabled, CalendarTabled, CalendarCollected, piece_rows, Typed, unless_fault, fewest_periods}
+use Rattle.collecting.specs.CollectStages.{call_read, Tabled, ContentsTabled, CalendarTabled, CalendarCollected, piece_rows, Typed, unless_fault, fewest_periods}
 
 -- ---- range, stamp and offset
 
 module _ (a e t : ℕ) where
-  pub call_good : {z o : ℤ} {r : OffsetRead} → z ≡ o → (range_good a e && stamp_good t) ≡ true → r ≡ offset_read z → r ≡ call_read a e o t
+  pub call_good : {z o : ℤ} {r : Option ℕ} → z ≡ o → (range_good a e && stamp_good t) ≡ true → r ≡ offset_read z → r ≡ call_read a e o t
   unfolding call_read
   call_good q h k = rw h (sym (offset_given q k refl))
 
-  pub call_bad : (o : ℤ) → (range_good a e && stamp_good t) ≡ false → OffsetRead.Bad ≡ call_read a e o t
+  pub call_bad : (o : ℤ) → (range_good a e && stamp_good t) ≡ false → None ≡ call_read a e o t
   unfolding call_read
   call_bad o h = rw h
 
   -- what was read tells what is good
-  pub read_call_good : {s : ℕ} (o : ℤ) → call_read a e o t ≡ OffsetRead.Of s
-      → (range_good a e ≡ true) × (stamp_good t ≡ true) × (offset_read o ≡ OffsetRead.Of s)
+  pub read_call_good : {s : ℕ} (o : ℤ) → call_read a e o t ≡ Some s
+      → (range_good a e ≡ true) × (stamp_good t ≡ true) × (offset_read o ≡ Some s)
   unfolding call_read
   read_call_good {s} o q = go (range_good a e && stamp_good t) refl
     where
       go : (y : Bool) → (range_good a e && stamp_good t) ≡ y
-          → (range_good a e ≡ true) × (stamp_good t ≡ true) × (offset_read o ≡ OffsetRead.Of s)
+          → (range_good a e ≡ true) × (stamp_good t ≡ true) × (offset_read o ≡ Some s)
       go true h =
-          let k : offset_read o ≡ OffsetRead.Of s = rw h at q in
+          let k : offset_read o ≡ Some s = rw h at q in
           (and_left (range_good a e) (stamp_good t) h, and_right (range_good a e) (stamp_good t) h, k)
-      go false h = let k : OffsetRead.Bad ≡ OffsetRead.Of s = rw h at q in let z : ◌≡◌ {A = ℕ} 0 1 = cc in absurd (omega arith)
+      go false h = let k : None ≡ Some s = rw h at q in let z : ◌≡◌ {A = ℕ} 0 1 = cc in absurd (omega arith)
 
-  pub read_call_bad : (o : ℤ) → call_read a e o t ≡ OffsetRead.Bad → (range_good a e && stamp_good t && offset_good o) ≡ false
+  pub read_call_bad : (o : ℤ) → call_read a e o t ≡ None → (range_good a e && stamp_good t && offset_good o) ≡ false
   unfolding call_read
   read_call_bad o q = go (range_good a e) refl (stamp_good t) refl
     where
       go : (x : Bool) → range_good a e ≡ x → (y : Bool) → stamp_good t ≡ y → (range_good a e && stamp_good t && offset_good o) ≡ false
-      go true h true k = let w : offset_read o ≡ OffsetRead.Bad = rw (h, k) at q in rw (h, k) (read_out o w)
+      go true h true k = let w : offset_read o ≡ None = rw (h, k) at q in rw (h, k) (read_out o w)
       go true h false k = rw (h, k)
       go false h y k = rw h
 
   -- what was read of z, the number that the machine reads back from the bits of the offset, was read of the offset
-  pub call_given : {z o : ℤ} {r x : OffsetRead} → z ≡ o → r ≡ call_read a e z t → r ≡ x → call_read a e o t ≡ x
+  pub call_given : {z o : ℤ} {r x : Option ℕ} → z ≡ o → r ≡ call_read a e z t → r ≡ x → call_read a e o t ≡ x
   call_given q k h = ap (λ (y : ℤ). call_read a e y t) (sym q) ∙ sym k ∙ h
 
   -- what later stages are promised of the call
-  pub call_bounds : {s : ℕ} (o : ℤ) → call_read a e o t ≡ OffsetRead.Of s → (s ≤ 100800) × (a < e) × (e ≤ last_second)
+  pub call_bounds : {s : ℕ} (o : ℤ) → call_read a e o t ≡ Some s → (s ≤ 100800) × (a < e) × (e ≤ last_second)
   unfolding range_good
   call_bounds o q =
       let h = read_call_good o q in
@@ -98,29 +99,27 @@ module _ (a e t : ℕ) where
 
 -- ---- a refusal
 
-none_listed : (f : Fault) (ss es : List ℕ) (b : BusyType) → periods_in (no_tables f) ss es b ≡ []
-unfolding no_tables packed listed
-none_listed f ss es BusyType.Busy = refl
-none_listed f ss es BusyType.Tentative = refl
-none_listed f ss es BusyType.Unavailable = refl
-none_listed f ss es BusyType.Free = refl
-
-module _ {rows : List Row} {ps : BusyType → List Period} {r : Collected} {ss es : List ℕ} where
-  pub tabled_refused : {n i : ℕ} → first_refusal rows ≡ Fault.At n i → r ≡ no_tables (Fault.At n i) → Tabled rows ps r ss es
-  unfolding unless_fault no_tables
-  tabled_refused {n} {i} e k =
-      rw (k)
-      (record {
+module _ {rows : List Row} {ps : BusyType → List Period} {ss es : List ℕ} where
+  pub tabled_refused : {f : Refusal} → first_refusal rows ≡ Err f → Tabled rows ps (Err f) ss es
+  unfolding unless_fault
+  tabled_refused e =
+      record {
         fault_is = sym e;
-        periods_are = λ b u. none_listed (Fault.At n i) ss es b ∙ sym (ap (λ (f : Fault). unless_fault f (ps b)) e);
+        periods_are = λ b u. sym (ap (λ (f : Result (Unit {0}) Refusal). unless_fault f (ps b)) e);
         few = omega arith;
-      })
+      }
 
+  -- the same, handed up
+  pub tabled_up : {r : Result Counts Refusal} {f : Refusal} → first_refusal rows ≡ Err f → IsErrAnd r (λ y. y ≡ f) → Tabled rows ps r ss es
+  tabled_up {r = Ok x} e z = absurd z
+  tabled_up {r = Err y} e z = tabled_refused (e ∙ ap Err (sym z))
+
+module _ {rows : List Row} {ps : BusyType → List Period} {r : Result Counts Refusal} {ss es : List ℕ} where
   pub tabled_passed : {more : List Row} → first_refusal rows ≡ first_refusal more → Tabled more ps r ss es → Tabled rows ps r ss es
   tabled_passed e t =
       record {
         fault_is = t.fault_is ∙ sym e;
-        periods_are = λ b u. t.periods_are b u ∙ ap (λ (f : Fault). unless_fault f (ps b)) (sym e);
+        periods_are = λ b u. t.periods_are b u ∙ ap (λ (f : Result (Unit {0}) Refusal). unless_fault f (ps b)) (sym e);
         few = t.few;
       }
 
@@ -135,9 +134,9 @@ module _ {c : List ℕ} {n x : ℕ} {ss es us vs : List ℕ} (long : length ss �
     pub tentative_fits : x + y + length (periods_at 2 n c) ≤ length ws
     tentative_fits = omega (arith, p.built.count, q.built.count, periods_few n c, p.starts_long, q.starts_long)
 
-    pub typed : {z : ℕ} {ys zs : List ℕ} → BuiltAt c n 2 (x + y) ws xs z ys zs → Typed c n (record { fault = Fault.None; busy = x; tentative = y; unavailable = z }) ys zs
+    pub typed : {z : ℕ} {ys zs : List ℕ} → BuiltAt c n 2 (x + y) ws xs z ys zs → Typed c n (record { busy = x; tentative = y; unavailable = z }) ys zs
     unfolding packed report_place is_busy
-    typed {z} {ys} {zs} r = record { fault_is = refl; built = made; few = omega (arith, p.built.count, q.built.count, r.built.count, periods_few n c) }
+    typed {z} {ys} {zs} r = record { built = made; few = omega (arith, p.built.count, q.built.count, r.built.count, periods_few n c) }
       where
         -- what stands before a row stays
         first_kept : listed (table_at 0 x ws xs) ≡ listed (table_at 0 x us vs)
@@ -181,7 +180,7 @@ module _ (a e : ℕ) (es : List Entry) where
       (λ x k l. busy_pieces_cover b u a e x es ∙ ap (λ (t : Bool). t && covered b es x) (second_in_true a e x k (omega (arith, range_end_holds h))))
 
   module _ {o o' : List ℕ} {n : ℕ} (h : Stored o 0 (busy_pieces a e es) o' n) where
-    stored_many : 512 < n → first_refusal (piece_row (busy_pieces a e es) ∷ []) ≡ Fault.At 11 0
+    stored_many : 512 < n → first_refusal (piece_row (busy_pieces a e es) ∷ []) ≡ refused_at 11 0
     unfolding piece_row stored
     stored_many k =
         row_applies _ _ (lt-ltb 512 (length (busy_pieces a e es)) (omega (arith, h.count, take_least 513 (busy_pieces a e es))))
@@ -196,20 +195,20 @@ module _ (a e : ℕ) (es : List Entry) where
       stored_numbers : o' ≡ sets o 0 (flat (busy_pieces a e es))
       stored_numbers = h.numbers ∙ ap (λ (ps : List BusyPeriod). sets o 0 (flat ps)) all_stored
 
-      few_stored : first_refusal (piece_row (busy_pieces a e es) ∷ []) ≡ Fault.None
+      few_stored : first_refusal (piece_row (busy_pieces a e es) ∷ []) ≡ Ok tt
       unfolding piece_row first_refusal
       few_stored = row_passed (row 11 0 (ltb 512 (length (busy_pieces a e es)))) [] (le-ltb 512 (length (busy_pieces a e es)) (omega (arith, stored_count)))
 
-      tabled_stored : {r : Collected} {us vs : List ℕ} → Room o → a < e → Typed o' n r us vs → Tabled (piece_row (busy_pieces a e es) ∷ []) (fewest_periods a e es) r us vs
+      tabled_stored : {r : Counts} {us vs : List ℕ} → Room o → a < e → Typed o' n r us vs → Tabled (piece_row (busy_pieces a e es) ∷ []) (fewest_periods a e es) (Ok r) us vs
       unfolding unless_fault
       tabled_stored l w t =
           record {
-            fault_is = t.fault_is ∙ sym few_stored;
+            fault_is = sym few_stored;
             periods_are = λ b u.
                 t.built b u
                 ∙ built_stored b a (e - a) (busy_pieces a e es) o stored_numbers (omega (arith, stored_count)) stored_count (pieces_lie w)
                 ∙ pieces_runs b u w
-                ∙ sym (ap (λ (f : Fault). unless_fault f (fewest_periods a e es b)) few_stored);
+                ∙ sym (ap (λ (f : Result (Unit {0}) Refusal). unless_fault f (fewest_periods a e es b)) few_stored);
             few = t.few;
           }
 
@@ -220,45 +219,44 @@ unfolding busy_pieces busy_periods
 all_pieces a e es x y = stored_as (stored_then x y) (sym (pieces_of_append a e (gathered stated_periods es) (gathered instance_periods es)))
 
 -- room and number for the pieces of events
-pub stated_room : {c : Context} {u index rows : List ℕ} {a e : ℕ} {o : List ℕ} {new : EntryTerms} {x : WalksRead} → WalksTell c u index rows a e o new x → x.fault ≡ Fault.None
-    → Room o → Room new.pieces × (x.count ≤ 513)
-stated_room k q l = (stored_long (k.stored q) ∙ l, stored_few (k.stored q) (omega arith))
+pub stated_room : {c : Context} {u index rows : List ℕ} {a e : ℕ} {o : List ℕ} {new : EntryTerms} {n : ℕ} → WalksPass c u index rows a e o new n
+    → Room o → Room new.pieces × (n ≤ 513)
+stated_room k l = (stored_long k.stored ∙ l, stored_few k.stored (omega arith))
 
 -- ---- refusals 8 to 11, then the tables
 
-module _ {c : Context} {u index rows : List ℕ} {a e : ℕ} {o : List ℕ} {new : EntryTerms} {x : WalksRead} (k : WalksTell c u index rows a e o new x) {r : Collected} {us vs : List ℕ} where
-  pub contents_refuse : {n i : ℕ} → x.fault ≡ Fault.At n i → r ≡ no_tables (Fault.At n i) → ContentsTabled c u a e r us vs
-  contents_refuse q w = tabled_refused (contents_refused c u _ (sym k.fault_is ∙ q)) w
+pub contents_refuse : (c : Context) (u : List ℕ) (a e : ℕ) {us vs : List ℕ} {r : Result Counts Refusal} {f : Refusal} → fault_of (contents_of c u) ≡ Err f → IsErrAnd r (λ y. y ≡ f) → ContentsTabled c u a e r us vs
+contents_refuse c u a e q w = tabled_up (contents_refused c u _ q) w
 
-  module _ (q : x.fault ≡ Fault.None) where
-    contents_pass : Tabled (piece_rows c u a e) (fewest_periods a e (entries_of c (components_of u))) r us vs → ContentsTabled c u a e r us vs
-    contents_pass t = tabled_passed (contents_passed c u _ (sym k.fault_is ∙ q)) t
+module _ {c : Context} {u index rows : List ℕ} {a e : ℕ} {o : List ℕ} {new : EntryTerms} {i : ℕ} (k : WalksPass c u index rows a e o new i) where
+  contents_pass : {r : Result Counts Refusal} {us vs : List ℕ} → Tabled (piece_rows c u a e) (fewest_periods a e (entries_of c (components_of u))) r us vs → ContentsTabled c u a e r us vs
+  contents_pass t = tabled_passed (contents_passed c u _ k.no_fault) t
 
-    module _ {o'' : List ℕ} {n : ℕ} (d : Stored new.pieces x.count (pieces_of a e (gathered instance_periods (entries_of c (components_of u)))) o'' n) where
-      pub contents_many : 512 < n → r ≡ no_tables (Fault.At 11 0) → ContentsTabled c u a e r us vs
-      unfolding piece_rows
-      contents_many m w = contents_pass (tabled_refused (stored_many a e _ (all_pieces a e _ (k.stored q) d) m) w)
+  module _ {o'' : List ℕ} {n : ℕ} (d : Stored new.pieces i (pieces_of a e (gathered instance_periods (entries_of c (components_of u)))) o'' n) where
+    pub contents_many : {us vs : List ℕ} → 512 < n → ContentsTabled c u a e (Err (record { number = 11; line = 0 })) us vs
+    unfolding piece_rows
+    contents_many m = contents_pass (tabled_refused (stored_many a e _ (all_pieces a e _ k.stored d) m))
 
-      pub contents_few : n ≤ 512 → Room o → a < e → Typed o'' n r us vs → ContentsTabled c u a e r us vs
-      unfolding piece_rows
-      contents_few m l w t = contents_pass (tabled_stored a e _ (all_pieces a e _ (k.stored q) d) m l w t)
+    pub contents_few : {r : Counts} {us vs : List ℕ} → n ≤ 512 → Room o → a < e → Typed o'' n r us vs → ContentsTabled c u a e (Ok r) us vs
+    unfolding piece_rows
+    contents_few m l w t = contents_pass (tabled_stored a e _ (all_pieces a e _ k.stored d) m l w t)
 
 -- ---- from the calendar on
 
 -- by what reading the structure answered
-module _ {u index rows : List ℕ} {x : Structure} (k : StructureRead u index rows x) {f : Fault} (q : f ≡ structure_refusal x) where
-  pub structure_refuses : (c : Context) (a e : ℕ) {r : Collected} {us vs : List ℕ} {n i : ℕ} → f ≡ Fault.At n i → r ≡ no_tables (Fault.At n i) → CalendarTabled c u a e r us vs
+module _ {u index rows : List ℕ} {x : Result (Unit {0}) StructureError} (k : StructureRead u index rows x) {f : Result (Unit {0}) Refusal} (q : f ≡ structure_refusal x) where
+  pub structure_refuses : (c : Context) (a e : ℕ) {r : Result Counts Refusal} {us vs : List ℕ} {y : Refusal} → f ≡ Err y → IsErrAnd r (λ z. z ≡ y) → CalendarTabled c u a e r us vs
   unfolding calendar_rows
   structure_refuses c a e h w =
-      tabled_refused (ap first_refusal (append_assoc (structure_rows u) (contents_rows c u) (piece_rows c u a e)) ∙ structure_refused u _ (structure_found k q ∙ h)) w
+      tabled_up (ap first_refusal (append_assoc (structure_rows u) (contents_rows c u) (piece_rows c u a e)) ∙ structure_refused u _ (structure_found k q ∙ h)) w
 
-  pub structure_passes : (c : Context) (a e : ℕ) {r : Collected} {us vs : List ℕ} → f ≡ Fault.None → ContentsTabled c u a e r us vs → CalendarTabled c u a e r us vs
+  pub structure_passes : (c : Context) (a e : ℕ) {r : Result Counts Refusal} {us vs : List ℕ} → f ≡ Ok tt → ContentsTabled c u a e r us vs → CalendarTabled c u a e r us vs
   unfolding calendar_rows
   structure_passes c a e h t =
       tabled_passed (ap first_refusal (append_assoc (structure_rows u) (contents_rows c u) (piece_rows c u a e)) ∙ structure_passed u _ (structure_found k q ∙ h)) t
 
 -- the unfolded calendar was left in the buffer
-pub calendar_collected : (c : Context) (cal work : List ℕ) (a e : ℕ) {left : List ℕ} {m : ℕ} {r : Collected} {us vs : List ℕ} → Unfolded cal work left m
+pub calendar_collected : (c : Context) (cal work : List ℕ) (a e : ℕ) {left : List ℕ} {m : ℕ} {r : Result Counts Refusal} {us vs : List ℕ} → Unfolded cal work left m
     → CalendarTabled c (take m left) a e r us vs → CalendarCollected c cal work a e r us vs left
 unfolding work_by
 calendar_collected c cal work a e {r = r} {us} {vs} k t =

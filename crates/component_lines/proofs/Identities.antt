@@ -1,4 +1,5 @@
 -- Laws of what ties a component to others, from line to line: what a line adds to it and to the column of excluded seconds, and the room that is left there.
+use Rattle.std.specs.Prelude.{Option, Some}
 use Prim.Native.Nat.{ℕ, ◌+◌, ◌*◌, ◌-◌, ◌≤◌, ◌<◌}
 use mathlib.Core.Path.{◌≡◌, refl, sym, ap, subst, ◌∙◌}
 use mathlib.Core.Bool.{true, false}
@@ -16,7 +17,6 @@ use Rattle.values.specs.declared.times.Context.{Context}
 use Rattle.values.specs.declared.times.Time.{Time}
 use Rattle.values.specs.declared.times.Form.{Form}
 use Rattle.values.specs.declared.time_lists.Kinds.{Kinds}
-use Rattle.values.specs.declared.time_lists.TimesStored.{TimesStored}
 use Rattle.values.proofs.TimeLists.{times_stored, times_long, with_kinds_append}
 use Rattle.property.specs.Properties.{property_value_of}
 use Rattle.property.specs.Facts.{IdentityFact, Reading, unread, fault, of, span, repeats, busy, identity, periods, uid, recurrence_id}
@@ -29,9 +29,10 @@ use Rattle.structure.specs.Items.{PropertyAt, InnerAt}
 use Rattle.overrides.specs.Lists.{two_or_more}
 use Rattle.calendar.specs.Identities.{uids_by, recurrence_ids_by, exceptions_by, uids_in, recurrence_ids_in, exceptions_in, identity_in}
 use Rattle.ascii.proofs.Bools.{clash}
-use Rattle.identities.specs.Gathering.{more_uids, more_recurrences, no_identity, with_uid, with_recurrence, with_exceptions}
-use Rattle.identities.specs.declared.UidGiven.{UidGiven}
-use Rattle.identities.specs.declared.RecurrenceGiven.{RecurrenceGiven}
+use Rattle.values.specs.Given.{given_more}
+use Rattle.identities.specs.Gathering.{recurrence_id_of, no_identity, with_uid, with_recurrence, with_exceptions}
+use Rattle.values.specs.declared.given.Given.{Given}
+use Rattle.identities.specs.declared.RecurrenceId.{RecurrenceId}
 use Rattle.series.specs.Identities.{UidTies, RecurrenceTies, Ties}
 use Rattle.component_lines.specs.Identities.{excluded_in, RoomFrom, LinesTie}
 use Rattle.identities.specs.declared.IdentityRead.{IdentityRead}
@@ -66,19 +67,19 @@ two_more [] ys h = clash h refl
 two_more (x ∷ []) ys h = clash h refl
 two_more (x ∷ y ∷ xs) ys h = refl
 
-uid_more : (s : List ℕ) (g : UidGiven) (us : List (List ℕ)) (i : ℕ) → i < length (content_lines s) → i < 65536 → UidTies s g us → UidTies s (more_uids g (i + 1)) (us ++ (value_of (line_bytes s i) ∷ []))
-unfolding more_uids two_or_more
-uid_more s UidGiven.None us i l r e =
+uid_more : (s : List ℕ) (g : Given ℕ) (us : List (List ℕ)) (i : ℕ) → i < length (content_lines s) → i < 65536 → UidTies s g us → UidTies s (given_more g (i + 1)) (us ++ (value_of (line_bytes s i) ∷ []))
+unfolding given_more two_or_more
+uid_more s Given.None us i l r e =
     let z : i + 1 - 1 ≡ i = omega arith in
     (omega arith, omega arith, omega arith, ap (λ (x : List (List ℕ)). x ++ (value_of (line_bytes s i) ∷ [])) e ∙ ap (λ (n : ℕ). value_of (line_bytes s n) ∷ []) (sym z))
-uid_more s (UidGiven.One n) us i l r e = ap (λ (x : List (List ℕ)). two_or_more (x ++ (value_of (line_bytes s i) ∷ []))) e.3
-uid_more s UidGiven.Several us i l r e = two_more us (value_of (line_bytes s i) ∷ []) e
+uid_more s (Given.One n) us i l r e = ap (λ (x : List (List ℕ)). two_or_more (x ++ (value_of (line_bytes s i) ∷ []))) e.3
+uid_more s Given.Several us i l r e = two_more us (value_of (line_bytes s i) ∷ []) e
 
-recurrence_more : (g : RecurrenceGiven) (ts : List Time) (t : Time) → RecurrenceTies g ts → RecurrenceTies (more_recurrences g t) (ts ++ (t ∷ []))
-unfolding more_recurrences two_or_more
-recurrence_more RecurrenceGiven.None ts t e = record { time = t; alone = ap (λ (x : List Time). x ++ (t ∷ [])) e; kept = refl }
-recurrence_more (RecurrenceGiven.One u) ts t e = ap (λ (x : List Time). two_or_more (x ++ (t ∷ []))) e.alone
-recurrence_more RecurrenceGiven.Several ts t e = two_more ts (t ∷ []) e
+recurrence_more : (g : Given RecurrenceId) (ts : List Time) (t : Time) → RecurrenceTies g ts → RecurrenceTies (given_more g (recurrence_id_of t)) (ts ++ (t ∷ []))
+unfolding given_more two_or_more
+recurrence_more Given.None ts t e = record { time = t; alone = ap (λ (x : List Time). x ++ (t ∷ [])) e; kept = refl }
+recurrence_more (Given.One u) ts t e = ap (λ (x : List Time). two_or_more (x ++ (t ∷ []))) e.alone
+recurrence_more Given.Several ts t e = two_more ts (t ∷ []) e
 
 -- so far these were read, and with those of the lines from line i on they are all
 pub record TiedSoFar (c : Context) (s : List ℕ) (xs : List Numbered) (y : IdentityRead) (i : ℕ) : Type 0 where
@@ -282,9 +283,9 @@ module _ {c : Context} {t : Scope} {s index : List ℕ} {xs : List Numbered} {e�
   pub ties_room : length s ≤ 8 * length e₀ → 8 * y.held + length w ≤ 8 * length e
   ties_room u = omega (arith, value_before, (k.entries i h.inside).between.inside, z.long, u)
 
-  pub ties_exceptions : {f : Form} {e' : List ℕ} {r : TimesStored} (n : ℕ) (ks : Kinds) {y' : IdentityRead} → length s ≤ 8 * length e₀
+  pub ties_exceptions : {f : Form} {e' : List ℕ} {r : Option (ℕ × Kinds)} (n : ℕ) (ks : Kinds) {y' : IdentityRead} → length s ≤ 8 * length e₀
       → property_value_of c t (numbered_line s i).line ≡ of (identity (IdentityFact.exceptions f))
-      → TimesAre c f w y.kinds e y.held e' r → r ≡ TimesStored.Of n ks → y' ≡ with_exceptions y ks n → ReadingTies c t s index xs e₀ h₀ e' y' (i + 1)
+      → TimesAre c f w y.kinds e y.held e' r → r ≡ Some (n, ks) → y' ≡ with_exceptions y ks n → ReadingTies c t s index xs e₀ h₀ e' y' (i + 1)
   unfolding with_exceptions uids_by recurrence_ids_by exceptions_by
   ties_exceptions {f} {e'} n ks {y'} long v u b d =
       let ts = good_times (time_items c f w) in

@@ -1,5 +1,9 @@
 -- Laws of the lines of a component: what a line is to the first fault, to what the lines say together and to the pieces of their periods.
+use Rattle.std.specs.Prelude.{Err, None, Ok, Option, Result, Some}
 use Prim.Native.Nat.{ℕ, ◌+◌, ◌*◌, ◌-◌, ◌≤◌}
+use Rattle.values.specs.declared.rule.ValueError.{ValueError}
+use Rattle.property.specs.declared.PropertyValue.{PropertyValue}
+use Rattle.calendar.specs.declared.LineError.{LineError}
 use mathlib.Core.Path.{◌≡◌, refl, sym, ap, subst, ◌∙◌}
 use mathlib.Core.Bool.{Bool, true, false, cond, true≢false}
 use mathlib.Core.List.{List, [], ◌∷◌, ◌++◌}
@@ -17,7 +21,6 @@ use Rattle.periods.specs.declared.Period.{Period}
 use Rattle.periods.specs.BusyTypes.{BusyPeriod, typed}
 use Rattle.property.specs.Facts.{ValueFault, Reading, unread, fault, of, span, repeats, busy, identity, periods, uid, recurrence_id, exceptions, reading_of}
 use Rattle.property.specs.Properties.{before_items, items_good, with_items, property_value_of, gives_periods}
-use Rattle.property.specs.declared.PropertyValue.{PropertyValue}
 use Rattle.property.specs.declared.Scope.{Scope}
 use Rattle.property.proofs.Properties.{event_periods_lem}
 use Rattle.nesting.specs.Components.{Numbered, Items, properties_in}
@@ -30,16 +33,13 @@ use Rattle.events.specs.ComponentProperties.{no_properties, with_property, with_
 use Rattle.events.specs.declared.ComponentProperties.{ComponentProperties}
 use Rattle.calendar.specs.Meaning.{property_values_in, fault_or, fault_in, periods_by, block_periods}
 use Rattle.calendar.specs.Periods.{periods_from}
-use Rattle.calendar.specs.declared.ValueCheck.{ValueCheck}
 use Rattle.calendar.proofs.Periods.{periods_all}
 use Rattle.pieces.specs.Pieces.{pieces_of}
 use Rattle.pieces.specs.Columns.{Room}
 use Rattle.pieces.proofs.Pieces.{pieces_of_none, pieces_of_append}
-use Rattle.component_lines.specs.Lines.{together, lines_fault, periods_in, value_periods, ValueIs, LinesGood, LinesAre, good, unsupported, bad}
-use Rattle.identities.specs.declared.IdentityRead.{IdentityRead}
+use Rattle.component_lines.specs.Lines.{together, lines_fault, periods_in, value_periods, ValueIs, LinesGood, LinesAre, good, refused}
 use Rattle.component_lines.specs.Identities.{LinesTie}
 use Rattle.component_lines.specs.declared.LinesRead.{LinesRead}
-use Rattle.component_lines.specs.declared.ValueStored.{ValueStored}
 use Rattle.component_lines.proofs.LinesStoring.{Left, left_start, left_then, left_same, left_none, value_stored, value_unread}
 
 -- ---- a line by what it says
@@ -56,7 +56,7 @@ Plain (of (identity (recurrence_id t))) = Unit
 Plain (of (identity (exceptions f))) = ⊥
 Plain (of (periods y)) = ⊥
 
-module _ (n : ℕ) (r : ValueCheck) (x : ContentLine) (c : Context) (w : List ℕ) where
+module _ (n : ℕ) (r : Result (Unit {0}) LineError) (x : ContentLine) (c : Context) (w : List ℕ) where
   -- it is no fault, gives no period, and stays as it is
   plain_so : (v : Reading) → Plain v → (fault_or n v r ≡ r) × (periods_by v x ≡ []) × (with_items c w v ≡ v)
   unfolding fault_or periods_by with_items items_good
@@ -84,24 +84,24 @@ unfolding with_property
 recurrence_said g t = refl
 
 -- what a line says, by what it says before its periods are looked at
-module _ (c : Context) (o : Scope) (l : List ℕ) {u : PropertyValue} (q : reading_of u ≡ before_items c o (line_of l)) where
-  value_as : (v : PropertyValue) → u ≡ v → property_value_of c o (line_of l) ≡ with_items c (value_of l) (reading_of v)
+module _ (c : Context) (o : Scope) (l : List ℕ) {u : Result PropertyValue ValueError} (q : reading_of u ≡ before_items c o (line_of l)) where
+  value_as : (v : Result PropertyValue ValueError) → u ≡ v → property_value_of c o (line_of l) ≡ with_items c (value_of l) (reading_of v)
   unfolding property_value_of line_of
   value_as v e = ap (with_items c (value_of l)) (sym q ∙ ap reading_of e)
 
-  value_unsupported : u ≡ PropertyValue.Unsupported → property_value_of c o (line_of l) ≡ fault ValueFault.unsupported
+  value_unsupported : u ≡ Err ValueError.Unsupported → property_value_of c o (line_of l) ≡ fault ValueFault.unsupported
   unfolding with_items reading_of
-  value_unsupported e = value_as PropertyValue.Unsupported e
+  value_unsupported e = value_as (Err ValueError.Unsupported) e
 
-  value_bad : u ≡ PropertyValue.Bad → property_value_of c o (line_of l) ≡ fault ValueFault.bad
+  value_bad : u ≡ Err ValueError.Bad → property_value_of c o (line_of l) ≡ fault ValueFault.bad
   unfolding with_items reading_of
-  value_bad e = value_as PropertyValue.Bad e
+  value_bad e = value_as (Err ValueError.Bad) e
 
-  module _ (y : BusyType) (e : u ≡ PropertyValue.HasPeriods y) {w : List ℕ} (f : w ≡ value_of l) where
+  module _ (y : BusyType) (e : u ≡ Ok (PropertyValue.HasPeriods y)) {w : List ℕ} (f : w ≡ value_of l) where
     periods_by_lem : (t : Bool) → all_periods (period_items w) ≡ t → property_value_of c o (line_of l) ≡ cond t (of (periods y)) (fault ValueFault.bad)
     unfolding with_items items_good reading_of
     periods_by_lem t h =
-        value_as (PropertyValue.HasPeriods y) e
+        value_as (Ok (PropertyValue.HasPeriods y)) e
         ∙ ap (λ (k : Bool). cond k (of (periods y)) (fault ValueFault.bad)) (ap (λ (k : List ℕ). all_periods (period_items k)) (sym f) ∙ h)
 
 -- ---- from line to line
@@ -134,7 +134,7 @@ pub record ReadingLines (c : Context) (t : Scope) (s rows : List ℕ) (xs : List
 
 -- the line l stands at i and is a property, and u is what it says before its periods are looked at
 pub record LineHere (c : Context) (t : Scope) (s rows : List ℕ) (xs : List Numbered) (a b : ℕ) (o₀ : List ℕ) (n₀ : ℕ) (o : List ℕ) (n : ℕ) (g : ComponentProperties) (i row j m : ℕ)
-    (l : List ℕ) (u : PropertyValue) : Type 0 where
+    (l : List ℕ) (u : Result PropertyValue ValueError) : Type 0 where
   pub reading : ReadingLines c t s rows xs a b o₀ n₀ o n g i row j m
   pub here : PropertyAt s rows i row j m
   pub line : l ≡ line_bytes s i
@@ -181,12 +181,12 @@ module _ {c : Context} {t : Scope} {s rows : List ℕ} {xs : List Numbered} {a b
   line_entry q e x = x.entries i (property_at_holds z.items q e).inside
 
   -- its value is read
-  pub line_read : {r : Item} {l : List ℕ} {u : PropertyValue} → r ≡ item_by rows i row j m → r ≡ Item.Property → l ≡ line_bytes s i → reading_of u ≡ before_items c t (line_of l)
+  pub line_read : {r : Item} {l : List ℕ} {u : Result PropertyValue ValueError} → r ≡ item_by rows i row j m → r ≡ Item.Property → l ≡ line_bytes s i → reading_of u ≡ before_items c t (line_of l)
       → LineHere c t s rows xs a b o₀ n₀ o n g i row j m l u
   line_read q e p f = record { reading = z; here = property_at_holds z.items q e; line = p; value = f }
 
 module _ {c : Context} {t : Scope} {s rows : List ℕ} {xs : List Numbered} {a b : ℕ} {o₀ : List ℕ} {n₀ : ℕ} {o : List ℕ} {n : ℕ} {g : ComponentProperties} {i row j m : ℕ} {l : List ℕ}
-    {u : PropertyValue} (z : LineHere c t s rows xs a b o₀ n₀ o n g i row j m l u) where
+    {u : Result PropertyValue ValueError} (z : LineHere c t s rows xs a b o₀ n₀ o n g i row j m l u) where
   -- what it says
   module _ {v : Reading} (q : property_value_of c t (line_of l) ≡ v) where
     value_here : property_value_of c t (numbered_line s i).line ≡ v
@@ -215,15 +215,15 @@ module _ {c : Context} {t : Scope} {s rows : List ℕ} {xs : List Numbered} {a b
         ∙ ap (λ (y : Reading). pieces_of a b (periods_by y (line_of l) ++ periods_in c t (properties_by s (i + 1)))) q
         ∙ pieces_of_append a b (periods_by v (line_of l)) (periods_in c t (properties_by s (i + 1)))
 
-  pub reading_unsupported : u ≡ PropertyValue.Unsupported → lines_fault c t xs ≡ ValueCheck.Unsupported (i + 1)
+  pub reading_unsupported : u ≡ Err ValueError.Unsupported → lines_fault c t xs ≡ Err (LineError.Unsupported (i + 1))
   unfolding fault_or
   reading_unsupported e = sym (fault_here (value_unsupported c t l z.value e))
 
-  pub reading_bad : u ≡ PropertyValue.Bad → lines_fault c t xs ≡ ValueCheck.Bad (i + 1)
+  pub reading_bad : u ≡ Err ValueError.Bad → lines_fault c t xs ≡ Err (LineError.Bad (i + 1))
   unfolding fault_or
   reading_bad e = sym (fault_here (value_bad c t l z.value e))
 
-  pub reading_plain : {v : PropertyValue} {g' : ComponentProperties} → u ≡ v → g' ≡ with_property g (reading_of v) → Plain (reading_of v) → ReadingLines c t s rows xs a b o₀ n₀ o n g' (i + 1) row j m
+  pub reading_plain : {v : Result PropertyValue ValueError} {g' : ComponentProperties} → u ≡ v → g' ≡ with_property g (reading_of v) → Plain (reading_of v) → ReadingLines c t s rows xs a b o₀ n₀ o n g' (i + 1) row j m
   reading_plain {v} e f y =
       let so = plain_so (i + 1) (lines_fault c t (properties_by s (i + 1))) (line_of l) c (value_of l) (reading_of v) y in
       let w : property_value_of c t (line_of l) ≡ reading_of v = value_as c t l z.value v e ∙ so.2 in
@@ -238,12 +238,12 @@ module _ {c : Context} {t : Scope} {s rows : List ℕ} {xs : List Numbered} {a b
             ∙ ap (λ (ps : List BusyPeriod). ps ++ pieces_of a b (periods_in c t (properties_by s (i + 1)))) (pieces_of_none a b));
       }
 
-  module _ {y : BusyType} (e : u ≡ PropertyValue.HasPeriods y) {w : List ℕ} (f : w ≡ value_of l) {o' : List ℕ} {r : ValueStored} (k : ValueIs y w a b o n o' r) where
-    pub reading_bad_period : r ≡ ValueStored.Bad → lines_fault c t xs ≡ ValueCheck.Bad (i + 1)
+  module _ {y : BusyType} (e : u ≡ Ok (PropertyValue.HasPeriods y)) {w : List ℕ} (f : w ≡ value_of l) {o' : List ℕ} {r : Option ℕ} (k : ValueIs y w a b o n o' r) where
+    pub reading_bad_period : r ≡ None → lines_fault c t xs ≡ Err (LineError.Bad (i + 1))
     unfolding fault_or
     reading_bad_period x = sym (fault_here (periods_by_lem c t l z.value y e f false (value_unread k x)))
 
-    pub reading_periods : (n' : ℕ) → r ≡ ValueStored.Of n' → ReadingLines c t s rows xs a b o₀ n₀ o' n' g (i + 1) row j m
+    pub reading_periods : (n' : ℕ) → r ≡ Some n' → ReadingLines c t s rows xs a b o₀ n₀ o' n' g (i + 1) row j m
     unfolding fault_or with_property periods_by line_of value_periods
     reading_periods n' x =
         let (d, st) = value_stored k n' x in
@@ -262,14 +262,14 @@ module _ {c : Context} {t : Scope} {s rows : List ℕ} {xs : List Numbered} {a b
         }
 
   -- the times of an EXDATE line: bad where one is, else the line says no more of the event
-  module _ {x : Form} (e : u ≡ PropertyValue.HasExceptions x) {w : List ℕ} (f : w ≡ value_of l) where
+  module _ {x : Form} (e : u ≡ Ok (PropertyValue.HasExceptions x)) {w : List ℕ} (f : w ≡ value_of l) where
     times_by : (y : Bool) → all_times (time_items c x w) ≡ y → property_value_of c t (line_of l) ≡ cond y (of (identity (exceptions x))) (fault ValueFault.bad)
     unfolding with_items items_good reading_of
     times_by y h =
-        value_as c t l z.value (PropertyValue.HasExceptions x) e
+        value_as c t l z.value (Ok (PropertyValue.HasExceptions x)) e
         ∙ ap (λ (k : Bool). cond k (of (identity (exceptions x))) (fault ValueFault.bad)) (ap (λ (k : List ℕ). all_times (time_items c x k)) (sym f) ∙ h)
 
-    pub reading_bad_time : all_times (time_items c x w) ≡ false → lines_fault c t xs ≡ ValueCheck.Bad (i + 1)
+    pub reading_bad_time : all_times (time_items c x w) ≡ false → lines_fault c t xs ≡ Err (LineError.Bad (i + 1))
     unfolding fault_or
     reading_bad_time h = sym (fault_here (times_by false h))
 
@@ -290,40 +290,34 @@ module _ {c : Context} {t : Scope} {s rows : List ℕ} {xs : List Numbered} {a b
         }
 
   -- what the other lines say
-  pub plain_said : {v : PropertyValue} → u ≡ v → Plain (reading_of v) → property_value_of c t (numbered_line s i).line ≡ reading_of v
-  plain_said {v} e y = value_here (value_as c t l z.value v e ∙ (plain_so (i + 1) ValueCheck.Good (line_of l) c (value_of l) (reading_of v) y).2)
+  pub plain_said : {v : Result PropertyValue ValueError} → u ≡ v → Plain (reading_of v) → property_value_of c t (numbered_line s i).line ≡ reading_of v
+  plain_said {v} e y = value_here (value_as c t l z.value v e ∙ (plain_so (i + 1) (Ok tt) (line_of l) c (value_of l) (reading_of v) y).2)
 
-  pub periods_said : {y : BusyType} → u ≡ PropertyValue.HasPeriods y → {w : List ℕ} → w ≡ value_of l → all_periods (period_items w) ≡ true
+  pub periods_said : {y : BusyType} → u ≡ Ok (PropertyValue.HasPeriods y) → {w : List ℕ} → w ≡ value_of l → all_periods (period_items w) ≡ true
       → property_value_of c t (numbered_line s i).line ≡ of (periods y)
   periods_said {y} e f h = value_here (periods_by_lem c t l z.value y e f true h)
 
 -- ---- what the answers say
 
-module _ {c : Context} {t : Scope} {s index : List ℕ} {xs : List Numbered} {stop a b : ℕ} {o : List ℕ} {n : ℕ} {o' e₀ : List ℕ} {held : ℕ} {e' : List ℕ} {r : LinesRead}
+module _ {c : Context} {t : Scope} {s index : List ℕ} {xs : List Numbered} {stop a b : ℕ} {o : List ℕ} {n : ℕ} {o' e₀ : List ℕ} {held : ℕ} {e' : List ℕ} {r : Result LinesRead LineError}
     (h : LinesAre c t s index xs stop a b o n o' e₀ held e' r) where
-  pub lines_of : (g : ComponentProperties) (y : IdentityRead) (m : ℕ) → r ≡ LinesRead.Of g y m → LinesGood c t xs a b o n o' g m
-  lines_of g y m e = go (subst (LinesAre c t s index xs stop a b o n o' e₀ held e') e h)
+  pub lines_of : (x : LinesRead) → r ≡ Ok x → LinesGood c t xs a b o n o' x.properties x.count
+  lines_of x e = go (subst (LinesAre c t s index xs stop a b o n o' e₀ held e') e h)
     where
-      go : LinesAre c t s index xs stop a b o n o' e₀ held e' (LinesRead.Of g y m) → LinesGood c t xs a b o n o' g m
-      go (good x w) = x
+      go : LinesAre c t s index xs stop a b o n o' e₀ held e' (Ok x) → LinesGood c t xs a b o n o' x.properties x.count
+      go (good y w) = y
 
-  pub lines_tie : (g : ComponentProperties) (y : IdentityRead) (m : ℕ) → r ≡ LinesRead.Of g y m → LinesTie c t s index xs e₀ held e' stop y
-  lines_tie g y m e = go (subst (LinesAre c t s index xs stop a b o n o' e₀ held e') e h)
+  pub lines_tie : (x : LinesRead) → r ≡ Ok x → LinesTie c t s index xs e₀ held e' stop x.identity
+  lines_tie x e = go (subst (LinesAre c t s index xs stop a b o n o' e₀ held e') e h)
     where
-      go : LinesAre c t s index xs stop a b o n o' e₀ held e' (LinesRead.Of g y m) → LinesTie c t s index xs e₀ held e' stop y
-      go (good x w) = w
+      go : LinesAre c t s index xs stop a b o n o' e₀ held e' (Ok x) → LinesTie c t s index xs e₀ held e' stop x.identity
+      go (good y w) = w
 
-  pub lines_unsupported : (i : ℕ) → r ≡ LinesRead.Unsupported i → lines_fault c t xs ≡ ValueCheck.Unsupported i
-  lines_unsupported i e = go (subst (LinesAre c t s index xs stop a b o n o' e₀ held e') e h)
+  pub lines_refused : (f : LineError) → r ≡ Err f → lines_fault c t xs ≡ Err f
+  lines_refused f e = go (subst (LinesAre c t s index xs stop a b o n o' e₀ held e') e h)
     where
-      go : LinesAre c t s index xs stop a b o n o' e₀ held e' (LinesRead.Unsupported i) → lines_fault c t xs ≡ ValueCheck.Unsupported i
-      go (unsupported y) = y
-
-  pub lines_bad : (i : ℕ) → r ≡ LinesRead.Bad i → lines_fault c t xs ≡ ValueCheck.Bad i
-  lines_bad i e = go (subst (LinesAre c t s index xs stop a b o n o' e₀ held e') e h)
-    where
-      go : LinesAre c t s index xs stop a b o n o' e₀ held e' (LinesRead.Bad i) → lines_fault c t xs ≡ ValueCheck.Bad i
-      go (bad y) = y
+      go : LinesAre c t s index xs stop a b o n o' e₀ held e' (Err f) → lines_fault c t xs ≡ Err f
+      go (refused y) = y
 
 -- ---- the periods of an event's lines, which has none, and of a block's
 

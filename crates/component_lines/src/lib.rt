@@ -1,5 +1,7 @@
 // The lines directly in an event or a block: the first fault of a value, or what they say together and the busy pieces of their periods.
 // A fault ends the reading, since it goes before any rule.
+// Columns are lent with counts and places in them, and the room of `exceptions` is a clause (no heap); the range is two numbers, and the context stands beside it:
+// docs/TRACE.md names `read_lines` and `store_value`, which take them so.
 #![tactic(auto)]
 
 ghost use Rattle.std.specs.Prelude.{◌≡◌, ◌+◌, ◌-◌, ◌*◌, ◌≤◌, length, get_or};
@@ -12,37 +14,25 @@ ghost use Rattle.pieces.specs.Columns.{Room};
 ghost use Rattle.component_lines.specs.Identities.{RoomFrom};
 ghost use Rattle.component_lines.specs.Lines.{ValueIs, LinesAre};
 
+use calendar::LineError;
 use events::{ComponentProperties, properties};
 use identities::IdentityRead;
-use line::{read, split};
+use line::read;
 use periods::BusyType;
 use pieces::storing;
 use property::{PropertyValue, Scope};
+use structure::calendar::Calendar;
 use structure::items::Item;
-use structure::{items, rows};
-use values::period::PeriodRead;
-use values::time_lists::TimesStored;
+use values::rule::ValueError;
 use values::times::Context;
 use values::{period, time_lists};
 
-// What storing the periods of a value answers.
+// What the lines of a component say together, what ties it to others, and how many pieces stand.
 #[derive(Clone, Copy)]
-pub enum ValueStored {
-    // So many pieces stand.
-    Of(usize),
-    // One of the items is no period.
-    Bad,
-}
-
-// What reading the lines of a component answers.
-#[derive(Clone, Copy)]
-pub enum LinesRead {
-    // What they say together, what ties the component to others, and how many pieces stand.
-    Of(ComponentProperties, IdentityRead, usize),
-    // Refusal 8, at the line of this number.
-    Unsupported(usize),
-    // Refusal 9.
-    Bad(usize),
+pub struct LinesRead {
+    pub properties: ComponentProperties,
+    pub identity: IdentityRead,
+    pub count: usize,
 }
 
 // Every period of a FREEBUSY value, read and stored in one pass.
@@ -53,27 +43,18 @@ fn store_value(
     v: &[u8],
     a: u64,
     b: u64,
-) -> ValueStored
+) -> Option<usize>
     requires room { Room column.old }
     requires first_bound { first ≤ 513 }
     requires b_le_last_second { b ≤ last_second }
     ensures { ValueIs busy v.now a b column.old first column.new result }
 {
     let mut n = first;
-    let mut from: usize = 0;
-    loop {
-        let e = split::find(v, from, 44, false);
-        match period::read_period(&v[from..e]) {
-            PeriodRead::Of(p) => {
-                n = storing::store_period(column, n, busy, p.start, p.end, a, b);
-                if v.len() <= e {
-                    return ValueStored::Of(n);
-                }
-                from = e + 1;
-            }
-            PeriodRead::Bad => return ValueStored::Bad,
-        }
+    for item in v.split(|&b| b == 44) {
+        let p = period::read_period(item)?;
+        n = storing::store_period(column, n, busy, p.start, p.end, a, b);
     }
+    Some(n)
 }
 
 // The lines directly in the component of row k, which is an event or a block. Each arm reads one kind of line,
@@ -83,78 +64,77 @@ pub fn read_lines(
     first: usize,
     exceptions: &mut [u32],
     held: usize,
-    s: &[u8],
-    index: &[u32],
-    rows: &[u32],
+    cal: &Calendar,
     k: usize,
     scope: Scope,
     c: Context,
     a: u64,
     b: u64,
-) -> LinesRead
+) -> Result<LinesRead, LineError>
     requires room { Room column.old }
     requires first_bound { first ≤ 513 }
     requires context_good { ContextGood c }
-    requires indexed { Indexed s.now index.now }
-    requires row_of { RowOf s.now rows.now k }
+    requires indexed { Indexed cal.now.text.now cal.now.index.now }
+    requires row_of { RowOf cal.now.text.now cal.now.rows.now k }
     requires b_le_last_second { b ≤ last_second }
-    requires s_len_bound { length s.now ≤ 8 * length exceptions.old }
-    requires room_from { RoomFrom s.now index.now (get_or rows.now (4 * k) 0) held }
+    requires s_len_bound { length cal.now.text.now ≤ 8 * length exceptions.old }
+    requires room_from { RoomFrom cal.now.text.now cal.now.index.now (get_or cal.now.rows.now (4 * k) 0) held }
     requires held_in_bounds { held ≤ length exceptions.old }
-    ensures { LinesAre c scope s.now index.now (properties_in (component_by s.now rows.now k).items) (get_or rows.now (4 * k + 1) 0 - 1) a b column.old first column.new exceptions.old held exceptions.new result }
+    ensures { LinesAre c scope cal.now.text.now cal.now.index.now (properties_in (component_by cal.now.text.now cal.now.rows.now k).items) (get_or cal.now.rows.now (4 * k + 1) 0 - 1) a b column.old first column.new exceptions.old held exceptions.new result }
 {
-    let stop = rows::line_behind(rows, k) - 1;
-    let last = rows::next_row(rows, k);
+    let stop = cal.line_behind(k) - 1;
+    let last = cal.next_row(k);
     let mut n = first;
     let mut g = properties::no_properties();
     let mut y = identities::no_identity(held);
-    let mut i = rows::first_line(rows, k);
+    let mut i = cal.first_line(k);
     let mut row = k + 1;
+    // A `loop`: a line is passed by one, an inner component by its rows.
     loop {
-        match items::item_at(rows, i, row, stop, last) {
+        match cal.item_at(i, row, stop, last) {
             Item::Property => {
                 let next = i + 1;
-                let line = index::line_at(s, index, i);
-                let length = index::name_length(index, i);
+                let line = cal.line_at(i);
+                let length = cal.name_length(i);
                 match property::property_value(c, scope, line, length) {
-                    PropertyValue::Nothing => {
+                    Ok(PropertyValue::Nothing) => {
                         i = next;
                     }
-                    PropertyValue::Unsupported => return LinesRead::Unsupported(next),
-                    PropertyValue::Bad => return LinesRead::Bad(next),
-                    PropertyValue::Start(t) => {
+                    Err(ValueError::Unsupported) => return Err(LineError::Unsupported(next)),
+                    Err(ValueError::Bad) => return Err(LineError::Bad(next)),
+                    Ok(PropertyValue::Start(t)) => {
                         g = properties::with_start(g, t);
                         i = next;
                     }
-                    PropertyValue::End(t) => {
+                    Ok(PropertyValue::End(t)) => {
                         g = properties::with_end(g, t);
                         i = next;
                     }
-                    PropertyValue::Lasts(d) => {
+                    Ok(PropertyValue::Lasts(d)) => {
                         g = properties::with_lasts(g, d);
                         i = next;
                     }
-                    PropertyValue::Repeats(r) => {
+                    Ok(PropertyValue::Repeats(r)) => {
                         g = properties::with_repeats(g, r);
                         i = next;
                     }
-                    PropertyValue::HasStatus(x) => {
+                    Ok(PropertyValue::HasStatus(x)) => {
                         g = properties::with_status(g, x);
                         i = next;
                     }
-                    PropertyValue::Transparent(x) => {
+                    Ok(PropertyValue::Transparent(x)) => {
                         g = properties::with_transparency(g, x);
                         i = next;
                     }
-                    PropertyValue::Uid => {
+                    Ok(PropertyValue::Uid) => {
                         y = identities::with_uid(y, next);
                         i = next;
                     }
-                    PropertyValue::RecurrenceId(t) => {
+                    Ok(PropertyValue::RecurrenceId(t)) => {
                         y = identities::with_recurrence(y, t);
                         i = next;
                     }
-                    PropertyValue::HasExceptions(form) => {
+                    Ok(PropertyValue::HasExceptions(form)) => {
                         let before = y.held;
                         let kinds = y.kinds;
                         match time_lists::store_times(
@@ -165,20 +145,20 @@ pub fn read_lines(
                             form,
                             read::value(line),
                         ) {
-                            TimesStored::Of(m, more) => {
+                            Some((m, more)) => {
                                 y = identities::with_exceptions(y, more, m);
                                 i = next;
                             }
-                            TimesStored::Bad => return LinesRead::Bad(next),
+                            None => return Err(LineError::Bad(next)),
                         }
                     }
-                    PropertyValue::HasPeriods(busy) => {
+                    Ok(PropertyValue::HasPeriods(busy)) => {
                         match store_value(column, n, busy, read::value(line), a, b) {
-                            ValueStored::Of(m) => {
+                            Some(m) => {
                                 n = m;
                                 i = next;
                             }
-                            ValueStored::Bad => return LinesRead::Bad(next),
+                            None => return Err(LineError::Bad(next)),
                         }
                     }
                 }
@@ -187,7 +167,13 @@ pub fn read_lines(
                 i = next;
                 row = after;
             }
-            Item::Done => return LinesRead::Of(g, y, n),
+            Item::Done => {
+                return Ok(LinesRead {
+                    properties: g,
+                    identity: y,
+                    count: n,
+                })
+            }
         }
     }
 }

@@ -1,27 +1,9 @@
 // The numbers among the arguments; what is wrong with one is said here.
-// A caller that gets none has nothing more to print.
-ghost use Rattle.std.specs.Prelude.{◌≤◌, length};
-
 use crate::out;
-use cli::arguments::{Number, Offset};
+use crate::stop::Stop;
+use cli::arguments::{Plan, offset_of, second_of};
 use std::env::FillError;
-use std::io;
 use std::rt::Env;
-
-// What a report is asked for.
-#[derive(Clone, Copy)]
-pub struct Plan {
-    pub start: u64,
-    pub end: u64,
-    pub offset: i64,
-    pub stamp: u64,
-}
-
-#[derive(Clone, Copy)]
-pub enum Planned {
-    Of(Plan),
-    Bad,
-}
 
 // How many arguments there are, the program's name among them.
 pub fn count(rt: &impl Env) -> usize {
@@ -33,76 +15,60 @@ pub fn count(rt: &impl Env) -> usize {
     usize::MAX
 }
 
-// Argument i at the start of a buffer, and its length: 0 where it is missing or longer than the buffer.
-pub fn word_at(rt: &impl Env, i: usize, into: &mut [u8]) -> usize
-    ensures { result ≤ length into.new }
+// Argument i, or nothing where it is missing or longer than the buffer.
+pub fn word_at<'a>(rt: &impl Env, i: usize, into: &'a mut [u8]) -> &'a [u8] {
+    let n = rt.arg(i, into).unwrap_or(0);
+    &into[..n]
+}
+
+// Argument i as what it is read to be; the words say what that is.
+fn value_at<T, F: FnOnce(&[u8]) -> Option<T>>(
+    rt: &(impl Env + Print),
+    i: usize,
+    wanted: &str,
+    read: F,
+) -> Result<T, Stop>
+    requires { F.IsAlwaysCallable read }
 {
-    match rt.arg(i, into) {
-        Ok(n) => n,
-        Err(_) => 0,
+    let mut buffer = [0u8; 64];
+    let word = word_at(rt, i, &mut buffer);
+    match read(word) {
+        Some(value) => Ok(value),
+        None => out::wrong_word(rt, wanted, word),
     }
 }
 
 // Argument i as a second.
-fn second_at(rt: &(impl Env + Print), i: usize) -> io::Result<Number> {
-    let mut word = [0u8; 64];
-    let n = word_at(rt, i, &mut word);
-    let read = cli::arguments::second_of(&word[..n]);
-    match read {
-        Number::Of(t) => Ok(Number::Of(t)),
-        Number::Bad => {
-            out::wrong_word(
-                rt,
-                b"a time is seconds or UTC as 20240311T080000Z",
-                &word[..n],
-            )?;
-            Ok(Number::Bad)
-        }
-    }
+fn second_at(rt: &(impl Env + Print), i: usize) -> Result<u64, Stop> {
+    value_at(
+        rt,
+        i,
+        "a time is seconds or UTC as 20240311T080000Z",
+        second_of,
+    )
 }
 
 // Argument i as an offset.
-pub fn offset_at(rt: &(impl Env + Print), i: usize) -> io::Result<Offset> {
-    let mut word = [0u8; 64];
-    let n = word_at(rt, i, &mut word);
-    let read = cli::arguments::offset_of(&word[..n]);
-    match read {
-        Offset::Of(z) => Ok(Offset::Of(z)),
-        Offset::Bad => {
-            out::wrong_word(
-                rt,
-                b"an offset is seconds as -18000, or as +02:00",
-                &word[..n],
-            )?;
-            Ok(Offset::Bad)
-        }
-    }
+pub fn offset_at(rt: &(impl Env + Print), i: usize) -> Result<i64, Stop> {
+    value_at(
+        rt,
+        i,
+        "an offset is seconds as -18000, or as +02:00",
+        offset_of,
+    )
 }
 
-// Start, end, offset and stamp by their numbers among the arguments.
-pub fn read_plan(
-    rt: &(impl Env + Print),
-    start: usize,
-    end: usize,
-    offset: usize,
-    stamp: usize,
-) -> io::Result<Planned> {
-    let Number::Of(start) = second_at(rt, start)? else {
-        return Ok(Planned::Bad);
-    };
-    let Number::Of(end) = second_at(rt, end)? else {
-        return Ok(Planned::Bad);
-    };
-    let Offset::Of(offset) = offset_at(rt, offset)? else {
-        return Ok(Planned::Bad);
-    };
-    let Number::Of(stamp) = second_at(rt, stamp)? else {
-        return Ok(Planned::Bad);
-    };
-    Ok(Planned::Of(Plan {
+// Start, end, offset and stamp, which are four arguments in a row.
+pub fn read_plan(rt: &(impl Env + Print), first: u8) -> Result<Plan, Stop> {
+    let first = usize::from(first);
+    let start = second_at(rt, first)?;
+    let end = second_at(rt, first + 1)?;
+    let offset = offset_at(rt, first + 2)?;
+    let stamp = second_at(rt, first + 3)?;
+    Ok(Plan {
         start,
         end,
         offset,
         stamp,
-    }))
+    })
 }

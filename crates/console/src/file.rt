@@ -1,24 +1,39 @@
 // Files: read whole up to a buffer's length, and written, with word of what was replaced.
 // A buffer is longer than any calendar that is answered, so a longer file is refused by the engine.
+ghost use Rattle.std.specs.Prelude.{◌≤◌, length, IfOk};
+
+use crate::stop::Stop;
 use crate::{args, out};
 use std::fs::{File, OpenOptions};
 use std::io;
 use std::io::{ErrorKind, Read, Write};
 use std::rt::{Env, Files};
+use thiserror::Error;
 
-// How many bytes were read, or the system's error.
-#[derive(Clone, Copy)]
-pub enum Got {
-    Bytes(usize),
-    Failed(i32),
+// Why a file was not read, as people are told.
+#[derive(Clone, Copy, Debug, PartialEq, Eq, Error)]
+pub enum Reason {
+    #[error("there is no such file")]
+    Missing,
+    #[error("there is no leave to read it")]
+    NoLeave,
+    #[error("a part of its path is no directory")]
+    NoDirectory,
+    #[error("it is a directory")]
+    Directory,
+    #[error("it is no file name")]
+    NoName,
+    #[error("its name is too long")]
+    LongName,
+    #[error("the system could not read it")]
+    Other,
 }
 
 // What became of a file that was written.
-#[derive(Clone, Copy)]
+#[derive(Clone, Copy, Debug, PartialEq, Eq)]
 pub enum Saved {
     New,
     Replaced,
-    Failed,
 }
 
 // The system's numbers for what is no file name and for a name that is too long.
@@ -26,15 +41,24 @@ const NO_NAME: i32 = 22;
 
 const LONG_NAME: i32 = 36;
 
+fn reason_of(code: i32) -> Reason {
+    match code {
+        2 => Reason::Missing,
+        13 => Reason::NoLeave,
+        20 => Reason::NoDirectory,
+        21 => Reason::Directory,
+        NO_NAME => Reason::NoName,
+        LONG_NAME => Reason::LongName,
+        _ => Reason::Other,
+    }
+}
+
 // A file's name as text, for the library opens a file by text alone.
 fn path_of(name: &[u8]) -> io::Result<&str> {
     if 4095 < name.len() {
         return Err(io::Error::from_raw_os_error(LONG_NAME));
     }
-    match std::str::from_utf8(name) {
-        Ok(text) => Ok(text),
-        Err(_) => Err(io::Error::from_raw_os_error(NO_NAME)),
-    }
+    std::str::from_utf8(name).map_err(|_| io::Error::from_raw_os_error(NO_NAME))
 }
 
 // The system's words for an error: the library writes its number behind them.
@@ -45,18 +69,21 @@ fn words_of(told: &str) -> &str {
     }
 }
 
-// The system's error; its own words go to standard error, and nothing hangs on whether they arrive.
-fn failed(rt: &(impl Eprint + Alloc), name: &[u8], error: io::Error) -> io::Result<Got> {
+// The system's own words go to standard error, and nothing hangs on whether they arrive.
+pub fn tell(rt: &(impl Eprint + Alloc), name: &[u8], error: io::Error) -> io::Result<Reason> {
     let code = error.raw_os_error().unwrap_or(NO_NAME);
     let told = format!(in rt.alloc(); "{}", io::Error::from_raw_os_error(code))?;
     let shown = String::from_utf8_lossy(rt.alloc(), name)?;
     let _ = eprintln!(rt; "{shown}: {}", words_of(&told));
-    Ok(Got::Failed(code))
+    Ok(reason_of(code))
 }
 
 // Reads until the buffer is full, the file ends or a read fails.
-fn read_all(file: &mut impl Read, into: &mut [u8]) -> io::Result<usize> {
+fn read_all(file: &mut impl Read, into: &mut [u8]) -> io::Result<usize>
+    ensures { IfOk result (λ n. n ≤ length into.new) }
+{
     let mut n = 0;
+    // Kept: a read goes on by as many bytes as it got, so there is no sequence to go over.
     while n < into.len() {
         let more = file.read(&mut into[n..])?;
         if more == 0 {
@@ -67,22 +94,11 @@ fn read_all(file: &mut impl Read, into: &mut [u8]) -> io::Result<usize> {
     Ok(n)
 }
 
-// Opens the file and reads it.
-fn read_path(rt: &impl Files, name: &[u8], into: &mut [u8]) -> io::Result<usize> {
-    let mut file = File::open(rt, path_of(name)?)?;
-    read_all(&mut file, into)
-}
-
 // The first bytes of a file, as many as the buffer holds.
-pub fn read_file(
-    rt: &(impl Files + Eprint + Alloc),
-    name: &[u8],
-    into: &mut [u8],
-) -> io::Result<Got> {
-    match read_path(rt, name, into) {
-        Ok(n) => Ok(Got::Bytes(n)),
-        Err(error) => failed(rt, name, error),
-    }
+pub fn read_file<'a>(rt: &impl Files, name: &[u8], into: &'a mut [u8]) -> io::Result<&'a [u8]> {
+    let mut file = File::open(rt, path_of(name)?)?;
+    let n = read_all(&mut file, into)?;
+    Ok(&into[..n])
 }
 
 // Opens a file as it is asked, and writes it.
@@ -92,11 +108,7 @@ fn write_through(rt: &impl Files, how: &OpenOptions, name: &[u8], bytes: &[u8]) 
 }
 
 // Writes a file that is to be new; one that is there already is replaced.
-pub fn save_file(
-    rt: &(impl Files + Eprint + Alloc),
-    name: &[u8],
-    bytes: &[u8],
-) -> io::Result<Saved> {
+pub fn save_file(rt: &impl Files, name: &[u8], bytes: &[u8]) -> io::Result<Saved> {
     let mut how = OpenOptions::new();
     how.write(true).create_new(true);
     let error = match write_through(rt, &how, name, bytes) {
@@ -104,42 +116,37 @@ pub fn save_file(
         Err(error) => error,
     };
     if error.kind() != ErrorKind::AlreadyExists {
-        failed(rt, name, error)?;
-        return Ok(Saved::Failed);
+        return Err(error);
     }
     how.create_new(false).create(true).truncate(true);
-    match write_through(rt, &how, name, bytes) {
-        Ok(()) => Ok(Saved::Replaced),
-        Err(error) => {
-            failed(rt, name, error)?;
-            Ok(Saved::Failed)
-        }
-    }
+    write_through(rt, &how, name, bytes)?;
+    Ok(Saved::Replaced)
 }
 
 // The same as read_file, and a file that cannot be read is said.
-pub fn read_or_say(
+pub fn read_or_say<'a>(
     rt: &(impl Files + Print + Eprint + Alloc),
     name: &[u8],
-    into: &mut [u8],
-) -> io::Result<Got> {
-    let got = read_file(rt, name, into)?;
-    match got {
-        Got::Bytes(n) => Ok(Got::Bytes(n)),
-        Got::Failed(e) => {
-            out::unreadable(rt, name, e)?;
-            Ok(Got::Failed(e))
+    into: &'a mut [u8],
+) -> Result<&'a [u8], Stop> {
+    match read_file(rt, name, into) {
+        Ok(bytes) => Ok(bytes),
+        Err(error) => {
+            let reason = tell(rt, name, error)?;
+            out::unreadable(rt, name, reason)?;
+            Err(Stop::Said)
         }
     }
 }
 
 // Argument i as a file's name.
-pub fn file_at(
+// Not one with `query::query_at`: they share two lines, and a function over what each does with the name would be as long.
+pub fn file_at<'a>(
     rt: &(impl Env + Files + Print + Eprint + Alloc),
     i: usize,
-    into: &mut [u8],
-) -> io::Result<Got> {
-    let mut name = [0u8; 4096];
-    let n = args::word_at(rt, i, &mut name);
-    read_or_say(rt, &name[..n], into)
+    into: &'a mut [u8],
+) -> Result<&'a [u8], Stop> {
+    let mut buffer = [0u8; 4096];
+    let name = args::word_at(rt, i, &mut buffer);
+    read_or_say(rt, name, into)
 }

@@ -7,3 +7,5 @@ pub mod fault_line;
 pub mod file;
 pub mod out;
 pub mod query;
+pub mod room;
+pub mod stop;

@@ -1,61 +1,51 @@
 // The query's file: binary, or hex by its name.
 // A file in bad hex is a wrong argument, and no refusal.
-use crate::file::Got;
+use crate::stop::Stop;
 use crate::{args, file, out};
-use cli::hex::Decoded;
-use std::io;
+use cli::arguments::is_hex_name;
+use cli::hex::{HexError, decode_hex};
 use std::rt::{Env, Files};
 
-fn from_hex(
+// One that is too long stays too long for the engine.
+fn from_hex<'a>(
     rt: &impl Print,
     name: &[u8],
     text: &[u8],
-    n: usize,
-    query: &mut [u8],
-) -> io::Result<Got> {
-    if text.len() <= n {
-        out::wrong(
-            rt,
-            b"the text of a .hex query is at most 131,071 bytes long",
-        )?;
-        return Ok(Got::Failed(0));
-    }
-    let read = cli::hex::decode_hex(query, &text[0..n]);
-    match read {
-        Decoded::Of(k) => Ok(Got::Bytes(k)),
-        Decoded::TooLong => Ok(Got::Bytes(query.len())),
-        Decoded::Bad => {
-            out::wrong_word(rt, b"a .hex query is pairs of hex digits", name)?;
-            Ok(Got::Failed(0))
-        }
+    query: &'a mut [u8],
+) -> Result<&'a [u8], Stop> {
+    match decode_hex(query, text) {
+        Ok(n) => Ok(&query[..n]),
+        Err(HexError::TooLong) => Ok(query),
+        Err(HexError::Bad) => out::wrong_word(rt, HexError::Bad, name),
     }
 }
 
-// The query's bytes; one that is too long stays too long for the engine.
-fn read_query(
+// The query's bytes.
+fn read_query<'a>(
     rt: &(impl Files + Print + Eprint + Alloc),
     name: &[u8],
     text: &mut [u8],
-    query: &mut [u8],
-) -> io::Result<Got> {
-    if !cli::arguments::is_hex_name(name) {
+    query: &'a mut [u8],
+) -> Result<&'a [u8], Stop> {
+    if !is_hex_name(name) {
         return file::read_or_say(rt, name, query);
     }
-    let got = file::read_or_say(rt, name, text)?;
-    match got {
-        Got::Bytes(n) => from_hex(rt, name, text, n, query),
-        Got::Failed(e) => Ok(Got::Failed(e)),
+    let room = text.len();
+    let text = file::read_or_say(rt, name, text)?;
+    if text.len() == room {
+        return out::wrong(rt, "the text of a .hex query is at most 131,071 bytes long");
     }
+    from_hex(rt, name, text, query)
 }
 
 // Argument i as a query's file; the text of a hex file goes through a buffer that is lent.
-pub fn query_at(
+pub fn query_at<'a>(
     rt: &(impl Env + Files + Print + Eprint + Alloc),
     i: usize,
     text: &mut [u8],
-    query: &mut [u8],
-) -> io::Result<Got> {
-    let mut name = [0u8; 4096];
-    let n = args::word_at(rt, i, &mut name);
-    read_query(rt, &name[..n], text, query)
+    query: &'a mut [u8],
+) -> Result<&'a [u8], Stop> {
+    let mut buffer = [0u8; 4096];
+    let name = args::word_at(rt, i, &mut buffer);
+    read_query(rt, name, text, query)
 }

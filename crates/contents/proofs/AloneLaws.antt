@@ -1,4 +1,5 @@
 -- What was gathered of an event's lines decides which rules of R-3 it breaks by itself.
+use Rattle.std.specs.Prelude.{Some}
 use Prim.Native.Nat.{ℕ}
 use mathlib.Core.Path.{◌≡◌, refl, sym, ap, ◌∙◌}
 use mathlib.Core.Bool.{Bool, true, false, cond, not, ◌&&◌, ◌||◌, or_assoc, or-false}
@@ -10,13 +11,12 @@ use Rattle.values.specs.TimeLists.{kind_number, same_kind, with_kind, with_kinds
 use Rattle.values.specs.declared.times.Time.{Time}
 use Rattle.values.specs.declared.time_lists.Kinds.{Kinds}
 use Rattle.events.specs.declared.Event.{Event}
-use Rattle.events.specs.declared.EventRead.{EventRead}
 use Rattle.overrides.specs.Lists.{some, is_empty, two_or_more}
 use Rattle.overrides.specs.VEvents.{VEvent, is_master, is_override}
 use Rattle.overrides.specs.Rules.{has_rule, other_kind, override_breaks, event_breaks, breaks_alone}
 use Rattle.calendar.specs.Identities.{Identity}
-use Rattle.identities.specs.declared.UidGiven.{UidGiven}
-use Rattle.identities.specs.declared.RecurrenceGiven.{RecurrenceGiven}
+use Rattle.values.specs.declared.given.Given.{Given}
+use Rattle.identities.specs.declared.RecurrenceId.{RecurrenceId}
 use Rattle.identities.specs.declared.IdentityRead.{IdentityRead}
 use Rattle.series.specs.Identities.{UidTies, RecurrenceTies, Ties}
 use Rattle.contents.specs.Alone.{several_uids, no_uid, other_kinds, some_kinds, override_by, alone_by}
@@ -81,34 +81,34 @@ either_true : (a b c : Bool) → (a || true || b || c) ≡ true
 either_true true b c = refl
 either_true false b c = refl
 
-several_uids_lem : (s : List ℕ) (g : UidGiven) (us : List (List ℕ)) → UidTies s g us → several_uids g ≡ two_or_more us
+several_uids_lem : (s : List ℕ) (g : Given ℕ) (us : List (List ℕ)) → UidTies s g us → several_uids g ≡ two_or_more us
 unfolding several_uids two_or_more
-several_uids_lem s UidGiven.None us e = sym (ap two_or_more e)
-several_uids_lem s (UidGiven.One n) us e = sym (ap two_or_more e.3)
-several_uids_lem s UidGiven.Several us e = sym e
+several_uids_lem s Given.None us e = sym (ap two_or_more e)
+several_uids_lem s (Given.One n) us e = sym (ap two_or_more e.3)
+several_uids_lem s Given.Several us e = sym e
 
-no_uids : (s : List ℕ) (g : UidGiven) (us : List (List ℕ)) → UidTies s g us → no_uid g ≡ is_empty us
+no_uids : (s : List ℕ) (g : Given ℕ) (us : List (List ℕ)) → UidTies s g us → no_uid g ≡ is_empty us
 unfolding no_uid is_empty
-no_uids s UidGiven.None us e = sym (ap is_empty e)
-no_uids s (UidGiven.One n) us e = sym (ap is_empty e.3)
-no_uids s UidGiven.Several us e = sym (two_some us e)
+no_uids s Given.None us e = sym (ap is_empty e)
+no_uids s (Given.One n) us e = sym (ap is_empty e.3)
+no_uids s Given.Several us e = sym (two_some us e)
 
 -- ---- all
 
 module _ (s : List ℕ) (y : IdentityRead) (i : Identity) (h : Ties s y i) (n : ℕ) (e : Event) where
   abbrev v : VEvent
-  v = record { begin = n; uids = i.uids; recurrence_ids = i.recurrence_ids; exceptions = i.exceptions; event = EventRead.Of e }
+  v = record { begin = n; uids = i.uids; recurrence_ids = i.recurrence_ids; exceptions = i.exceptions; event = Some e }
 
-  override_by_holds : (g : RecurrenceGiven) (ts : List Time) → RecurrenceTies g ts
+  override_by_holds : (g : Given RecurrenceId) (ts : List Time) → RecurrenceTies g ts
       → override_by g y.uid y.kinds (has_rule e.repeat) ≡ (not (is_empty ts) && (is_empty i.uids || two_or_more ts || not (is_empty i.exceptions) || has_rule e.repeat))
   unfolding override_by is_empty two_or_more
-  override_by_holds RecurrenceGiven.None ts q = sym (ap (λ (x : List Time). not (is_empty x) && (is_empty i.uids || two_or_more x || not (is_empty i.exceptions) || has_rule e.repeat)) q)
-  override_by_holds (RecurrenceGiven.One t) ts q =
+  override_by_holds Given.None ts q = sym (ap (λ (x : List Time). not (is_empty x) && (is_empty i.uids || two_or_more x || not (is_empty i.exceptions) || has_rule e.repeat)) q)
+  override_by_holds (Given.One t) ts q =
       ap (λ (b : Bool). b || some_kinds y.kinds || has_rule e.repeat) (no_uids s y.uid i.uids h.uid_ties)
       ∙ ap (λ (b : Bool). is_empty i.uids || b || has_rule e.repeat) (ap some_kinds h.kinds_are ∙ kinds_given i.exceptions)
       ∙ sym (ap (λ (b : Bool). b || not (is_empty i.exceptions) || has_rule e.repeat) (or-false (is_empty i.uids)))
       ∙ sym (ap (λ (x : List Time). not (is_empty x) && (is_empty i.uids || two_or_more x || not (is_empty i.exceptions) || has_rule e.repeat)) q.alone)
-  override_by_holds RecurrenceGiven.Several ts q =
+  override_by_holds Given.Several ts q =
       sym
       (ap (λ (b : Bool). not b && (is_empty i.uids || two_or_more ts || not (is_empty i.exceptions) || has_rule e.repeat)) (two_some ts q)
       ∙ ap (λ (b : Bool). is_empty i.uids || b || not (is_empty i.exceptions) || has_rule e.repeat) q

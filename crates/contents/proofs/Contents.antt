@@ -1,5 +1,9 @@
 -- Laws of reading the components right below VCALENDAR: what one adds, and how those before a row and those from it on make the whole.
+use Rattle.std.specs.Prelude.{Err, None, Ok, Option, Result, Some}
 use Prim.Native.Nat.{ℕ, ◌+◌, ◌*◌, ◌-◌, ◌≤◌, ◌<◌}
+use Rattle.nesting.specs.declared.StructureError.{StructureError}
+use Rattle.calendar.specs.declared.LineError.{LineError}
+use Rattle.std.specs.Result.{IsErrAnd}
 use mathlib.Core.Path.{◌≡◌, refl, sym, ap, subst, ◌∙◌}
 use mathlib.Core.Bool.{Bool, true, false, cond, ◌||◌}
 use mathlib.Core.List.{List, [], ◌∷◌, ◌++◌, append-nil, Memᴰ}
@@ -16,7 +20,6 @@ use Rattle.property.specs.declared.Scope.{Scope}
 use Rattle.periods.specs.BusyTypes.{BusyPeriod}
 use Rattle.nesting.specs.Components.{Numbered, Component, properties_in}
 use Rattle.nesting.specs.Files.{tree_in}
-use Rattle.nesting.specs.declared.Structure.{Structure}
 use Rattle.structure.specs.Rows.{numbered_line, RowOf, component_by, components_by, BelowAt, FileRows}
 use Rattle.structure.specs.Reading.{StructureRead}
 use Rattle.structure.proofs.ItemsLaws.{items_rise}
@@ -25,17 +28,13 @@ use Rattle.events.specs.Events.{event_by, block_by, block}
 use Rattle.events.specs.EntryRows.{event_row, block_row, event_at, block_at, EntryPut}
 use Rattle.events.specs.declared.ComponentProperties.{ComponentProperties}
 use Rattle.events.specs.declared.Event.{Event}
-use Rattle.events.specs.declared.EventRead.{EventRead}
 use Rattle.events.specs.declared.Block.{Block}
-use Rattle.events.specs.declared.BlockRead.{BlockRead}
 use Rattle.events.proofs.EntryRows.{event_put, block_put, event_kept, block_kept}
 use Rattle.calendar.specs.Checks.{rule_else}
 use Rattle.calendar.specs.Checks.{fault_else}
 use Rattle.calendar.specs.Meaning.{component_scope, fault_or, fault_in, value_fault, event_of, block_of, block_broken, broken_or, block_periods, removed_from, event_entry, block_entry, entry_of, entries_among, entries_of, components_of, file_lines, structure_fault, structure_refusal}
 use Rattle.calendar.proofs.Meaning.{structure_refusal_lem, no_refusal}
-use Rattle.calendar.specs.declared.ValueCheck.{ValueCheck}
-use Rattle.calendar.specs.declared.RuleCheck.{RuleCheck}
-use Rattle.calendar.specs.declared.Fault.{Fault}
+use Rattle.calendar.specs.declared.Refusal.{Refusal}
 use Rattle.calendar.proofs.Checks.{fault_in_else}
 use Rattle.pieces.specs.BusyPeriods.{stated_periods, gathered}
 use Rattle.pieces.specs.Pieces.{pieces_of}
@@ -51,8 +50,8 @@ use Rattle.overrides.specs.Rules.{breaks_alone, event_breaks}
 use Rattle.overrides.specs.Lists.{two_or_more}
 use Rattle.time.specs.Limits.{last_second}
 use Rattle.identities.specs.LinkRows.{UidSmall, RecurrenceSmall, link_row, link_at, LinkPut}
-use Rattle.identities.specs.declared.UidGiven.{UidGiven}
-use Rattle.identities.specs.declared.RecurrenceGiven.{RecurrenceGiven}
+use Rattle.values.specs.declared.given.Given.{Given}
+use Rattle.identities.specs.declared.RecurrenceId.{RecurrenceId}
 use Rattle.calendar.proofs.Identities.{identity_small}
 use Rattle.identities.specs.declared.IdentityRead.{IdentityRead}
 use Rattle.identities.specs.declared.rows.Link.{Link}
@@ -65,7 +64,7 @@ use Rattle.component_lines.specs.Identities.{excluded_in, LinesTie}
 use Rattle.series.proofs.MasterLaws.{one_second}
 use Rattle.contents.specs.Alone.{alone_by}
 use Rattle.series.specs.LinkRows.{gathered_in, link_from, LinkStands}
-use Rattle.contents.specs.Contents.{component_fault, stated_in, seconds_in, EntryStands, Linked, ExcludedRoom, IdentitySmall, EventEntered, EntryTerms, EntryGood, EntryBroken, EntryIs, entry_good, entry_broken, entry_unsupported, entry_bad, ContentsAre}
+use Rattle.contents.specs.Contents.{component_fault, stated_in, seconds_in, EntryStands, Linked, ExcludedRoom, IdentitySmall, EventEntered, EntryTerms, EntryGood, EntryBroken, EntryIs, entry_good, entry_broken, entry_refused, ContentsAre, contents_read, contents_refused}
 use Rattle.contents.specs.declared.EntryRead.{EntryRead}
 use Rattle.contents.specs.declared.ContentsRead.{ContentsRead}
 use Rattle.component_lines.proofs.LinesStoring.{Left, left_start, left_then, left_none}
@@ -76,10 +75,10 @@ use Rattle.contents.proofs.RowKinds.{row_event, row_block, scopes_apart}
 
 -- ---- the periods that entries state
 
-event_stated : (r : EventRead) (g h : List ℕ) → gathered stated_periods (event_entry r g) ≡ gathered stated_periods (event_entry r h)
+event_stated : (r : Option Event) (g h : List ℕ) → gathered stated_periods (event_entry r g) ≡ gathered stated_periods (event_entry r h)
 unfolding gathered stated_periods
-event_stated (EventRead.Of e) g h = refl
-event_stated EventRead.Broken g h = refl
+event_stated (Some e) g h = refl
+event_stated None g h = refl
 
 -- beside whatever components
 any_stated : (c : Context) (all : List Component) (o : Scope) (x : Component) → gathered stated_periods (entry_of c all o x) ≡ gathered stated_periods (entry_of c [] o x)
@@ -88,10 +87,10 @@ any_stated c all Scope.Event x = event_stated (event_of c x) (removed_from c all
 any_stated c all Scope.FreeBusy x = refl
 any_stated c all Scope.Other x = refl
 
-event_states_any : (r : EventRead) (gone : List ℕ) → gathered stated_periods (event_entry r gone) ≡ []
+event_states_any : (r : Option Event) (gone : List ℕ) → gathered stated_periods (event_entry r gone) ≡ []
 unfolding gathered stated_periods
-event_states_any (EventRead.Of e) gone = refl
-event_states_any EventRead.Broken gone = refl
+event_states_any (Some e) gone = refl
+event_states_any None gone = refl
 
 block_states : (k : Block) (ps : List BusyPeriod) → gathered stated_periods (block k ps ∷ []) ≡ ps
 unfolding gathered stated_periods
@@ -111,21 +110,21 @@ among_stated c all (k ∷ ks) =
     ∙ ap (λ (l : List BusyPeriod). gathered stated_periods (entry_of c [] (component_scope k) k) ++ l) (among_stated c all ks)
 
 -- the fault of its lines is that of the component
-pub lines_fault_lem : (c : Context) (x : Component) {o : Scope} {f : ValueCheck} → component_scope x ≡ o → lines_fault c o (properties_in x.items) ≡ f → component_fault c x ≡ f
+pub lines_fault_lem : (c : Context) (x : Component) {o : Scope} {f : Result (Unit {0}) LineError} → component_scope x ≡ o → lines_fault c o (properties_in x.items) ≡ f → component_fault c x ≡ f
 unfolding component_fault
 lines_fault_lem c x w h = ap (λ (o : Scope). lines_fault c o (properties_in x.items)) w ∙ h
 
 -- ---- links
 
-uid_fits : (s : List ℕ) (g : UidGiven) (us : List (List ℕ)) → UidTies s g us → UidSmall g
-uid_fits s UidGiven.None us h = tt
-uid_fits s (UidGiven.One n) us h = omega (arith, h.2)
-uid_fits s UidGiven.Several us h = tt
+uid_fits : (s : List ℕ) (g : Given ℕ) (us : List (List ℕ)) → UidTies s g us → UidSmall g
+uid_fits s Given.None us h = tt
+uid_fits s (Given.One n) us h = omega (arith, h.2)
+uid_fits s Given.Several us h = tt
 
-recurrence_fits : (g : RecurrenceGiven) (ts : List Time) → ((t : Time) → Memᴰ t ts → t.second ≤ last_second) → RecurrenceTies g ts → RecurrenceSmall g
-recurrence_fits RecurrenceGiven.None ts f h = tt
-recurrence_fits (RecurrenceGiven.One r) ts f h = omega (arith, one_second h f)
-recurrence_fits RecurrenceGiven.Several ts f h = tt
+recurrence_fits : (g : Given RecurrenceId) (ts : List Time) → ((t : Time) → Memᴰ t ts → t.second ≤ last_second) → RecurrenceTies g ts → RecurrenceSmall g
+recurrence_fits Given.None ts f h = tt
+recurrence_fits (Given.One r) ts f h = omega (arith, one_second h f)
+recurrence_fits Given.Several ts f h = tt
 
 -- what the lines tell of links and excluded seconds, as that of the component
 module _ {c : Context} {s index : List ℕ} (x : Component) {o : Scope} (w : component_scope x ≡ o) {stop : ℕ} {e : List ℕ} {h : ℕ} {e' : List ℕ} {y : IdentityRead}
@@ -159,7 +158,7 @@ module _ {c : Context} {s index : List ℕ} (x : Component) {o : Scope} (w : com
 
   -- where that of an event was
   pub linked : (k : ℕ) (t : Bool) {entries links links' : List ℕ} → o ≡ Scope.Event → LinkPut links k (link_row (link_from y h t)) links' → t ≡ breaks_alone (vevent_of c x)
-      → (t ≡ false → event_of c x ≡ EventRead.Of (event_at entries k)) → Linked c s index x k stop e h e' y.held entries links links'
+      → (t ≡ false → event_of c x ≡ Some (event_at entries k)) → Linked c s index x k stop e h e' y.held entries links links'
   unfolding link_from identity_of
   linked k t v p b q =
       let put = link_put (link_from y h t) p in
@@ -179,44 +178,48 @@ module _ {c : Context} {s index : List ℕ} (x : Component) {o : Scope} (w : com
             };
       }
 
+-- what is answered, by whether it is broken
+abbrev entry_answer : IdentityRead → ℕ → Bool → EntryRead
+entry_answer y m t = record { count = cond t None (Some m); held = y.held }
+
 -- whether it was told broken, or not
 module _ (e : Event) (y : IdentityRead) {entries links : List ℕ} {k : ℕ} (from : ℕ) {entries' links' : List ℕ} (t : Bool)
     (p : EntryPut entries k (event_row e) entries') (q : LinkPut links k (link_row (link_from y from t)) links') (a : t ≡ alone_by y e) where
   link_told : LinkPut links k (link_row (link_from y from (alone_by y e))) links'
   link_told = subst (λ (u : Bool). LinkPut links k (link_row (link_from y from u)) links') a q
 
-  pub entered_broken : {m : ℕ} → t ≡ true → EventEntered entries links k e y from m entries' links' (EntryRead.Broken y.held)
+  pub entered_broken : {m : ℕ} → t ≡ true → EventEntered entries links k e y from m entries' links' (record { count = None; held = y.held })
   entered_broken {m} b =
-      record { put = p; linked = link_told; answer = ap (λ (u : Bool). cond u (EntryRead.Broken y.held) (EntryRead.Of m y.held)) (sym b ∙ a) }
+      record { put = p; linked = link_told; answer = ap (entry_answer y m) (sym b ∙ a) }
 
-  pub entered_good : {m : ℕ} → t ≡ false → EventEntered entries links k e y from m entries' links' (EntryRead.Of m y.held)
+  pub entered_good : {m : ℕ} → t ≡ false → EventEntered entries links k e y from m entries' links' (record { count = Some m; held = y.held })
   entered_good {m} b =
-      record { put = p; linked = link_told; answer = ap (λ (u : Bool). cond u (EntryRead.Broken y.held) (EntryRead.Of m y.held)) (sym b ∙ a) }
+      record { put = p; linked = link_told; answer = ap (entry_answer y m) (sym b ∙ a) }
 
 -- ---- an event
 
 module _ (c : Context) (s index : List ℕ) (x : Component) (w : component_scope x ≡ Scope.Event) where
   module _ {a b : ℕ} {o : List ℕ} {n : ℕ} {o₁ : List ℕ} {g : ComponentProperties} {m₁ : ℕ} {stop : ℕ} {e₀ : List ℕ} {held : ℕ} {e₁ : List ℕ} {y : IdentityRead}
       (h : LinesGood c Scope.Event (properties_in x.items) a b o n o₁ g m₁) (z : LinesTie c Scope.Event s index (properties_in x.items) e₀ held e₁ stop y)
-      {v : EventRead} (q : v ≡ event_by g) where
+      {v : Option Event} (q : v ≡ event_by g) where
     event_read : v ≡ event_of c x
     unfolding event_of together
     event_read = q ∙ ap event_by h.say
 
     -- it breaks a rule by itself: one of its own properties, or of what ties it to others
-    alone_broken : v ≡ EventRead.Broken → true ≡ breaks_alone (vevent_of c x)
+    alone_broken : v ≡ None → true ≡ breaks_alone (vevent_of c x)
     unfolding breaks_alone event_breaks vevent_of
     alone_broken t =
         sym
-        (ap (λ (u : EventRead). two_or_more (identity_of c x).uids || event_breaks (vevent_of c x) u) (sym event_read ∙ t)
+        (ap (λ (u : Option Event). two_or_more (identity_of c x).uids || event_breaks (vevent_of c x) u) (sym event_read ∙ t)
         ∙ or_by_right (two_or_more (identity_of c x).uids) refl)
 
-    alone_by_lem : (e : Event) → v ≡ EventRead.Of e → alone_by y e ≡ breaks_alone (vevent_of c x)
+    alone_by_lem : (e : Event) → v ≡ Some e → alone_by y e ≡ breaks_alone (vevent_of c x)
     unfolding vevent_of identity_of
     alone_by_lem e t =
         alone_tied s y (identity_in c (properties_in x.items)) (z.ties refl) x.begin.number e
         ∙ ap
-        (λ (u : EventRead).
+        (λ (u : Option Event).
         breaks_alone
         (record {
           begin = x.begin.number;
@@ -232,10 +235,10 @@ module _ (c : Context) (s index : List ℕ) (x : Component) (w : component_scope
     states_nothing =
         ap (λ (o : Scope). gathered stated_periods (entry_of c [] o x)) w ∙ event_states_any (event_of c x) (removed_from c [] x)
 
-    event_stands : (e : Event) {k : ℕ} {old new : List ℕ} → v ≡ EventRead.Of e → EntryPut old k (event_row e) new → EntryStands c x k old new
+    event_stands : (e : Event) {k : ℕ} {old new : List ℕ} → v ≡ Some e → EntryPut old k (event_row e) new → EntryStands c x k old new
     event_stands e {k} {old} {new} t p =
         record {
-          event = λ _. sym event_read ∙ t ∙ ap EventRead.Of (sym (event_put e p));
+          event = λ _. sym event_read ∙ t ∙ ap Some (sym (event_put e p));
           block = λ u. scopes_apart Scope.Event Scope.FreeBusy (λ i. omega (arith, i)) w u;
           events_kept = λ j l. event_kept j p l;
           blocks_kept = λ j l. block_kept j p l;
@@ -249,7 +252,7 @@ module _ (c : Context) (s index : List ℕ) (x : Component) (w : component_scope
     unfolding broken_alone
     broken_as t u = ap (λ (o : Scope). broken_alone c o x) w ∙ sym u
 
-    module _ (e : Event) (t : v ≡ EventRead.Of e) {k : ℕ} {entries entries' links links' : List ℕ} {r : EntryRead}
+    module _ (e : Event) (t : v ≡ Some e) {k : ℕ} {entries entries' links links' : List ℕ} {r : EntryRead}
         (d : EventEntered entries links k e y held m₁ entries' links' r) where
       stands_here : EntryStands c x k entries entries'
       stands_here = event_stands e t d.put
@@ -258,14 +261,14 @@ module _ (c : Context) (s index : List ℕ) (x : Component) (w : component_scope
       linked_here = linked x w z k (alone_by y e) refl d.linked (alone_by_lem e t) (λ _. stands_here.event w)
 
       pub event_entered : EntryIs c s index x k stop a b n held (record { pieces = o; entries = entries; excluded = e₀; links = links })
-          (record { pieces = o₁; entries = entries'; excluded = e₁; links = links' }) r
-      event_entered = subst (EntryIs c s index x k stop a b n held _ _) (sym d.answer) (go (alone_by y e) refl)
+          (record { pieces = o₁; entries = entries'; excluded = e₁; links = links' }) (Ok r)
+      event_entered = subst (λ (z : EntryRead). EntryIs c s index x k stop a b n held (record { pieces = o; entries = entries; excluded = e₀; links = links }) (record { pieces = o₁; entries = entries'; excluded = e₁; links = links' }) (Ok z)) (sym d.answer) (go (alone_by y e) refl)
         where
           go : (u : Bool) → alone_by y e ≡ u
               → EntryIs c s index x k stop a b n held (record { pieces = o; entries = entries; excluded = e₀; links = links })
-              (record { pieces = o₁; entries = entries'; excluded = e₁; links = links' }) (cond u (EntryRead.Broken y.held) (EntryRead.Of m₁ y.held))
+              (record { pieces = o₁; entries = entries'; excluded = e₁; links = links' }) (Ok (entry_answer y m₁ u))
           go true f =
-              entry_broken
+              entry_broken refl
               (record {
                 no_fault = lines_fault_lem c x w h.no_fault;
                 broken = broken_as true (sym f ∙ alone_by_lem e t);
@@ -273,7 +276,7 @@ module _ (c : Context) (s index : List ℕ) (x : Component) (w : component_scope
                 linked = linked_here;
               })
           go false f =
-              entry_good
+              entry_good refl
               (record {
                 no_fault = lines_fault_lem c x w h.no_fault;
                 unbroken = broken_as false (sym f ∙ alone_by_lem e t);
@@ -282,11 +285,11 @@ module _ (c : Context) (s index : List ℕ) (x : Component) (w : component_scope
                 linked = linked_here;
               })
 
-    pub event_broken : (k : ℕ) {entries links links' : List ℕ} → v ≡ EventRead.Broken → LinkPut links k (link_row (link_from y held true)) links'
+    pub event_broken : (k : ℕ) {entries links links' : List ℕ} → v ≡ None → LinkPut links k (link_row (link_from y held true)) links'
         → EntryIs c s index x k stop a b n held (record { pieces = o; entries = entries; excluded = e₀; links = links })
-        (record { pieces = o₁; entries = entries; excluded = e₁; links = links' }) (EntryRead.Broken y.held)
+        (record { pieces = o₁; entries = entries; excluded = e₁; links = links' }) (Ok (record { count = None; held = y.held }))
     event_broken k t p =
-        entry_broken
+        entry_broken refl
         (record {
           no_fault = lines_fault_lem c x w h.no_fault;
           broken = broken_as true (alone_broken t);
@@ -299,27 +302,27 @@ module _ (c : Context) (s index : List ℕ) (x : Component) (w : component_scope
 module _ (c : Context) (s index : List ℕ) (x : Component) (w : component_scope x ≡ Scope.FreeBusy) where
   module _ {a b : ℕ} {o : List ℕ} {n : ℕ} {o₁ : List ℕ} {g : ComponentProperties} {m₁ : ℕ} {stop : ℕ} {e₀ : List ℕ} {held : ℕ} {e₁ : List ℕ} {y : IdentityRead}
       (h : LinesGood c Scope.FreeBusy (properties_in x.items) a b o n o₁ g m₁) (z : LinesTie c Scope.FreeBusy s index (properties_in x.items) e₀ held e₁ stop y)
-      {v : BlockRead} (q : v ≡ block_by g) where
+      {v : Option Block} (q : v ≡ block_by g) where
     block_read : v ≡ block_of c x
     unfolding block_of together
     block_read = q ∙ ap block_by h.say
 
-    block_broken_as : (u : BlockRead) → v ≡ u → broken_alone c (component_scope x) x ≡ block_broken u
+    block_broken_as : (u : Option Block) → v ≡ u → broken_alone c (component_scope x) x ≡ block_broken u
     unfolding broken_alone
     block_broken_as u t = ap (λ (o : Scope). broken_alone c o x) w ∙ ap block_broken (sym block_read ∙ t)
 
-    states_periods : (k : Block) → v ≡ BlockRead.Of k → stated_in c x ≡ block_periods c (properties_in x.items)
+    states_periods : (k : Block) → v ≡ Some k → stated_in c x ≡ block_periods c (properties_in x.items)
     unfolding stated_in entry_of
     states_periods k t =
         ap (λ (o : Scope). gathered stated_periods (entry_of c [] o x)) w
-        ∙ ap (λ (u : BlockRead). gathered stated_periods (block_entry u (block_periods c (properties_in x.items)))) (sym block_read ∙ t)
+        ∙ ap (λ (u : Option Block). gathered stated_periods (block_entry u (block_periods c (properties_in x.items)))) (sym block_read ∙ t)
         ∙ block_states k (block_periods c (properties_in x.items))
 
-    block_stands : (d : Block) {k : ℕ} {old new : List ℕ} → v ≡ BlockRead.Of d → EntryPut old k (block_row d) new → EntryStands c x k old new
+    block_stands : (d : Block) {k : ℕ} {old new : List ℕ} → v ≡ Some d → EntryPut old k (block_row d) new → EntryStands c x k old new
     block_stands d {k} {old} {new} t p =
         record {
           event = λ u. scopes_apart Scope.FreeBusy Scope.Event (λ i. omega (arith, i)) w u;
-          block = λ _. sym block_read ∙ t ∙ ap BlockRead.Of (sym (block_put d p));
+          block = λ _. sym block_read ∙ t ∙ ap Some (sym (block_put d p));
           events_kept = λ j l. event_kept j p l;
           blocks_kept = λ j l. block_kept j p l;
         }
@@ -327,27 +330,27 @@ module _ (c : Context) (s index : List ℕ) (x : Component) (w : component_scope
     no_event : Scope.FreeBusy ≡ Scope.Event → ⊥
     no_event u = scopes_apart Scope.FreeBusy Scope.Event (λ i. omega (arith, i)) refl u
 
-    pub block_good : (d : Block) {k : ℕ} {entries entries' links : List ℕ} → v ≡ BlockRead.Of d → EntryPut entries k (block_row d) entries'
+    pub block_good : (d : Block) {k : ℕ} {entries entries' links : List ℕ} → v ≡ Some d → EntryPut entries k (block_row d) entries'
         → EntryIs c s index x k stop a b n held (record { pieces = o; entries = entries; excluded = e₀; links = links })
-        (record { pieces = o₁; entries = entries'; excluded = e₁; links = links }) (EntryRead.Of m₁ y.held)
+        (record { pieces = o₁; entries = entries'; excluded = e₁; links = links }) (Ok (record { count = Some m₁; held = y.held }))
     block_good d {k} {entries} {entries'} {links} t p =
-        entry_good
+        entry_good refl
         (record {
           no_fault = lines_fault_lem c x w h.no_fault;
-          unbroken = block_broken_as (BlockRead.Of d) t;
+          unbroken = block_broken_as (Some d) t;
           stored = stored_as h.stored (ap (pieces_of a b) (periods_block c (properties_in x.items) ∙ sym (states_periods d t)));
           stands = block_stands d t p;
           linked = unlinked x w z k entries' links no_event;
         })
 
-    pub block_broken_lem : (k : ℕ) (entries links : List ℕ) → v ≡ BlockRead.Broken
+    pub block_broken_lem : (k : ℕ) (entries links : List ℕ) → v ≡ None
         → EntryIs c s index x k stop a b n held (record { pieces = o; entries = entries; excluded = e₀; links = links })
-        (record { pieces = o₁; entries = entries; excluded = e₁; links = links }) (EntryRead.Broken y.held)
+        (record { pieces = o₁; entries = entries; excluded = e₁; links = links }) (Ok (record { count = None; held = y.held }))
     block_broken_lem k entries links t =
-        entry_broken
+        entry_broken refl
         (record {
           no_fault = lines_fault_lem c x w h.no_fault;
-          broken = block_broken_as BlockRead.Broken t;
+          broken = block_broken_as None t;
           events_kept = λ j l. refl;
           linked = unlinked x w z k entries links no_event;
         })
@@ -358,10 +361,10 @@ other_value : (c : Context) (x : Numbered) → property_value_of c Scope.Other x
 unfolding property_value_of before_items property_of value_as with_items
 other_value c x = refl
 
-other_lines : (c : Context) (xs : List Numbered) → lines_fault c Scope.Other xs ≡ ValueCheck.Good
+other_lines : (c : Context) (xs : List Numbered) → lines_fault c Scope.Other xs ≡ Ok tt
 unfolding lines_fault fault_in fault_or
 other_lines c [] = refl
-other_lines c (x ∷ xs) = ap (λ (v : Reading). fault_or x.number v (fault_in c Scope.Other xs ValueCheck.Good)) (other_value c x) ∙ other_lines c xs
+other_lines c (x ∷ xs) = ap (λ (v : Reading). fault_or x.number v (fault_in c Scope.Other xs (Ok tt))) (other_value c x) ∙ other_lines c xs
 
 other_excluded : (c : Context) (xs : List Numbered) → excluded_in c Scope.Other xs ≡ []
 unfolding excluded_in seconds_of exceptions_by
@@ -388,10 +391,10 @@ module _ (c : Context) (s rows : List ℕ) (k : ℕ) (w : component_scope (compo
 
   pub other_good : (a b : ℕ) {n held : ℕ} {index o entries e links : List ℕ} → RowOf s rows k → ExcludedRoom s index (get_or rows (4 * k) 0) e held
       → EntryIs c s index (component_by s rows k) k (get_or rows (4 * k + 1) 0 - 1) a b n held (record { pieces = o; entries = entries; excluded = e; links = links })
-      (record { pieces = o; entries = entries; excluded = e; links = links }) (EntryRead.Of n held)
+      (record { pieces = o; entries = entries; excluded = e; links = links }) (Ok (record { count = Some n; held = held }))
   unfolding component_fault broken_alone stated_in entry_of gathered
   other_good a b {n} {held} {index} {o} {entries} {e} {links} row room =
-      entry_good
+      entry_good refl
       (record {
         no_fault = ap (λ (v : Scope). lines_fault c v (properties_in (component_by s rows k).items)) w ∙ other_lines c (properties_in (component_by s rows k).items);
         unbroken = ap (λ (v : Scope). broken_alone c v (component_by s rows k)) w;
@@ -418,8 +421,8 @@ no_pieces c a b = pieces_of_none a b
 
 -- the events and blocks of the rows below k stand in the column
 pub record EntriesBelow (c : Context) (s rows entries : List ℕ) (k : ℕ) : Type 0 where
-  pub events : (p : ℕ) → p < k → get_or rows (4 * p + 3) 0 ≡ 1 → event_of c (component_by s rows p) ≡ EventRead.Of (event_at entries p)
-  pub blocks : (p : ℕ) → p < k → get_or rows (4 * p + 3) 0 ≡ 2 → block_of c (component_by s rows p) ≡ BlockRead.Of (block_at entries p)
+  pub events : (p : ℕ) → p < k → get_or rows (4 * p + 3) 0 ≡ 1 → event_of c (component_by s rows p) ≡ Some (event_at entries p)
+  pub blocks : (p : ℕ) → p < k → get_or rows (4 * p + 3) 0 ≡ 2 → block_of c (component_by s rows p) ≡ Some (block_at entries p)
 
 -- the links of the events of the rows below k stand, and their excluded seconds are among the first `held`
 pub record LinksBelow (c : Context) (s rows : List ℕ) (now : EntryTerms) (held k : ℕ) : Type 0 where
@@ -429,7 +432,7 @@ pub record LinksBelow (c : Context) (s rows : List ℕ) (now : EntryTerms) (held
 
 -- of all components, those from row k on are left; no value before is at fault, `rules` is the first before that breaks a rule by itself,
 -- the links of those before stand, and where none breaks a rule, their pieces and rows
-pub record ReadingContents (c : Context) (a b : ℕ) (s index rows o₀ : List ℕ) (m : ℕ) (now : EntryTerms) (rules : RuleCheck) (n held k : ℕ) : Type 0 where
+pub record ReadingContents (c : Context) (a b : ℕ) (s index rows o₀ : List ℕ) (m : ℕ) (now : EntryTerms) (rules : Option ℕ) (n held k : ℕ) : Type 0 where
   pub below : BelowAt s rows k m
   pub few : n ≤ 513
   pub long : Room now.pieces
@@ -439,8 +442,8 @@ pub record ReadingContents (c : Context) (a b : ℕ) (s index rows o₀ : List �
   pub values : value_fault c (components_by s rows k m) ≡ value_fault c (components_by s rows 1 m)
   pub first_broken_holds : rule_else rules (alone_fault c (components_by s rows k m)) ≡ alone_fault c (components_by s rows 1 m)
   pub linked : LinksBelow c s rows now held k
-  pub still : rules ≡ RuleCheck.Good → Left o₀ 0 (pieces_in c a b (components_by s rows 1 m)) now.pieces n (pieces_in c a b (components_by s rows k m))
-  pub known : rules ≡ RuleCheck.Good → EntriesBelow c s rows now.entries k
+  pub still : rules ≡ None → Left o₀ 0 (pieces_in c a b (components_by s rows 1 m)) now.pieces n (pieces_in c a b (components_by s rows k m))
+  pub known : rules ≡ None → EntriesBelow c s rows now.entries k
 
 module _ (c : Context) (a b : ℕ) {s index rows : List ℕ} (h : FileRows s index rows) where
   -- row 0 is the calendar's own
@@ -449,7 +452,7 @@ module _ (c : Context) (a b : ℕ) {s index rows : List ℕ} (h : FileRows s ind
 
   pub contents_start : {o entries excluded links : List ℕ} {m : ℕ} → Room o → length entries ≡ 3072 → length links ≡ 2048
       → (length s ≤ 8 * length excluded) × (length excluded ≤ 65536) → m ≡ get_or rows 2 0
-      → ReadingContents c a b s index rows o m (record { pieces = o; entries = entries; excluded = excluded; links = links }) RuleCheck.Good 0 0 1
+      → ReadingContents c a b s index rows o m (record { pieces = o; entries = entries; excluded = excluded; links = links }) None 0 0 1
   unfolding rule_else
   contents_start {o} room size links space e =
       record {
@@ -472,31 +475,38 @@ module _ (c : Context) (a b : ℕ) {s index rows : List ℕ} (h : FileRows s ind
       }
 
 -- what the answer for one component says
-module _ {c : Context} {s index : List ℕ} {x : Component} {k stop a b n h : ℕ} {old new : EntryTerms} {r : EntryRead}
+module _ {c : Context} {s index : List ℕ} {x : Component} {k stop a b n h : ℕ} {old new : EntryTerms} {r : Result EntryRead LineError}
     (u : EntryIs c s index x k stop a b n h old new r) where
-  entry_of_holds : (m h' : ℕ) → r ≡ EntryRead.Of m h' → EntryGood c s index x k stop a b n h old new m h'
-  entry_of_holds m h' e = go (subst (EntryIs c s index x k stop a b n h old new) e u)
+  entry_of_holds : (v : EntryRead) (m : ℕ) → r ≡ Ok v → v.count ≡ Some m → EntryGood c s index x k stop a b n h old new m v.held
+  entry_of_holds v m e = go (subst (EntryIs c s index x k stop a b n h old new) e u)
     where
-      go : EntryIs c s index x k stop a b n h old new (EntryRead.Of m h') → EntryGood c s index x k stop a b n h old new m h'
-      go (entry_good y) = y
+      go : EntryIs c s index x k stop a b n h old new (Ok v) → v.count ≡ Some m → EntryGood c s index x k stop a b n h old new m v.held
+      go (entry_good {m = i} q y) w = let z : i ≡ m = cc in subst (λ (j : ℕ). EntryGood c s index x k stop a b n h old new j v.held) z y
+      go (entry_broken q y) w = let z : ◌≡◌ {A = ℕ} 0 1 = cc in absurd (omega arith)
 
-  entry_of_broken : (h' : ℕ) → r ≡ EntryRead.Broken h' → EntryBroken c s index x k stop h old new h'
-  entry_of_broken h' e = go (subst (EntryIs c s index x k stop a b n h old new) e u)
+  entry_of_broken : (v : EntryRead) → r ≡ Ok v → v.count ≡ None → EntryBroken c s index x k stop h old new v.held
+  entry_of_broken v e = go (subst (EntryIs c s index x k stop a b n h old new) e u)
     where
-      go : EntryIs c s index x k stop a b n h old new (EntryRead.Broken h') → EntryBroken c s index x k stop h old new h'
-      go (entry_broken y) = y
+      go : EntryIs c s index x k stop a b n h old new (Ok v) → v.count ≡ None → EntryBroken c s index x k stop h old new v.held
+      go (entry_good q y) w = let z : ◌≡◌ {A = ℕ} 0 1 = cc in absurd (omega arith)
+      go (entry_broken q y) w = y
 
-  entry_of_unsupported : (i : ℕ) → r ≡ EntryRead.Unsupported i → component_fault c x ≡ ValueCheck.Unsupported i
-  entry_of_unsupported i e = go (subst (EntryIs c s index x k stop a b n h old new) e u)
+  entry_of_refused : (f : LineError) → r ≡ Err f → component_fault c x ≡ Err f
+  entry_of_refused f e = go (subst (EntryIs c s index x k stop a b n h old new) e u)
     where
-      go : EntryIs c s index x k stop a b n h old new (EntryRead.Unsupported i) → component_fault c x ≡ ValueCheck.Unsupported i
-      go (entry_unsupported y) = y
+      go : EntryIs c s index x k stop a b n h old new (Err f) → component_fault c x ≡ Err f
+      go (entry_refused y) = y
 
-  entry_of_bad : (i : ℕ) → r ≡ EntryRead.Bad i → component_fault c x ≡ ValueCheck.Bad i
-  entry_of_bad i e = go (subst (EntryIs c s index x k stop a b n h old new) e u)
-    where
-      go : EntryIs c s index x k stop a b n h old new (EntryRead.Bad i) → component_fault c x ≡ ValueCheck.Bad i
-      go (entry_bad y) = y
+-- a fault is handed up as it is
+pub entry_up : {c : Context} {s index : List ℕ} {x : Component} {k stop a b n h : ℕ} {old new : EntryTerms} {r : Result EntryRead LineError} {f : LineError}
+    → component_fault c x ≡ Err f → IsErrAnd r (λ y. y ≡ f) → EntryIs c s index x k stop a b n h old new r
+entry_up {r = Ok v} e z = absurd z
+entry_up {r = Err g} e z = entry_refused (e ∙ ap Err (sym z))
+
+pub contents_up : {c : Context} {s rows : List ℕ} {a b : ℕ} {o : List ℕ} {new : EntryTerms} {r : Result ContentsRead LineError} {f : LineError}
+    → value_fault c (components_of s) ≡ Err f → IsErrAnd r (λ y. y ≡ f) → ContentsAre c s rows a b o new r
+contents_up {r = Ok v} e z = absurd z
+contents_up {r = Err g} e z = contents_refused (e ∙ ap Err (sym z))
 
 seconds_append : (xs ys : List Time) → seconds_of (xs ++ ys) ≡ seconds_of xs ++ seconds_of ys
 unfolding seconds_of
@@ -510,22 +520,22 @@ event_excluded c (x ∷ xs) =
     let here = exceptions_by c (property_value_of c Scope.Event x.line) x.line in
     ap (λ (l : List ℕ). seconds_of here ++ l) (event_excluded c xs) ∙ sym (seconds_append here (exceptions_in c xs))
 
-abbrev is_rule_good : RuleCheck → Bool
-is_rule_good RuleCheck.Good = true
-is_rule_good (RuleCheck.Broken n) = false
+abbrev is_rule_good : Option ℕ → Bool
+is_rule_good None = true
+is_rule_good (Some n) = false
 
 -- a second one that is broken changes nothing of the first
-broken_twice : (rules : RuleCheck) (i : ℕ) (r : RuleCheck) → rule_else (rule_else rules (RuleCheck.Broken i)) r ≡ rule_else rules (RuleCheck.Broken i)
+broken_twice : (rules : Option ℕ) (i : ℕ) (r : Option ℕ) → rule_else (rule_else rules (Some i)) r ≡ rule_else rules (Some i)
 unfolding rule_else
-broken_twice RuleCheck.Good i r = refl
-broken_twice (RuleCheck.Broken n) i r = refl
+broken_twice None i r = refl
+broken_twice (Some n) i r = refl
 
-else_broken : {A : Type 0} (rules : RuleCheck) (i : ℕ) → rule_else rules (RuleCheck.Broken i) ≡ RuleCheck.Good → A
+else_broken : {A : Type 0} (rules : Option ℕ) (i : ℕ) → rule_else rules (Some i) ≡ None → A
 unfolding rule_else
-else_broken RuleCheck.Good i e = clash (ap is_rule_good e) refl
-else_broken (RuleCheck.Broken n) i e = clash (ap is_rule_good e) refl
+else_broken None i e = clash (ap is_rule_good e) refl
+else_broken (Some n) i e = clash (ap is_rule_good e) refl
 
-module _ {c : Context} {a b : ℕ} {s index rows o₀ : List ℕ} {m : ℕ} {old : EntryTerms} {rules : RuleCheck} {n held k : ℕ}
+module _ {c : Context} {a b : ℕ} {s index rows o₀ : List ℕ} {m : ℕ} {old : EntryTerms} {rules : Option ℕ} {n held k : ℕ}
     (g : ReadingContents c a b s index rows o₀ m old rules n held k) where
   module _ (l : k < m) where
     pub here : NextBelow s rows k m
@@ -540,13 +550,13 @@ module _ {c : Context} {a b : ℕ} {s index rows o₀ : List ℕ} {m : ℕ} {old
     listed : components_by s rows k m ≡ x ∷ rest
     listed = here.here.list
 
-    values_here : (f : ValueCheck) → component_fault c x ≡ f → value_fault c (components_by s rows 1 m) ≡ fault_else f (value_fault c rest)
+    values_here : (f : Result (Unit {0}) LineError) → component_fault c x ≡ f → value_fault c (components_by s rows 1 m) ≡ fault_else f (value_fault c rest)
     unfolding value_fault component_fault lines_fault
     values_here f e =
         sym g.values
         ∙ ap (value_fault c) listed
         ∙ fault_in_else c (component_scope x) (properties_in x.items) (value_fault c rest)
-        ∙ ap (λ (y : ValueCheck). fault_else y (value_fault c rest)) e
+        ∙ ap (λ (y : Result (Unit {0}) LineError). fault_else y (value_fault c rest)) e
 
     rules_here : (t : Bool) → broken_alone c (component_scope x) x ≡ t
         → rule_else rules (broken_or t (get_or rows (4 * k) 0) (alone_fault c rest)) ≡ alone_fault c (components_by s rows 1 m)
@@ -572,16 +582,16 @@ module _ {c : Context} {a b : ℕ} {s index rows o₀ : List ℕ} {m : ℕ} {old
           }
         where
           go : (p : ℕ) (t v : Bool) → ltb p k ≡ t → ltb k p ≡ v → p < get_or rows (4 * k + 2) 0 → get_or rows (4 * p + 3) 0 ≡ 1
-              → event_of c (component_by s rows p) ≡ EventRead.Of (event_at new.entries p)
-          go p true v f d q e = y.events p (ltb-true p k f) e ∙ ap EventRead.Of (sym (u.events_kept p (λ z. omega (arith, ltb-true p k f))))
+              → event_of c (component_by s rows p) ≡ Some (event_at new.entries p)
+          go p true v f d q e = y.events p (ltb-true p k f) e ∙ ap Some (sym (u.events_kept p (λ z. omega (arith, ltb-true p k f))))
           go p false true f d q e = absurd (omega (arith, here.quiet p (ltb-true k p d) q, e))
           go p false false f d q e =
               let z : p ≡ k = omega (arith, ltb-false p k f, ltb-false k p d) in
               rw z (u.event (row_event here.here.row (ap (λ (w : ℕ). get_or rows (4 * w + 3) 0) refl) (subst (λ (w : ℕ). get_or rows (4 * w + 3) 0 ≡ 1) z e)))
 
           gob : (p : ℕ) (t v : Bool) → ltb p k ≡ t → ltb k p ≡ v → p < get_or rows (4 * k + 2) 0 → get_or rows (4 * p + 3) 0 ≡ 2
-              → block_of c (component_by s rows p) ≡ BlockRead.Of (block_at new.entries p)
-          gob p true v f d q e = y.blocks p (ltb-true p k f) e ∙ ap BlockRead.Of (sym (u.blocks_kept p (λ z. omega (arith, ltb-true p k f))))
+              → block_of c (component_by s rows p) ≡ Some (block_at new.entries p)
+          gob p true v f d q e = y.blocks p (ltb-true p k f) e ∙ ap Some (sym (u.blocks_kept p (λ z. omega (arith, ltb-true p k f))))
           gob p false true f d q e = absurd (omega (arith, here.quiet p (ltb-true k p d) q, e))
           gob p false false f d q e =
               let z : p ≡ k = omega (arith, ltb-false p k f, ltb-false k p d) in
@@ -607,7 +617,7 @@ module _ {c : Context} {a b : ℕ} {s index rows o₀ : List ℕ} {m : ℕ} {old
                   ∙ part_kept old.excluded held (seconds_in c x) (link_at old.links p).from (link_at old.links p).to v.order w
                   ∙ v.excluded;
               broken_is = ap (λ (y : Link). y.broken) q ∙ v.broken_is;
-              event_is = λ f. v.event_is (sym (ap (λ (y : Link). y.broken) q) ∙ f) ∙ ap EventRead.Of (sym (kept p (λ z. omega (arith, z))));
+              event_is = λ f. v.event_is (sym (ap (λ (y : Link). y.broken) q) ∙ f) ∙ ap Some (sym (kept p (λ z. omega (arith, z))));
             }
 
         -- that of this component
@@ -685,12 +695,12 @@ module _ {c : Context} {a b : ℕ} {s index rows o₀ : List ℕ} {m : ℕ} {old
               few = omega (arith, u.few, same_excluded);
             }
 
-      module _ {r : EntryRead} (u : EntryIs c s index (component_by s rows k) k (get_or rows (4 * k + 1) 0 - 1) a b n held old new r) (long : length new.pieces ≡ length old.pieces)
+      module _ {r : Result EntryRead LineError} (u : EntryIs c s index (component_by s rows k) k (get_or rows (4 * k + 1) 0 - 1) a b n held old new r) (long : length new.pieces ≡ length old.pieces)
           (size : length new.entries ≡ length old.entries) (link_size : length new.links ≡ length old.links) where
-        pub contents_good : (j held' : ℕ) {next : ℕ} → r ≡ EntryRead.Of j held' → next ≡ get_or rows (4 * k + 2) 0 → ReadingContents c a b s index rows o₀ m new rules j held' next
+        pub contents_good : (v : EntryRead) (j : ℕ) {next : ℕ} → r ≡ Ok v → v.count ≡ Some j → next ≡ get_or rows (4 * k + 2) 0 → ReadingContents c a b s index rows o₀ m new rules j v.held next
         unfolding broken_or fault_else
-        contents_good j held' q w =
-            let y = entry_of_holds u j held' q in
+        contents_good v j q z w =
+            let y = entry_of_holds u v j q z in
             rw w
             (record {
               below = here.after;
@@ -699,18 +709,18 @@ module _ {c : Context} {a b : ℕ} {s index rows o₀ : List ℕ} {m : ℕ} {old
               size = size ∙ g.size;
               link_size = link_size ∙ g.link_size;
               room = room_here y.linked y.stands.events_kept;
-              values = sym (values_here ValueCheck.Good y.no_fault);
+              values = sym (values_here (Ok tt) y.no_fault);
               first_broken_holds = rules_here false y.unbroken;
               linked = links_here y.linked y.stands.events_kept;
               still = λ e. left_then (g.still e) pieces_here y.stored;
               known = λ e. known_here y.stands (g.known e);
             })
 
-        pub contents_broken : (held' : ℕ) {next first : ℕ} {rules' : RuleCheck} → r ≡ EntryRead.Broken held' → next ≡ get_or rows (4 * k + 2) 0 → first ≡ get_or rows (4 * k) 0
-            → rules' ≡ rule_else rules (RuleCheck.Broken first) → ReadingContents c a b s index rows o₀ m new rules' n held' next
+        pub contents_broken : (v : EntryRead) {next first : ℕ} {rules' : Option ℕ} → r ≡ Ok v → v.count ≡ None → next ≡ get_or rows (4 * k + 2) 0 → first ≡ get_or rows (4 * k) 0
+            → rules' ≡ rule_else rules (Some first) → ReadingContents c a b s index rows o₀ m new rules' n v.held next
         unfolding broken_or fault_else
-        contents_broken held' {next} {first} {rules'} q w p f =
-            let y = entry_of_broken u held' q in
+        contents_broken v {next} {first} {rules'} q z w p f =
+            let y = entry_of_broken u v q z in
             rw (w, f)
             (record {
               below = here.after;
@@ -719,22 +729,18 @@ module _ {c : Context} {a b : ℕ} {s index rows o₀ : List ℕ} {m : ℕ} {old
               size = size ∙ g.size;
               link_size = link_size ∙ g.link_size;
               room = room_here y.linked y.events_kept;
-              values = sym (values_here ValueCheck.Good y.no_fault);
+              values = sym (values_here (Ok tt) y.no_fault);
               first_broken_holds =
-                  broken_twice rules first (alone_fault c rest) ∙ ap (λ (i : ℕ). rule_else rules (RuleCheck.Broken i)) p ∙ rules_here true y.broken;
+                  broken_twice rules first (alone_fault c rest) ∙ ap (λ (i : ℕ). rule_else rules (Some i)) p ∙ rules_here true y.broken;
               linked = links_here y.linked y.events_kept;
               still = λ e. else_broken rules first e;
               known = λ e. else_broken rules first e;
             })
 
         -- a fault of a value is that of the whole
-        pub contents_unsupported : (i : ℕ) → r ≡ EntryRead.Unsupported i → value_fault c (components_by s rows 1 m) ≡ ValueCheck.Unsupported i
+        pub contents_fault : (f : LineError) → r ≡ Err f → value_fault c (components_by s rows 1 m) ≡ Err f
         unfolding fault_else
-        contents_unsupported i q = values_here (ValueCheck.Unsupported i) (entry_of_unsupported u i q)
-
-        pub contents_bad : (i : ℕ) → r ≡ EntryRead.Bad i → value_fault c (components_by s rows 1 m) ≡ ValueCheck.Bad i
-        unfolding fault_else
-        contents_bad i q = values_here (ValueCheck.Bad i) (entry_of_bad u i q)
+        contents_fault f q = values_here (Err f) (entry_of_refused u f q)
 
 -- ---- all of them
 
@@ -742,70 +748,57 @@ pub components_file : {s index rows : List ℕ} → FileRows s index rows → co
 unfolding components_of file_lines tree_in
 components_file h = file_below h
 
-rule_last : (r : RuleCheck) → rule_else r RuleCheck.Good ≡ r
+rule_last : (r : Option ℕ) → rule_else r None ≡ r
 unfolding rule_else
-rule_last RuleCheck.Good = refl
-rule_last (RuleCheck.Broken n) = refl
-
-abbrev is_value_good : ValueCheck → Bool
-is_value_good ValueCheck.Good = true
-is_value_good (ValueCheck.Unsupported i) = false
-is_value_good (ValueCheck.Bad i) = false
+rule_last None = refl
+rule_last (Some n) = refl
 
 module _ {s index rows : List ℕ} (h : FileRows s index rows) {m : ℕ} (w : m ≡ get_or rows 2 0) where
   all_of : components_by s rows 1 m ≡ components_of s
   all_of = ap (components_by s rows 1) w ∙ sym (components_file h)
 
   -- a value at fault
-  pub fault_told : {c : Context} {a b : ℕ} {o : List ℕ} {new : EntryTerms} {r : ContentsRead} (f : ValueCheck) → is_value_good f ≡ false → value_fault c (components_by s rows 1 m) ≡ f → r.values ≡ f
+  pub fault_told : {c : Context} {a b : ℕ} {o : List ℕ} {new : EntryTerms} {r : Result ContentsRead LineError} {f : LineError} → value_fault c (components_by s rows 1 m) ≡ Err f → IsErrAnd r (λ y. y ≡ f)
       → ContentsAre c s rows a b o new r
-  fault_told {c} f bad e t =
-      record {
-        values_are = t ∙ sym e ∙ ap (value_fault c) all_of;
-        rules_are = λ z. clash refl (ap is_value_good (sym z ∙ t) ∙ bad);
-        links_are = λ z. clash refl (ap is_value_good (sym z ∙ t) ∙ bad);
-        stored = λ z _. clash refl (ap is_value_good (sym z ∙ t) ∙ bad);
-        entries = λ z _. clash refl (ap is_value_good (sym z ∙ t) ∙ bad);
-      }
+  fault_told {c} e = contents_up (sym (ap (value_fault c) all_of) ∙ e)
 
   -- no component is left
-  pub contents_end : {c : Context} {a b : ℕ} {o : List ℕ} {new : EntryTerms} {rules : RuleCheck} {n held k : ℕ} {r : ContentsRead} → ReadingContents c a b s index rows o m new rules n held k → m ≤ k
-      → r ≡ record { values = ValueCheck.Good; rules = rules; count = n } → ContentsAre c s rows a b o new r
+  pub contents_end : {c : Context} {a b : ℕ} {o : List ℕ} {new : EntryTerms} {rules : Option ℕ} {n held k : ℕ} → ReadingContents c a b s index rows o m new rules n held k → m ≤ k
+      → ContentsAre c s rows a b o new (Ok (record { rules = rules; count = n }))
   unfolding value_fault alone_fault entries_of
-  contents_end {c} {a} {b} {o} {new} {rules} {n} {held} {k} {r} g l t =
+  contents_end {c} {a} {b} {o} {new} {rules} {n} {held} {k} g l =
       let none : components_by s rows k m ≡ [] = components_none s rows l in
-      let values : value_fault c (components_of s) ≡ ValueCheck.Good = ap (value_fault c) (sym all_of) ∙ sym g.values ∙ ap (value_fault c) none in
+      let values : value_fault c (components_of s) ≡ Ok tt = ap (value_fault c) (sym all_of) ∙ sym g.values ∙ ap (value_fault c) none in
       let first : alone_fault c (components_of s) ≡ rules =
       ap (alone_fault c) (sym all_of) ∙ sym g.first_broken_holds ∙ ap (λ (ks : List Component). rule_else rules (alone_fault c ks)) none ∙ rule_last rules
       in
-      let told : r.rules ≡ rules = ap (λ (y : ContentsRead). y.rules) t in
-      let counted : r.count ≡ n = ap (λ (y : ContentsRead). y.count) t in
-      record {
-        values_are = ap (λ (y : ContentsRead). y.values) t ∙ sym values;
-        rules_are = λ _. told ∙ sym first;
-        links_are = λ _.
+      contents_read
+      (record {
+        no_fault = values;
+        rules_are = sym first;
+        links_are =
             record {
               room = g.link_size;
               entry_room = g.size;
               stands = λ p f u. g.linked.stands p (omega (arith, w)) u;
               rising = λ i p o f u v. g.linked.rising i p o (omega (arith, w)) u v;
             };
-        stored = λ _ e.
-            let z = left_none (g.still (sym told ∙ e)) (ap (pieces_in c a b) none ∙ no_pieces c a b) in
+        stored = λ e.
+            let z = left_none (g.still e) (ap (pieces_in c a b) none ∙ no_pieces c a b) in
             let stated : all_stated c (components_by s rows 1 m) ≡ gathered stated_periods (entries_among c (components_of s) (components_of s)) =
             ap (all_stated c) all_of ∙ sym (among_stated c (components_of s) (components_of s))
             in
-            subst (Stored o 0 (pieces_of a b (gathered stated_periods (entries_among c (components_of s) (components_of s)))) new.pieces) (sym counted) (stored_as z (ap (pieces_of a b) stated));
-        entries = λ _ e.
-            let z = g.known (sym told ∙ e) in
+            stored_as z (ap (pieces_of a b) stated);
+        entries = λ e.
+            let z = g.known e in
             record { room = g.size; events = λ p f u. z.events p (omega (arith, w)) u; blocks = λ p f u. z.blocks p (omega (arith, w)) u };
-      }
+      })
 
 -- ---- refusals 6 and 7, by what reading the structure answered
 
-module _ {u index rows : List ℕ} {x : Structure} (k : StructureRead u index rows x) {f : Fault} (q : f ≡ structure_refusal x) where
+module _ {u index rows : List ℕ} {x : Result (Unit {0}) StructureError} (k : StructureRead u index rows x) {f : Result (Unit {0}) Refusal} (q : f ≡ structure_refusal x) where
   pub structure_found : structure_fault u ≡ f
   structure_found = sym (structure_refusal_lem u k.structure_is) ∙ sym q
 
-  pub structure_known : f ≡ Fault.None → FileRows u index rows
+  pub structure_known : f ≡ Ok tt → FileRows u index rows
   structure_known e = k.known (no_refusal x (sym q ∙ e))

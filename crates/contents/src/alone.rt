@@ -4,27 +4,28 @@ ghost use Rattle.std.specs.Prelude.{◌≡◌};
 ghost use Rattle.contents.specs.Alone.{several_uids, no_uid, other_kinds, some_kinds, override_by, alone_by};
 
 use events::Event;
-use identities::{IdentityRead, RecurrenceGiven, UidGiven};
+use identities::{IdentityRead, RecurrenceId};
 use time::date_time::Kind;
+use values::given::Given;
 use values::time_lists::Kinds;
 
-fn several_uids(uid: UidGiven) -> bool
+fn several_uids(uid: Given<usize>) -> bool
     ensures { result ≡ several_uids uid }
 {
     match uid {
-        UidGiven::None => false,
-        UidGiven::One(_) => false,
-        UidGiven::Several => true,
+        Given::None => false,
+        Given::One(_) => false,
+        Given::Several => true,
     }
 }
 
-fn no_uid(uid: UidGiven) -> bool
+fn no_uid(uid: Given<usize>) -> bool
     ensures { result ≡ no_uid uid }
 {
     match uid {
-        UidGiven::None => true,
-        UidGiven::One(_) => false,
-        UidGiven::Several => false,
+        Given::None => true,
+        Given::One(_) => false,
+        Given::Several => false,
     }
 }
 
@@ -50,13 +51,13 @@ fn some_kinds(kinds: Kinds) -> bool
 }
 
 // With a RECURRENCE-ID: one alone, a UID, no EXDATE, no RRULE.
-fn override_by(recurrence: RecurrenceGiven, uid: UidGiven, kinds: Kinds, rule: bool) -> bool
+fn override_by(recurrence: Given<RecurrenceId>, uid: Given<usize>, kinds: Kinds, rule: bool) -> bool
     ensures { result ≡ override_by recurrence uid kinds rule }
 {
     match recurrence {
-        RecurrenceGiven::None => false,
-        RecurrenceGiven::One(_) => no_uid(uid) | some_kinds(kinds) | rule,
-        RecurrenceGiven::Several => true,
+        Given::None => false,
+        Given::One(_) => no_uid(uid) | some_kinds(kinds) | rule,
+        Given::Several => true,
     }
 }
 

@@ -1,5 +1,7 @@
 // The components right below VCALENDAR, each read once: refusals 8 to 10, the event or block as a row of numbers, and the busy pieces of stated periods.
 // Lines and components are found by index and rows.
+// Columns are lent as slices with counts and places in them, and their lengths and room are clauses (no heap); the range is two numbers, and the context stands beside it:
+// docs/TRACE.md names `read_contents` and `walks::read_components`, which take them so, and a struct of the columns would want a clause on each `&mut` in it.
 #![tactic(auto)]
 
 pub mod alone;
@@ -15,34 +17,27 @@ ghost use Rattle.calendar.specs.Meaning.{component_scope};
 ghost use Rattle.pieces.specs.Columns.{Room};
 ghost use Rattle.contents.specs.Contents.{ExcludedRoom, IdentitySmall, EventEntered, EntryIs, ContentsAre};
 
-use calendar::{RuleCheck, ValueCheck, faults};
-use component_lines::LinesRead;
-use events::{BlockRead, Event, EventRead, rules};
+use calendar::{LineError, faults};
+use events::{Event, rules};
 use identities::IdentityRead;
 use property::Scope;
-use structure::rows;
+use structure::calendar::Calendar;
 use values::times::Context;
 
-// What reading one component answers.
+// What one component without a fault adds.
 #[derive(Clone, Copy)]
-pub enum EntryRead {
-    // No fault, and no rule broken by itself; so many pieces stand, and so many excluded seconds.
-    Of(usize, usize),
-    // Refusal 10 by itself; so many excluded seconds stand.
-    Broken(usize),
-    // Refusal 8, at the line of this number.
-    Unsupported(usize),
-    // Refusal 9.
-    Bad(usize),
+pub struct EntryRead {
+    // How many pieces stand; none is told where a rule is broken by itself, which is refusal 10.
+    pub count: Option<usize>,
+    // How many excluded seconds stand.
+    pub held: usize,
 }
 
-// What reading all of them tells.
+// What all of them without a fault tell.
 #[derive(Clone, Copy)]
 pub struct ContentsRead {
-    // The first fault of a value.
-    pub values: ValueCheck,
     // The first component that breaks a rule by itself.
-    pub rules: RuleCheck,
+    pub rules: Option<usize>,
     // How many pieces stand; no more than 513 are stored.
     pub count: usize,
 }
@@ -67,9 +62,12 @@ fn enter_event(
     linking::put_identity(links, k, y, from, broken);
     let held = y.held;
     if broken {
-        return EntryRead::Broken(held);
+        return EntryRead { count: None, held };
     }
-    EntryRead::Of(m, held)
+    EntryRead {
+        count: Some(m),
+        held,
+    }
 }
 
 // The event of row k.
@@ -80,53 +78,51 @@ fn read_event(
     exceptions: &mut [u32],
     held: usize,
     links: &mut [u32],
-    s: &[u8],
-    index: &[u32],
-    rows: &[u32],
+    cal: &Calendar,
     k: usize,
     c: Context,
     a: u64,
     b: u64,
-) -> EntryRead
+) -> Result<EntryRead, LineError>
     requires room { Room column.old }
     requires n_bound { n ≤ 513 }
     requires entries_len { length entries.old ≡ 3072 }
     requires links_len { length links.old ≡ 2048 }
-    requires excluded_room { ExcludedRoom s.now index.now (get_or rows.now (4 * k) 0) exceptions.old held }
+    requires excluded_room { ExcludedRoom cal.now.text.now cal.now.index.now (get_or cal.now.rows.now (4 * k) 0) exceptions.old held }
     requires context_good { ContextGood c }
-    requires indexed { Indexed s.now index.now }
-    requires row_of { RowOf s.now rows.now k }
-    requires k_value { component_scope (component_by s.now rows.now k) ≡ Scope.Event }
+    requires indexed { Indexed cal.now.text.now cal.now.index.now }
+    requires row_of { RowOf cal.now.text.now cal.now.rows.now k }
+    requires k_value { component_scope (component_by cal.now.text.now cal.now.rows.now k) ≡ Scope.Event }
     requires a_lt_b { (a < b) × (b ≤ last_second) }
-    ensures { EntryIs c s.now index.now (component_by s.now rows.now k) k (get_or rows.now (4 * k + 1) 0 - 1) a b n held (record { pieces = column.old; entries = entries.old; excluded = exceptions.old; links = links.old }) (record { pieces = column.new; entries = entries.new; excluded = exceptions.new; links = links.new }) result }
+    ensures { EntryIs c cal.now.text.now cal.now.index.now (component_by cal.now.text.now cal.now.rows.now k) k (get_or cal.now.rows.now (4 * k + 1) 0 - 1) a b n held (record { pieces = column.old; entries = entries.old; excluded = exceptions.old; links = links.old }) (record { pieces = column.new; entries = entries.new; excluded = exceptions.new; links = links.new }) result }
 {
-    match component_lines::read_lines(
+    let read = component_lines::read_lines(
         column,
         n,
         exceptions,
         held,
-        s,
-        index,
-        rows,
+        cal,
         k,
         Scope::Event,
         c,
         a,
         b,
-    ) {
-        LinesRead::Of(g, y, m) => match rules::event_by(g) {
-            EventRead::Of(e) => enter_event(entries, links, k, e, y, held, m),
-            EventRead::Broken => {
-                linking::put_identity(links, k, y, held, true);
-                EntryRead::Broken(y.held)
-            }
-        },
-        LinesRead::Unsupported(i) => EntryRead::Unsupported(i),
-        LinesRead::Bad(i) => EntryRead::Bad(i),
+    )?;
+    let y = read.identity;
+    match rules::event_by(read.properties) {
+        Some(e) => Ok(enter_event(entries, links, k, e, y, held, read.count)),
+        None => {
+            linking::put_identity(links, k, y, held, true);
+            Ok(EntryRead {
+                count: None,
+                held: y.held,
+            })
+        }
     }
 }
 
 // The block of row k.
+// Not one with `read_event`: they share one call, and behind it an event has a row of links and rules of its own, a block neither.
 fn read_block(
     column: &mut [u32],
     n: usize,
@@ -134,49 +130,47 @@ fn read_block(
     exceptions: &mut [u32],
     held: usize,
     links: &mut [u32],
-    s: &[u8],
-    index: &[u32],
-    rows: &[u32],
+    cal: &Calendar,
     k: usize,
     c: Context,
     a: u64,
     b: u64,
-) -> EntryRead
+) -> Result<EntryRead, LineError>
     requires room { Room column.old }
     requires n_bound { n ≤ 513 }
     requires entries_len { length entries.old ≡ 3072 }
     requires links_len { length links.old ≡ 2048 }
-    requires excluded_room { ExcludedRoom s.now index.now (get_or rows.now (4 * k) 0) exceptions.old held }
+    requires excluded_room { ExcludedRoom cal.now.text.now cal.now.index.now (get_or cal.now.rows.now (4 * k) 0) exceptions.old held }
     requires context_good { ContextGood c }
-    requires indexed { Indexed s.now index.now }
-    requires row_of { RowOf s.now rows.now k }
-    requires k_value { component_scope (component_by s.now rows.now k) ≡ Scope.FreeBusy }
+    requires indexed { Indexed cal.now.text.now cal.now.index.now }
+    requires row_of { RowOf cal.now.text.now cal.now.rows.now k }
+    requires k_value { component_scope (component_by cal.now.text.now cal.now.rows.now k) ≡ Scope.FreeBusy }
     requires a_lt_b { (a < b) × (b ≤ last_second) }
-    ensures { EntryIs c s.now index.now (component_by s.now rows.now k) k (get_or rows.now (4 * k + 1) 0 - 1) a b n held (record { pieces = column.old; entries = entries.old; excluded = exceptions.old; links = links.old }) (record { pieces = column.new; entries = entries.new; excluded = exceptions.new; links = links.new }) result }
+    ensures { EntryIs c cal.now.text.now cal.now.index.now (component_by cal.now.text.now cal.now.rows.now k) k (get_or cal.now.rows.now (4 * k + 1) 0 - 1) a b n held (record { pieces = column.old; entries = entries.old; excluded = exceptions.old; links = links.old }) (record { pieces = column.new; entries = entries.new; excluded = exceptions.new; links = links.new }) result }
 {
-    match component_lines::read_lines(
+    let read = component_lines::read_lines(
         column,
         n,
         exceptions,
         held,
-        s,
-        index,
-        rows,
+        cal,
         k,
         Scope::FreeBusy,
         c,
         a,
         b,
-    ) {
-        LinesRead::Of(g, y, stated) => match rules::block_by(g) {
-            BlockRead::Of(x) => {
-                events::rows::put_block(entries, k, x);
-                EntryRead::Of(stated, y.held)
-            }
-            BlockRead::Broken => EntryRead::Broken(y.held),
-        },
-        LinesRead::Unsupported(i) => EntryRead::Unsupported(i),
-        LinesRead::Bad(i) => EntryRead::Bad(i),
+    )?;
+    let stated = read.count;
+    let held = read.identity.held;
+    match rules::block_by(read.properties) {
+        Some(x) => {
+            events::rows::put_block(entries, k, x);
+            Ok(EntryRead {
+                count: Some(stated),
+                held,
+            })
+        }
+        None => Ok(EntryRead { count: None, held }),
     }
 }
 
@@ -188,33 +182,30 @@ fn read_entry(
     exceptions: &mut [u32],
     held: usize,
     links: &mut [u32],
-    s: &[u8],
-    index: &[u32],
-    rows: &[u32],
+    cal: &Calendar,
     k: usize,
     c: Context,
     a: u64,
     b: u64,
-) -> EntryRead
+) -> Result<EntryRead, LineError>
     requires room { Room column.old }
     requires n_bound { n ≤ 513 }
     requires entries_len { length entries.old ≡ 3072 }
     requires links_len { length links.old ≡ 2048 }
-    requires excluded_room { ExcludedRoom s.now index.now (get_or rows.now (4 * k) 0) exceptions.old held }
+    requires excluded_room { ExcludedRoom cal.now.text.now cal.now.index.now (get_or cal.now.rows.now (4 * k) 0) exceptions.old held }
     requires context_good { ContextGood c }
-    requires indexed { Indexed s.now index.now }
-    requires row_of { RowOf s.now rows.now k }
+    requires indexed { Indexed cal.now.text.now cal.now.index.now }
+    requires row_of { RowOf cal.now.text.now cal.now.rows.now k }
     requires a_lt_b { (a < b) × (b ≤ last_second) }
-    ensures { EntryIs c s.now index.now (component_by s.now rows.now k) k (get_or rows.now (4 * k + 1) 0 - 1) a b n held (record { pieces = column.old; entries = entries.old; excluded = exceptions.old; links = links.old }) (record { pieces = column.new; entries = entries.new; excluded = exceptions.new; links = links.new }) result }
+    ensures { EntryIs c cal.now.text.now cal.now.index.now (component_by cal.now.text.now cal.now.rows.now k) k (get_or cal.now.rows.now (4 * k + 1) 0 - 1) a b n held (record { pieces = column.old; entries = entries.old; excluded = exceptions.old; links = links.old }) (record { pieces = column.new; entries = entries.new; excluded = exceptions.new; links = links.new }) result }
 {
-    match rows::kind_at(rows, k) {
-        1 => read_event(
-            column, n, entries, exceptions, held, links, s, index, rows, k, c, a, b,
-        ),
-        2 => read_block(
-            column, n, entries, exceptions, held, links, s, index, rows, k, c, a, b,
-        ),
-        _ => EntryRead::Of(n, held),
+    match cal.kind_at(k) {
+        1 => read_event(column, n, entries, exceptions, held, links, cal, k, c, a, b),
+        2 => read_block(column, n, entries, exceptions, held, links, cal, k, c, a, b),
+        _ => Ok(EntryRead {
+            count: Some(n),
+            held,
+        }),
     }
 }
 
@@ -226,60 +217,38 @@ pub fn read_contents(
     entries: &mut [u64],
     exceptions: &mut [u32],
     links: &mut [u32],
-    s: &[u8],
-    index: &[u32],
-    rows: &[u32],
+    cal: &Calendar,
     c: Context,
     a: u64,
     b: u64,
-) -> ContentsRead
+) -> Result<ContentsRead, LineError>
     requires room { Room column.old }
     requires entries_len { length entries.old ≡ 3072 }
     requires links_len { length links.old ≡ 2048 }
-    requires s_len_bound { (length s.now ≤ 8 * length exceptions.old) × (length exceptions.old ≤ 65536) }
+    requires s_len_bound { (length cal.now.text.now ≤ 8 * length exceptions.old) × (length exceptions.old ≤ 65536) }
     requires context_good { ContextGood c }
-    requires file_rows { FileRows s.now index.now rows.now }
+    requires file_rows { FileRows cal.now.text.now cal.now.index.now cal.now.rows.now }
     requires a_lt_b { (a < b) × (b ≤ last_second) }
-    ensures { ContentsAre c s.now rows.now a b column.old (record { pieces = column.new; entries = entries.new; excluded = exceptions.new; links = links.new }) result }
+    ensures { ContentsAre c cal.now.text.now cal.now.rows.now a b column.old (record { pieces = column.new; entries = entries.new; excluded = exceptions.new; links = links.new }) result }
 {
-    let m = rows::next_row(rows, 0);
-    let mut rules = RuleCheck::Good;
+    let m = cal.next_row(0);
+    let mut rules = None;
     let mut n: usize = 0;
     let mut held: usize = 0;
     let mut k: usize = 1;
+    // A `while`: a component is passed by its rows, as the row read says.
     while k < m {
-        match read_entry(
-            column, n, entries, exceptions, held, links, s, index, rows, k, c, a, b,
-        ) {
-            EntryRead::Of(count, more) => {
+        let entry = read_entry(column, n, entries, exceptions, held, links, cal, k, c, a, b)?;
+        held = entry.held;
+        match entry.count {
+            Some(count) => {
                 n = count;
-                held = more;
-                k = rows::next_row(rows, k);
             }
-            EntryRead::Broken(more) => {
-                rules = faults::broken_else(rules, rows::first_line(rows, k));
-                held = more;
-                k = rows::next_row(rows, k);
-            }
-            EntryRead::Unsupported(i) => {
-                return ContentsRead {
-                    values: ValueCheck::Unsupported(i),
-                    rules,
-                    count: n,
-                }
-            }
-            EntryRead::Bad(i) => {
-                return ContentsRead {
-                    values: ValueCheck::Bad(i),
-                    rules,
-                    count: n,
-                }
+            None => {
+                rules = faults::broken_else(rules, cal.first_line(k));
             }
         }
+        k = cal.next_row(k);
     }
-    ContentsRead {
-        values: ValueCheck::Good,
-        rules,
-        count: n,
-    }
+    Ok(ContentsRead { rules, count: n })
 }

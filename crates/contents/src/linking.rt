@@ -8,6 +8,7 @@ use identities::rows::Link;
 use identities::{IdentityRead, rows};
 
 // Row k becomes that of what was gathered, with its excluded seconds from this place on.
+// No From<IdentityRead>: where its excluded seconds begin and whether a rule is broken do not stand in it.
 pub fn put_identity(links: &mut [u32], k: usize, y: IdentityRead, from: usize, broken: bool)
     requires k_in_bounds { 8 * k + 8 ≤ length links.old }
     requires link_small { LinkSmall (link_from y from broken) }

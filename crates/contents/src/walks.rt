@@ -7,55 +7,39 @@ ghost use Rattle.structure.specs.Rows.{FileRows};
 ghost use Rattle.pieces.specs.Columns.{Room};
 ghost use Rattle.contents.specs.Walks.{WalksTell};
 
-use calendar::{Fault, ValueCheck, faults};
+use calendar::{Refusal, faults};
+use series::columns::EventColumns;
 use series::passes;
+use structure::calendar::Calendar;
 use values::times::Context;
 
-// The first fault, and how many pieces of stated periods stand.
-#[derive(Clone, Copy)]
-pub struct WalksRead {
-    pub fault: Fault,
-    pub count: usize,
-}
-
+// The first refusal, or how many pieces of stated periods stand.
 pub fn read_components(
     column: &mut [u32],
     entries: &mut [u64],
     exceptions: &mut [u32],
     links: &mut [u32],
-    s: &[u8],
-    index: &[u32],
-    rows: &[u32],
+    cal: &Calendar,
     c: Context,
     a: u64,
     b: u64,
-) -> WalksRead
+) -> Result<usize, Refusal>
     requires room { Room column.old }
     requires entries_len { length entries.old ≡ 3072 }
     requires links_len { length links.old ≡ 2048 }
-    requires s_len_bound { (length s.now ≤ 8 * length exceptions.old) × (length exceptions.old ≤ 65536) }
+    requires s_len_bound { (length cal.now.text.now ≤ 8 * length exceptions.old) × (length exceptions.old ≤ 65536) }
     requires context_good { ContextGood c }
-    requires file_rows { FileRows s.now index.now rows.now }
+    requires file_rows { FileRows cal.now.text.now cal.now.index.now cal.now.rows.now }
     requires a_lt_b { (a < b) × (b ≤ last_second) }
-    ensures { WalksTell c s.now index.now rows.now a b column.old (record { pieces = column.new; entries = entries.new; excluded = exceptions.new; links = links.new }) result }
+    ensures { WalksTell c cal.now.text.now cal.now.index.now cal.now.rows.now a b column.old (record { pieces = column.new; entries = entries.new; excluded = exceptions.new; links = links.new }) result }
 {
-    let read = crate::read_contents(column, entries, exceptions, links, s, index, rows, c, a, b);
-    let values = read.values;
-    let alone = read.rules;
-    let count = read.count;
-    match values {
-        ValueCheck::Unsupported(i) => WalksRead {
-            fault: Fault::At(8, i),
-            count,
-        },
-        ValueCheck::Bad(i) => WalksRead {
-            fault: Fault::At(9, i),
-            count,
-        },
-        ValueCheck::Good => {
-            let rules = passes::rule_fault(s, index, rows, entries, links, exceptions, c, alone);
-            let fault = faults::fault_by(ValueCheck::Good, rules);
-            WalksRead { fault, count }
-        }
-    }
+    let read = crate::read_contents(column, entries, exceptions, links, cal, c, a, b)?;
+    let events = EventColumns {
+        entries,
+        links,
+        exceptions,
+    };
+    let rules = passes::rule_fault(cal, &events, c, read.rules);
+    faults::fault_by(Ok(()), rules)?;
+    Ok(read.count)
 }

@@ -39,8 +39,14 @@ pub begins_yes : {m r : Delimiter} {v w : List ℕ} (t : Bool) → r ≡ m → w
 unfolding is_calendar
 begins_yes t p g b e = rw (sym p ∙ b, sym g) e
 
-pub begins_no : {m r : Delimiter} (v : List ℕ) (q : Delimiter) → r ≡ m → r ≡ q → begins_by q v ≡ false → false ≡ begins_by m v
-begins_no v q p b e = sym (ap (λ (j : Delimiter). begins_by j v) (sym p ∙ b) ∙ e)
+pub begins_no : {m r : Delimiter} (v : List ℕ) → r ≡ m → (r ≡ Begins → ⊥) → false ≡ begins_by m v
+begins_no {m} {r} v p h = sym (go r h) ∙ ap (λ (j : Delimiter). begins_by j v) p
+  where
+    go : (j : Delimiter) → (j ≡ Begins → ⊥) → begins_by j v ≡ false
+    go Begins k = absurd (k refl)
+    go Ends k = refl
+    go Property k = refl
+    go Wrong k = refl
 
 -- a line of another name than BEGIN begins nothing
 pub begins_other : (l : List ℕ) (t : Bool) → t ≡ same_name (name_of l) (ascii "BEGIN") → t ≡ false → false ≡ begins_calendar (line_of l)

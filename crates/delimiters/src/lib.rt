@@ -1,5 +1,6 @@
 // What a line is to the nesting, and what it does to the innermost open component.
 // Each function equals one definition of specs/.
+// `Wrong` and `Breaks` are cases like the others: definition `nesting_step_by` goes by the four delimiters, and whoever reads a file takes the four steps in one match.
 #![tactic(auto)]
 
 ghost use Rattle.std.specs.Prelude.{◌≡◌, length};
@@ -112,14 +113,11 @@ pub fn begins_calendar(line: &[u8], n: usize) -> bool
     requires { n ≡ length (name_of line.now) }
     ensures { result ≡ begins_calendar (line_of line.now) }
 {
-    if line::read::is_called(line, n, b"BEGIN") {
-        match delimited_by(line, n, Delimiter::Begins) {
-            Delimiter::Begins => ascii::same_name(line::read::value(line), b"VCALENDAR"),
-            Delimiter::Ends => false,
-            Delimiter::Property => false,
-            Delimiter::Wrong => false,
-        }
-    } else {
-        false
+    if !line::read::is_called(line, n, b"BEGIN") {
+        return false;
+    }
+    match delimited_by(line, n, Delimiter::Begins) {
+        Delimiter::Begins => ascii::same_name(line::read::value(line), b"VCALENDAR"),
+        _ => false,
     }
 }

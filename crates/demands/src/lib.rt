@@ -1,8 +1,9 @@
 // Two report calls in one: a report read back, and the reports of two calendars.
-// Each has the whole contract of both calls, and beside it what they say together.
+// Each has the whole contract of both calls, and beside it what they say together. Range, calendar and buffers stay arguments of their own,
+// since `engine::report` takes them so, and the contracts of `read_back` and `compare`, which docs/CONTRACTS.md names, may not change.
 #![tactic(auto)]
 
-ghost use Rattle.std.specs.Prelude.{◌≡◌, min, take};
+ghost use Rattle.std.specs.Prelude.{◌≡◌, take};
 ghost use Rattle.ascii.specs.Names.{same_bytes};
 ghost use Rattle.demands.specs.PairedCalls.{length_of, same_reports, ReadBackCalls, Compared};
 
@@ -25,6 +26,7 @@ pub struct Pair {
 }
 
 // The length of a report, 0 for any other answer.
+// No Option: definition `length_of` says 0.
 pub fn length_of(a: Answer) -> usize
     ensures { result ≡ length_of a }
 {
@@ -35,29 +37,14 @@ pub fn length_of(a: Answer) -> usize
     }
 }
 
-// The lesser of two lengths.
-fn lesser(a: usize, b: usize) -> usize
-    ensures { result ≡ min a b }
-{
-    if a < b {
-        return a;
-    }
-    b
-}
-
-fn same_bytes(a: &[u8], b: &[u8]) -> bool
-    ensures { result ≡ same_bytes a.now b.now }
-{
-    (a.len() == b.len()) & heads::has_bytes_at(a, 0, b)
-}
-
 // Are the first n bytes of one the first k of the other?
+// The lengths stand beside the buffers, as definition `same_reports` has them: cut before the call, both cuts would be written there.
 fn same_first(a: &[u8], n: usize, b: &[u8], k: usize) -> bool
     ensures { result ≡ same_bytes (take n a.now) (take k b.now) }
 {
-    let n = lesser(n, a.len());
-    let k = lesser(k, b.len());
-    same_bytes(&a[..n], &b[..k])
+    let n = n.min(a.len());
+    let k = k.min(b.len());
+    &a[..n] == &b[..k]
 }
 
 // Are both answers reports, and the first bytes of the two outputs the same report?
@@ -97,9 +84,9 @@ pub fn read_back(
         out_again,
     );
     ReadBack {
-        first: first,
-        second: second,
-        heads: heads,
+        first,
+        second,
+        heads,
     }
 }
 
@@ -129,8 +116,5 @@ pub fn compare(
         work_other,
         out_other,
     );
-    Pair {
-        first: first,
-        second: second,
-    }
+    Pair { first, second }
 }

@@ -1,5 +1,6 @@
 -- Demand 1: the first refusal that applies, else an answer; and what work buffer and output then hold.
 -- Answers and outputs that keep no promise (document 01, How far the contracts reach).
+use Rattle.std.specs.Prelude.{Result, Ok, Err}
 use Prim.Native.Nat.{ℕ, ◌≤◌}
 use mathlib.Core.Path.{◌≡◌, sym, ap, ◌∙◌, refl}
 use mathlib.Core.List.{List, ◌++◌}
@@ -8,7 +9,7 @@ use native.Mathlib.Omega.{arith}
 use lib.ListN.{length, take, drop, length-append}
 use lib.Seq.{take_at}
 use Rattle.report.specs.Bytes.{report_bytes}
-use Rattle.calendar.specs.declared.Fault.{Fault}
+use Rattle.calendar.specs.declared.Refusal.{Refusal}
 use Rattle.refusals.specs.Refusals.{Row, NoneApplies, first_refusal}
 use Rattle.refusals.specs.Stages.{work_by}
 use Rattle.refusals.proofs.Refusals.{none_iff, first_iff, first_applies}
@@ -38,17 +39,17 @@ module _ (rows : List Row) (o : Outcome) {its-kind : Outcome → Type 0} {a : An
         );
       }
     where
-      none_where : its-kind (outcome_of a) → (f : Fault) → first_refusal rows ≡ f → NoneApplies rows
-      none_where z Fault.None q = (none_iff rows).0 q
-      none_where z (Fault.At n i) q = absurd (g n i (rw (e ∙ ap (λ (x : Fault). unless_refused x o) q) at z))
+      none_where : its-kind (outcome_of a) → (f : Result (Unit {0}) Refusal) → first_refusal rows ≡ f → NoneApplies rows
+      none_where z (Ok _) q = (none_iff rows).0 q
+      none_where z (Err r) q = absurd (g r.number r.line (rw (e ∙ ap (λ (x : Result (Unit {0}) Refusal). unless_refused x o) q) at z))
 
 -- the work buffer by the rows that are asked before unfolding
 work_by_lem : (early : List Row) (cal work : List ℕ) {left : List ℕ} → left ≡ work_by (first_refusal early) cal work → WorkLeft early cal work left
 unfolding work_by
 work_by_lem early cal work e =
     record {
-      kept_when = λ k i f. e ∙ ap (λ (x : Fault). work_by x cal work) ((first_iff early k i).1 f);
-      unfolded_when = λ f. e ∙ ap (λ (x : Fault). work_by x cal work) ((none_iff early).1 f);
+      kept_when = λ k i f. e ∙ ap (λ (x : Result (Unit {0}) Refusal). work_by x cal work) ((first_iff early k i).1 f);
+      unfolded_when = λ f. e ∙ ap (λ (x : Result (Unit {0}) Refusal). work_by x cal work) ((none_iff early).1 f);
     }
 
 -- ---- a match
@@ -90,7 +91,7 @@ module _ {m : ReportCall} {a : Answer} {work_left out-left : List ℕ} (p : Repo
   unfolding report_outcome NoneApplies IsReport
   report_given h = p.answered ∙ let_through _ ((none_iff (report_rows m)).1 h)
 
-  report_is : (n : ℕ) → IsReport a n → (first_refusal (report_rows m) ≡ Fault.None) × (n ≡ length bytes)
+  report_is : (n : ℕ) → IsReport a n → (first_refusal (report_rows m) ≡ Ok tt) × (n ≡ length bytes)
   unfolding report_outcome IsReport
   report_is n e = report_found (length bytes) (first_refusal (report_rows m)) (sym p.answered ∙ e)
 

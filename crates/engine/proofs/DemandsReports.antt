@@ -1,5 +1,6 @@
 -- Demands 2 and 3 of the report call: a report stands for the covered seconds of its calendar, is read back as it was written,
 -- and is the same for two calls exactly when their calendars cover the same seconds.
+use Rattle.std.specs.Prelude.{Ok}
 use Prim.Native.Nat.{ℕ, ◌≤◌, ◌<◌, suc, ◌-◌, ◌+◌}
 use mathlib.Core.Path.{◌≡◌, refl, sym, ap, ◌∙◌, subst}
 use mathlib.Core.Bool.{true, not, ◌&&◌, Bool, false}
@@ -24,7 +25,6 @@ use Rattle.report.specs.Bytes.{Report, report_bytes, Writable, period_count}
 use Rattle.report.proofs.Bytes.{report_short, equal_bytes, empty_periods}
 use Rattle.events.specs.Events.{block}
 use Rattle.calendar.specs.Meaning.{entries_of, components_of, fault_of}
-use Rattle.calendar.specs.declared.Fault.{Fault}
 use Rattle.calendar.proofs.Meaning.{entries_small}
 use Rattle.pieces.specs.BusyPeriods.{stated_periods, instance_periods, gathered, busy_periods}
 use Rattle.pieces.specs.Covered.{of_type, covered_by, covered, Covers}
@@ -147,7 +147,7 @@ periods_length r =
 
 -- ---- rows that pass
 
-no_row : first_refusal [] ≡ Fault.None
+no_row : first_refusal [] ≡ Ok tt
 unfolding first_refusal
 no_row = refl
 
@@ -155,7 +155,7 @@ no_row = refl
 pub none_refuses : (m : ReportCall) → (range_good m.terms.start m.terms.end && stamp_good m.terms.stamp && offset_good m.terms.offset) ≡ true
     → length m.terms.calendar ≤ 65536
     → length m.terms.calendar ≤ length m.terms.work
-    → first_refusal (calendar_rows (context_of m.terms.offset) (unfolded m.terms.calendar)) ≡ Fault.None
+    → first_refusal (calendar_rows (context_of m.terms.offset) (unfolded m.terms.calendar)) ≡ Ok tt
     → length (pieces_for m.terms) ≤ 512
     → length (report_bytes (report_for m.terms)) ≤ length m.output
     → NoneApplies (report_rows m)
@@ -207,7 +207,7 @@ module _ {r : Report} (c : Canonical r) {m : ReportCall} (k : CallOn r m) where
   first_on = and_both (and_both range_on (rw k.its_stamp c.stamp_fits)) k.offset_good_holds
 
   -- 6 to 10
-  calendar_on : first_refusal (calendar_rows (context_of m.terms.offset) (unfolded m.terms.calendar)) ≡ Fault.None
+  calendar_on : first_refusal (calendar_rows (context_of m.terms.offset) (unfolded m.terms.calendar)) ≡ Ok tt
   unfolding report_meaning fault_of
   calendar_on =
       ap (λ (u : List ℕ). first_refusal (calendar_rows (context_of m.terms.offset) u)) (ap unfolded k.its_bytes ∙ report_unfolds r)

@@ -30,7 +30,7 @@ use Rattle.nesting.specs.Nesting.{after_begin, after_end, after_property, walk, 
 use Rattle.nesting.specs.Files.{tree_in}
 use Rattle.property_tests.specs.PropertyTests.{properties_hold}
 use Rattle.events.specs.Events.{ending_by, repeat_by, event_made, event_with, event_from, event_by}
-use Rattle.events.specs.ComponentProperties.{no_properties, time_given, duration_given, rule_given, status_given, transparency_given, with_property, with_span, with_busy, with_properties}
+use Rattle.events.specs.ComponentProperties.{no_properties, with_property, with_span, with_busy, with_properties}
 use Rattle.overrides.specs.Lists.{some as some_of, is_empty, two_or_more}
 use Rattle.overrides.specs.Rules.{has_rule, other_kind, override_breaks, event_breaks, breaks_alone, masters_clash, overrides_clash, misnames, misplaced, override_misplaced, breaks_beside, breaks}
 use Rattle.overrides.specs.VEvents.{is_master, is_override, has_uid, shares_uid, master_of}
@@ -124,5 +124,5 @@ table =
     ∷ []
 
 pub edges : AllHold table
-unfolding match_outcome unless_refused first_refusal match_rows early_match_rows offset_row offset_good size_rows query_rows query_good sections_good sections_of behind_records count_fits byte_at place_within behind_text_section behind_texts behind_text records_good ranges_good every_below components_good component_good name_good component_at is_name text_of text_from text_place is_name_byte is_letter parent_good same_name upper properties_good parameters_good misplaced_in range_misplaced components_misplaced some_below component_misplaced properties_misplaced calendar_rows structure_rows contents_rows line_row line_check line_check_from cut unfolded is_fold is_break is_blank is_well_formed scan is_ending step is_digit is_control nesting_of outcome walk file_lines content_lines delimiter_of line_of name_of before first_outside head_of parameter_texts split_parts value_of after after_end after_begin is_calendar unsupported_row value_fault components_of components_in items_below tree_of items_of delimited_from bad_value_row rule_row rule_fault verdict_of verdict_by query_holds component_test component_holds some_component tree_in range_holds properties_hold children_hold has_child_component has_property some_component_named after_property may_begin fault_in properties_in fault_or property_value_of before_items items_good with_items value_as property_of component_scope scope_of is_event unless_zoned has_parameter parameters_named time_fact time_in time_of read_time form_of has_twice has_list some_list time_by read_date_time clock_at clock_of date_at three year_at joined pair_at digit_pair checked_day is_day month_days length_in month_lengths time_at checked_time utc_of at_second utc_second since epoch day_number days_before_year ending_by repeat_by event_made event_with event_from event_by no_properties time_given duration_given rule_given status_given transparency_given with_property with_span with_busy with_properties property_values_in event_of vevents_as vevents vevent_of breaks_rule first_fault broken_or is_leap year_days before_in days_before_month some_of is_empty two_or_more has_rule other_kind override_breaks event_breaks breaks_alone masters_clash overrides_clash misnames misplaced override_misplaced breaks_beside breaks is_master is_override has_uid shares_uid master_of uids_by recurrence_ids_by exceptions_by uids_in recurrence_ids_in exceptions_in identity_in identity_of
+unfolding match_outcome unless_refused first_refusal match_rows early_match_rows offset_row offset_good size_rows query_rows query_good sections_good sections_of behind_records count_fits byte_at place_within behind_text_section behind_texts behind_text records_good ranges_good every_below components_good component_good name_good component_at is_name text_of text_from text_place is_name_byte is_letter parent_good same_name upper properties_good parameters_good misplaced_in range_misplaced components_misplaced some_below component_misplaced properties_misplaced calendar_rows structure_rows contents_rows line_row line_check line_check_from cut unfolded is_fold is_break is_blank is_well_formed scan is_ending step is_digit is_control nesting_of outcome walk file_lines content_lines delimiter_of line_of name_of before first_outside head_of parameter_texts split_parts value_of after after_end after_begin is_calendar unsupported_row value_fault components_of components_in items_below tree_of items_of delimited_from bad_value_row rule_row rule_fault verdict_of verdict_by query_holds component_test component_holds some_component tree_in range_holds properties_hold children_hold has_child_component has_property some_component_named after_property may_begin fault_in properties_in fault_or property_value_of before_items items_good with_items value_as property_of component_scope scope_of is_event unless_zoned has_parameter parameters_named time_fact time_in time_of read_time form_of has_twice has_list some_list time_by read_date_time clock_at clock_of date_at three year_at joined pair_at digit_pair checked_day is_day month_days length_in month_lengths time_at checked_time utc_of at_second utc_second since epoch day_number days_before_year ending_by repeat_by event_made event_with event_from event_by no_properties with_property with_span with_busy with_properties property_values_in event_of vevents_as vevents vevent_of breaks_rule first_fault broken_or is_leap year_days before_in days_before_month some_of is_empty two_or_more has_rule other_kind override_breaks event_breaks breaks_alone masters_clash overrides_clash misnames misplaced override_misplaced breaks_beside breaks is_master is_override has_uid shares_uid master_of uids_by recurrence_ids_by exceptions_by uids_in recurrence_ids_in exceptions_in identity_in identity_of
 edges = (refl, (refl, (refl, (refl, (refl, (refl, (refl, (refl, (refl, (refl, (refl, (refl, (refl, (refl, (refl, (refl, (refl, tt)))))))))))))))))

@@ -1,5 +1,6 @@
 -- The rows of a report call and what is known where none applies; from its collected tables on,
 -- the rows that are left, what can be written, and the outcome at each way out.
+use Rattle.std.specs.Prelude.{Result, Ok, Err}
 use Prim.Native.Nat.{ℕ, ◌≤◌}
 use mathlib.Core.Path.{◌≡◌, refl, sym, ap, ◌∙◌, subst}
 use mathlib.Core.Bool.{false, true, ◌&&◌}
@@ -16,14 +17,15 @@ use Rattle.table.specs.Seconds.{seconds_in}
 use Rattle.report.specs.Bytes.{period_count, Report, report_bytes, GoodPeriods, Writable}
 use Rattle.report.specs.Writing.{packed, report_of}
 use Rattle.report.proofs.Bytes.{equal_bytes}
-use Rattle.calendar.specs.declared.Fault.{Fault}
+use Rattle.calendar.specs.declared.Refusal.{Refusal}
+use Rattle.calendar.specs.Refused.{refusal_of}
 use Rattle.refusals.specs.Refusals.{NoneApplies, Row, size_rows, structure_rows, calendar_rows, contents_rows, first_refusal}
 use Rattle.refusals.specs.Offsets.{offset_good}
 use Rattle.refusals.proofs.Refusals.{none_iff, stage_passed, stage_refused}
 use Rattle.collecting.specs.CalendarTerms.{terms_row, early_rows, piece_row, late_rows, collect_rows, stamp_good, pieces_for, report_for, CalendarTerms}
 use Rattle.collecting.specs.Collecting.{periods_by, Collects}
 use Rattle.collecting.specs.CollectStages.{periods_in}
-use Rattle.collecting.specs.declared.Collected.{Collected}
+use Rattle.periods.specs.declared.Counts.{Counts}
 use Rattle.collecting.proofs.CalendarTerms.{periods_few, writable}
 use Rattle.engine.specs.declared.Answer.{Answer}
 use Rattle.engine.specs.declared.ReportSeconds.{ReportSeconds}
@@ -66,35 +68,35 @@ few_periods m h = omega (arith, periods_few m.terms (range_good_holds m h), few_
 -- ---- the rows that are left once the tables are collected
 
 module _ (m : CalendarTerms) where
-  first_good : first_refusal (collect_rows m) ≡ Fault.None → (range_good m.start m.end && stamp_good m.stamp && offset_good m.offset) ≡ true
+  first_good : first_refusal (collect_rows m) ≡ Ok tt → (range_good m.start m.end && stamp_good m.stamp && offset_good m.offset) ≡ true
   unfolding collect_rows early_rows terms_row NoneApplies
   first_good e =
       not-false _
       (not_so _ (λ h. (none_iff (collect_rows m)).0 e 1 0 (record { which = _; listed = Memᴰ.head refl; numbered = refl; lined = refl; applies = h })))
 
   -- range and stamp are good, so the report keeps the limits
-  collect_writable : first_refusal (collect_rows m) ≡ Fault.None → Writable (report_for m)
+  collect_writable : first_refusal (collect_rows m) ≡ Ok tt → Writable (report_for m)
   collect_writable e =
       let two = and_left (range_good m.start m.end && stamp_good m.stamp) _ (first_good e) in
       writable m (and_left (range_good m.start m.end) _ two) (and_right (range_good m.start m.end) _ two)
 
 -- ---- the tables
 
-module _ {m : CalendarTerms} {r : Collected} {ss es left : List ℕ} (k : Collects m r ss es left) where
+module _ {m : CalendarTerms} {r : Result Counts Refusal} {ss es left : List ℕ} (k : Collects m r ss es left) where
   -- the call with an output
   abbrev into : List ℕ → ReportCall
   into out = record { terms = m; output = out }
 
-  abbrev told : Report
-  told = report_of m.start m.end m.stamp (periods_in r ss es)
+  module _ {v : Counts} (e : r ≡ Ok v) where
+    abbrev told : Report
+    told = report_of m.start m.end m.stamp (periods_in (Ok v) ss es)
 
-  module _ (e : r.fault ≡ Fault.None) where
-    none_collected : first_refusal (collect_rows m) ≡ Fault.None
-    none_collected = sym k.fault_is ∙ e
+    none_collected : first_refusal (collect_rows m) ≡ Ok tt
+    none_collected = sym k.fault_is ∙ ap refusal_of e
 
     periods_told : (b : BusyType) → is_busy b ≡ true → told.periods b ≡ (report_for m).periods b
     unfolding report_of periods_by
-    periods_told b u = k.periods_are b u ∙ ap (λ (f : Fault). periods_by f m b) none_collected
+    periods_told b u = ap (λ (x : Result Counts Refusal). periods_in x ss es b) (sym e) ∙ k.periods_are b u ∙ ap (λ (f : Result (Unit {0}) Refusal). periods_by f m b) none_collected
 
     busy_good : (b : BusyType) → is_busy b ≡ true → GoodPeriods (told.periods b)
     busy_good b u = subst GoodPeriods (sym (periods_told b u)) ((collect_writable m none_collected).periods_good b)
@@ -125,55 +127,49 @@ module _ {m : CalendarTerms} {r : Collected} {ss es left : List ℕ} (k : Collec
       -- the outcome is that of the writing
       outcome_left : report_outcome (into out) ≡ write_outcome (report_bytes (report_for m)) out
       unfolding report_outcome write_outcome
-      outcome_left = ap (λ (f : Fault). unless_refused f (report (length (report_bytes (report_for m))))) rows_left
+      outcome_left = ap (λ (f : Result (Unit {0}) Refusal). unless_refused f (report (length (report_bytes (report_for m))))) rows_left
 
     -- what was written is the report, with its refusal, its length and its seconds
     pub seconds_written : {out out-left : List ℕ} {w : ReportSeconds} → WroteCounted told out w out-left → ReportedSeconds (into out) w left out-left
     unfolding report_of
     seconds_written {out} {out-left} {w} x =
-        let v = subst (λ (y : List ℕ). Wrote y out (record { fault = w.fault; length = w.length }) out-left) told_bytes x.wrote in
+        let v = subst (λ (y : List ℕ). Wrote y out w.written out-left) told_bytes x.wrote in
         record {
           fault_is = v.fault_is ∙ sym (rows_left out);
           length_is = v.length_is ∙ ap length_in (sym (outcome_left out));
           work_left_is = k.work_left_is;
           output_left_is = v.output_left_is ∙ ap (λ (o : Outcome). output_after o (report_bytes (report_for m)) out) (sym (outcome_left out));
-          seconds_are = λ b u. x.seconds_are b u ∙ ap seconds_in (k.periods_are b u);
+          seconds_are = λ b u. x.seconds_are b u ∙ ap seconds_in (ap (λ (y : Result Counts Refusal). periods_in y ss es b) (sym e) ∙ k.periods_are b u);
         }
 
   -- a refusal of the tables is the call's, and there are no seconds
-  pub seconds_refused : {n i : ℕ} {out : List ℕ} → r.fault ≡ Fault.At n i
-      → ReportedSeconds (into out) (record { fault = Fault.At n i; length = 0; busy = 0; tentative = 0; unavailable = 0 }) left out
+  pub seconds_refused : {q : Refusal} {out : List ℕ} → r ≡ Err q
+      → ReportedSeconds (into out) (record { written = Err q; busy = 0; tentative = 0; unavailable = 0 }) left out
   unfolding report_outcome report_rows length_in output_after seconds_in seconds_told periods_by
-  seconds_refused {n} {i} {out} e =
-      let f = sym k.fault_is ∙ e in
-      let o : report_outcome (into out) ≡ refusal n i = refused _ (stage_refused (collect_rows m) _ f) in
+  seconds_refused {q} {out} e =
+      let f = sym k.fault_is ∙ ap refusal_of e in
+      let o : report_outcome (into out) ≡ refusal q.number q.line = refused _ (stage_refused (collect_rows m) _ f) in
       record {
         fault_is = sym (stage_refused (collect_rows m) _ f);
         length_is = ap length_in (sym o);
         work_left_is = k.work_left_is;
         output_left_is = ap (λ (x : Outcome). output_after x (report_bytes (report_for m)) out) (sym o);
-        seconds_are = λ b u. no_seconds b ∙ ap (λ (x : Fault). seconds_in (periods_by x m b)) (sym f);
+        seconds_are = λ b u. no_seconds b ∙ ap (λ (x : Result (Unit {0}) Refusal). seconds_in (periods_by x m b)) (sym f);
       }
     where
-      no_seconds : (b : BusyType) → seconds_told (record { fault = Fault.At n i; length = 0; busy = 0; tentative = 0; unavailable = 0 }) b ≡ seconds_in (periods_by (Fault.At n i) m b)
+      no_seconds : (b : BusyType) → seconds_told (record { written = Err q; busy = 0; tentative = 0; unavailable = 0 }) b ≡ seconds_in (periods_by (Err q) m b)
       no_seconds BusyType.Busy = refl
       no_seconds BusyType.Tentative = refl
       no_seconds BusyType.Unavailable = refl
       no_seconds BusyType.Free = refl
 
--- the answer alone, by the refusal and the length
-pub seconds_answer : {m : ReportCall} {r : ReportSeconds} {a : Answer} {left out-left : List ℕ} → a ≡ answer_by r.fault r.length
+-- the answer alone, by the length or the refusal
+pub seconds_answer : {m : ReportCall} {r : ReportSeconds} {a : Answer} {left out-left : List ℕ} → a ≡ answer_by r.written
     → ReportedSeconds m r left out-left → Reported m a left out-left
 unfolding report_outcome
 seconds_answer {m} {r} e p =
-    let f = first_refusal (report_rows m) in
-    let n = length (report_bytes (report_for m.terms)) in
     record {
-      answered =
-          ap outcome_of e
-          ∙ ap (λ (x : Fault). outcome_of (answer_by x r.length)) p.fault_is
-          ∙ ap (λ (x : ℕ). outcome_of (answer_by f x)) p.length_is
-          ∙ answer_by_lem f n;
+      answered = ap outcome_of e ∙ answer_by_lem (length (report_bytes (report_for m.terms))) r.written p.fault_is p.length_is;
       work_left_is = p.work_left_is;
       output_left_is = p.output_left_is;
     }

@@ -1,4 +1,5 @@
 -- Each row of a call applies exactly when its sentence holds.
+use Rattle.std.specs.Prelude.{None, Option, Some}
 use Prim.Native.Nat.{ℕ}
 use mathlib.Core.Path.{◌≡◌, refl, ap, ◌∙◌, subst}
 use mathlib.Core.Bool.{Bool, true, false, not, ◌&&◌}
@@ -12,7 +13,6 @@ use Rattle.time.specs.Limits.{last_second, range_good}
 use Rattle.report.specs.Bytes.{report_bytes}
 use Rattle.query.specs.Sections.{sections_of}
 use Rattle.query.specs.declared.Sections.{Sections}
-use Rattle.query.specs.declared.SectionsRead.{SectionsRead}
 use Rattle.query.proofs.LayoutLaws.{layout_of, layout_sections}
 use Rattle.query_check.specs.WellFormed.{query_good, range_misplaced}
 use Rattle.query_check.proofs.QueryRules.{query_good_iff, range_misplaced_iff}
@@ -43,13 +43,13 @@ module _ (m : MatchCall) where
   abbrev range_row : Row
   range_row = row 5 0 (misplaced_in m.query (sections_of m.query))
 
-  misplaced_says : (r : SectionsRead) → sections_of m.query ≡ r → misplaced_in m.query r ≡ true → MatchApplies m 5 0
+  misplaced_says : (r : Option Sections) → sections_of m.query ≡ r → misplaced_in m.query r ≡ true → MatchApplies m 5 0
   unfolding misplaced_in
-  misplaced_says (SectionsRead.Of q) e h =
+  misplaced_says (Some q) e h =
       MatchApplies.range_misplaced_holds q (layout_of m.query q e) (λ w. clash h ((range_misplaced_iff m.query q).1 w))
-  misplaced_says SectionsRead.Bad e h = clash h refl
+  misplaced_says None e h = clash h refl
 
-  misplaced_tests : (q : Sections) → sections_of m.query ≡ SectionsRead.Of q → (range_misplaced m.query q ≡ false → ⊥)
+  misplaced_tests : (q : Sections) → sections_of m.query ≡ Some q → (range_misplaced m.query q ≡ false → ⊥)
       → misplaced_in m.query (sections_of m.query) ≡ true
   unfolding misplaced_in
   misplaced_tests q e h = ap (misplaced_in m.query) e ∙ go (range_misplaced m.query q) refl

@@ -1,10 +1,10 @@
 -- The match call (document 01, Two questions): what is handed in, its rows of the refusal table, its answer and its work buffer.
-use Rattle.std.specs.Prelude.{ℕ, ◌≡◌, Bool, false, not, List, [], ◌∷◌, ◌++◌, ℤ}
+use Rattle.std.specs.Prelude.{ℕ, ◌≡◌, Bool, false, not, List, [], ◌∷◌, ◌++◌, ℤ, None, Option, Some}
+use Rattle.query.specs.declared.Sections.{Sections}
 use Rattle.text.specs.Unfolding.{unfolded}
 use Rattle.nesting.specs.Files.{tree_in}
 use Rattle.values.specs.declared.times.Context.{Context}
 use Rattle.query.specs.Sections.{sections_of}
-use Rattle.query.specs.declared.SectionsRead.{SectionsRead}
 use Rattle.query_check.specs.WellFormed.{query_good, range_misplaced}
 use Rattle.filter.specs.Tests.{query_holds}
 use Rattle.refusals.specs.Refusals.{Row, row, first_refusal, size_rows, calendar_rows}
@@ -21,9 +21,9 @@ pub record MatchCall : Type 0 where
   pub work : List ℕ
 
 -- 4: query badly formed; 5: a time range where none can be
-unfoldable pub misplaced_in : List ℕ → SectionsRead → Bool
-misplaced_in s (SectionsRead.Of q) = range_misplaced s q
-misplaced_in s SectionsRead.Bad = false
+unfoldable pub misplaced_in : List ℕ → Option Sections → Bool
+misplaced_in s (Some q) = range_misplaced s q
+misplaced_in s None = false
 
 unfoldable pub query_rows : List ℕ → List Row
 query_rows s = row 4 0 (not (query_good s)) ∷ row 5 0 (misplaced_in s (sections_of s)) ∷ []
@@ -41,9 +41,9 @@ unfoldable pub match_rows : MatchCall → List Row
 match_rows m = early_match_rows m ++ calendar_rows (context_of m.offset) (unfolded m.calendar)
 
 -- the query on the component tree of the unfolded calendar
-unfoldable pub verdict_by : Context → List ℕ → List ℕ → SectionsRead → Bool
-verdict_by c cal s (SectionsRead.Of q) = query_holds c s q (tree_in (unfolded cal))
-verdict_by c cal s SectionsRead.Bad = false
+unfoldable pub verdict_by : Context → List ℕ → List ℕ → Option Sections → Bool
+verdict_by c cal s (Some q) = query_holds c s q (tree_in (unfolded cal))
+verdict_by c cal s None = false
 
 unfoldable pub verdict_of : MatchCall → Bool
 verdict_of m = verdict_by (context_of m.offset) m.calendar m.query (sections_of m.query)

@@ -4,11 +4,12 @@ use Rattle.table.specs.Seconds.{seconds_in}
 use Rattle.periods.specs.declared.BusyType.{BusyType}
 use Rattle.periods.specs.BusyTypes.{is_busy}
 use Rattle.report.specs.Bytes.{report_bytes}
+use Rattle.calendar.specs.Refused.{refusal_of}
 use Rattle.refusals.specs.Refusals.{Row, row, first_refusal}
 use Rattle.refusals.specs.Stages.{work_by}
 use Rattle.collecting.specs.CalendarTerms.{CalendarTerms, report_for, early_rows, collect_rows}
 use Rattle.collecting.specs.Collecting.{periods_by}
-use Rattle.engine.specs.Answers.{Outcome, verdict, report, refusal, outcome_of, length_in, unless_refused}
+use Rattle.engine.specs.Answers.{Outcome, verdict, report, refusal, outcome_of, length_in, length_told, unless_refused}
 use Rattle.engine.specs.declared.Answer.{Answer}
 use Rattle.engine.specs.declared.ReportSeconds.{ReportSeconds}
 
@@ -50,8 +51,8 @@ seconds_told r BusyType.Free = 0
 
 -- the same call, which tells besides the refusal or none with its line, the length, and the seconds of each type that its report was written from
 pub record ReportedSeconds (m : ReportCall) (r : ReportSeconds) (work_left out-left : List ℕ) : Type 0 where
-  pub fault_is : r.fault ≡ first_refusal (report_rows m)
-  pub length_is : r.length ≡ length_in (report_outcome m)
+  pub fault_is : refusal_of r.written ≡ first_refusal (report_rows m)
+  pub length_is : length_told r.written ≡ length_in (report_outcome m)
   pub work_left_is : work_left ≡ work_by (first_refusal (early_rows m.terms)) m.terms.calendar m.terms.work
   pub output_left_is : out-left ≡ output_after (report_outcome m) (report_bytes (report_for m.terms)) m.output
   pub seconds_are : (b : BusyType) → is_busy b ≡ true → seconds_told r b ≡ seconds_in (periods_by (first_refusal (collect_rows m.terms)) m.terms b)

@@ -1,5 +1,7 @@
 -- Laws of the pieces of events, row by row: those of the rows before and those from a row on make the whole.
+use Rattle.std.specs.Prelude.{None, Option, Some}
 use Prim.Native.Nat.{ℕ, ◌+◌, ◌*◌, ◌≤◌, ◌<◌}
+use Rattle.events.specs.declared.Block.{Block}
 use mathlib.Core.Path.{◌≡◌, refl, sym, ap, ◌∙◌}
 use mathlib.Core.Bool.{Bool, true, false, cond}
 use mathlib.Core.List.{List, [], ◌∷◌, ◌++◌, append-nil}
@@ -16,8 +18,6 @@ use Rattle.structure.proofs.RowsLaws.{components_none, NextBelow, below_next, fi
 use Rattle.events.specs.Events.{event}
 use Rattle.events.specs.EntryRows.{event_at}
 use Rattle.events.specs.declared.Event.{Event}
-use Rattle.events.specs.declared.EventRead.{EventRead}
-use Rattle.events.specs.declared.BlockRead.{BlockRead}
 use Rattle.calendar.specs.Meaning.{component_scope, block_of, block_periods, removed_from, event_entry, block_entry, entry_of, entries_among, entries_of, components_of}
 use Rattle.calendar.proofs.Meaning.{event_of_small}
 use Rattle.pieces.specs.BusyPeriods.{event_periods, instance_periods, gathered}
@@ -59,10 +59,10 @@ event_has : (e : Event) (gone : List ℕ) → gathered instance_periods (event e
 unfolding gathered instance_periods
 event_has e gone = append-nil (event_periods e gone)
 
-block_has : (r : BlockRead) (ps : List BusyPeriod) → gathered instance_periods (block_entry r ps) ≡ []
+block_has : (r : Option Block) (ps : List BusyPeriod) → gathered instance_periods (block_entry r ps) ≡ []
 unfolding gathered instance_periods
-block_has (BlockRead.Of k) ps = refl
-block_has BlockRead.Broken ps = refl
+block_has (Some k) ps = refl
+block_has None ps = refl
 
 none_has : gathered instance_periods [] ≡ []
 unfolding gathered
@@ -81,7 +81,7 @@ module _ {c : Context} {s rows entries places removed : List ℕ} {m : ℕ} (h :
   unfolding entry_of
   event_row_holds e =
       ap (λ (o : Scope). gathered instance_periods (entry_of c all o x)) (row_event r refl e)
-      ∙ ap (λ (y : EventRead). gathered instance_periods (event_entry y (removed_from c all x))) (h.events k l e)
+      ∙ ap (λ (y : Option Event). gathered instance_periods (event_entry y (removed_from c all x))) (h.events k l e)
       ∙ event_has (event_at entries k) (removed_from c all x)
       ∙ event_same (event_at entries k) (removed_from c all x) (gone_at places removed k) (λ i. sym (z.same k l e i))
 

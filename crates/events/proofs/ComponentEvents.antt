@@ -1,4 +1,5 @@
 -- THE THEOREMS of which event and which block: what is read of a component is exactly what its lines say, where they keep the rules.
+use Rattle.std.specs.Prelude.{Bool, None, Option, Some}
 use Prim.Native.Nat.{ℕ, zero, suc, ◌≤◌}
 use mathlib.Core.Path.{◌≡◌, refl, sym, ap, ◌∙◌, subst}
 use mathlib.Core.Bool.{true, false}
@@ -20,17 +21,7 @@ use Rattle.events.specs.Events.{ending_by, limit_by, repeat_by, days_by, interva
 use Rattle.events.specs.declared.Ending.{Ending}
 use Rattle.events.specs.declared.Repeat.{Repeat}
 use Rattle.events.specs.declared.Event.{Event}
-use Rattle.events.specs.declared.Bound.{Bound}
 use Rattle.events.specs.declared.Block.{Block}
-use Rattle.events.specs.declared.EndingRead.{EndingRead}
-use Rattle.events.specs.declared.RepeatRead.{RepeatRead}
-use Rattle.events.specs.declared.EventRead.{EventRead}
-use Rattle.events.specs.declared.BlockRead.{BlockRead}
-use Rattle.events.specs.declared.TimeGiven.{TimeGiven}
-use Rattle.events.specs.declared.DurationGiven.{DurationGiven}
-use Rattle.events.specs.declared.RuleGiven.{RuleGiven}
-use Rattle.events.specs.declared.StatusGiven.{StatusGiven}
-use Rattle.events.specs.declared.TransparencyGiven.{TransparencyGiven}
 use Rattle.events.proofs.ComponentRules.{start_laws, end_laws, lasts_laws, repeats_laws, status_laws, transparency_laws}
 use Rattle.events.proofs.ComponentRules.{end_fits_of, end_of_fits, duration_fits_of, duration_of_fits, until_fits_of, until_of_fits}
 use Rattle.events.proofs.ComponentRules.{ending_broken, together, Made, made, made_event, few_lines, the_start, event_iff, between_later, later_between, block_by_lem, block_iff}
@@ -41,66 +32,66 @@ none_or zero f = inl refl
 none_or (suc n) f = inr (f (omega arith))
 
 -- what is read is one thing
-ending_of : {a b : Ending} → EndingRead.Of a ≡ EndingRead.Of b → a ≡ b
+ending_of : {a b : Ending} → Some a ≡ Some b → a ≡ b
 ending_of e = cc
 
-repeat_of_lem : {a b : Repeat} → RepeatRead.Of a ≡ RepeatRead.Of b → a ≡ b
+repeat_of_lem : {a b : Repeat} → Some a ≡ Some b → a ≡ b
 repeat_of_lem e = cc
 
-event_of_holds : {a b : Event} → EventRead.Of a ≡ EventRead.Of b → a ≡ b
+event_of_holds : {a b : Event} → Some a ≡ Some b → a ≡ b
 event_of_holds e = cc
 
-block_of_holds : {a b : Block} → BlockRead.Of a ≡ BlockRead.Of b → a ≡ b
+block_of_holds : {a b : Block} → Some a ≡ Some b → a ≡ b
 block_of_holds e = cc
 
 -- ---- the ending, the repeat and the busy type that are read
 
 module _ (s : Time) where
-  end_gives : (t : Time) (o : DurationGiven) (y : Ending) → ending_by s (TimeGiven.Given t) o ≡ EndingRead.Of y → y ≡ Ending.End t.second
+  end_gives : (t : Time) (o : Option Duration) (y : Ending) → ending_by s (Some t) o ≡ Some y → y ≡ Ending.End t.second
   unfolding ending_by
-  end_gives t DurationGiven.Absent y h = ending_of (sym h ∙ end_of_fits s t (end_fits_of s t y h))
-  end_gives t (DurationGiven.Given d) y h = ending_broken h
+  end_gives t None y h = ending_of (sym h ∙ end_of_fits s t (end_fits_of s t y h))
+  end_gives t (Some d) y h = ending_broken h
 
-  duration_gives : (o : TimeGiven) (d : Duration) (y : Ending) → ending_by s o (DurationGiven.Given d) ≡ EndingRead.Of y → y ≡ Ending.Lasts d
+  duration_gives : (o : Option Time) (d : Duration) (y : Ending) → ending_by s o (Some d) ≡ Some y → y ≡ Ending.Lasts d
   unfolding ending_by
-  duration_gives TimeGiven.Absent d y h = ending_of (sym h ∙ duration_of_fits s d (duration_fits_of s d y h))
-  duration_gives (TimeGiven.Given t) d y h = ending_broken h
+  duration_gives None d y h = ending_of (sym h ∙ duration_of_fits s d (duration_fits_of s d y h))
+  duration_gives (Some t) d y h = ending_broken h
 
-  none_gives : (y : Ending) → ending_by s TimeGiven.Absent DurationGiven.Absent ≡ EndingRead.Of y → y ≡ Ending.None
+  none_gives : (y : Ending) → ending_by s None None ≡ Some y → y ≡ Ending.None
   unfolding ending_by
   none_gives y h = ending_of (sym h)
 
-  forever_gives : (r : Rule) (z : Repeat) → r.limit ≡ Limit.Forever → repeat_by s (RuleGiven.Given r) ≡ RepeatRead.Of z → z ≡ Repeat.Forever
+  forever_gives : (r : Rule) (z : Repeat) → r.limit ≡ Limit.Forever → repeat_by s (Some r) ≡ Some z → z ≡ Repeat.Forever
   unfolding repeat_by limit_by
   forever_gives r z q h = repeat_of_lem (sym h ∙ ap (limit_by s) q)
 
-  count_gives : (r : Rule) (n : ℕ) (z : Repeat) → r.limit ≡ Limit.Count n → repeat_by s (RuleGiven.Given r) ≡ RepeatRead.Of z → z ≡ Repeat.Count n
+  count_gives : (r : Rule) (n : ℕ) (z : Repeat) → r.limit ≡ Limit.Count n → repeat_by s (Some r) ≡ Some z → z ≡ Repeat.Count n
   unfolding repeat_by limit_by
   count_gives r n z q h = repeat_of_lem (sym h ∙ ap (limit_by s) q)
 
-  until_gives : (r : Rule) (t : Time) (z : Repeat) → r.limit ≡ Limit.Until t → repeat_by s (RuleGiven.Given r) ≡ RepeatRead.Of z → z ≡ Repeat.Until t.second
+  until_gives : (r : Rule) (t : Time) (z : Repeat) → r.limit ≡ Limit.Until t → repeat_by s (Some r) ≡ Some z → z ≡ Repeat.Until t.second
   unfolding repeat_by
   until_gives r t z q h =
-      let l : limit_by s (Limit.Until t) ≡ RepeatRead.Of z = sym (ap (limit_by s) q) ∙ h in
+      let l : limit_by s (Limit.Until t) ≡ Some z = sym (ap (limit_by s) q) ∙ h in
       repeat_of_lem (sym l ∙ until_of_fits s t (until_fits_of s t z l))
 
-  once_gives : (z : Repeat) → repeat_by s RuleGiven.Absent ≡ RepeatRead.Of z → z ≡ Repeat.Once
+  once_gives : (z : Repeat) → repeat_by s None ≡ Some z → z ≡ Repeat.Once
   unfolding repeat_by
   once_gives z h = repeat_of_lem (sym h)
 
 -- STATUS CANCELLED is free beside any TRANSP
-cancelled_any : (t : TransparencyGiven) → busy_by t (StatusGiven.Given Status.Cancelled) ≡ BusyType.Free
+cancelled_any : (t : Option Bool) → busy_by t (Some Status.Cancelled) ≡ BusyType.Free
 unfolding busy_by busy_by_status
-cancelled_any (TransparencyGiven.Given true) = refl
-cancelled_any (TransparencyGiven.Given false) = refl
-cancelled_any TransparencyGiven.Absent = refl
+cancelled_any (Some true) = refl
+cancelled_any (Some false) = refl
+cancelled_any None = refl
 
 -- without TRANSP:TRANSPARENT it goes by STATUS
-by_status : (t : TransparencyGiven) (s : StatusGiven) → (t ≡ TransparencyGiven.Given true → ⊥) → busy_by t s ≡ busy_by_status s
+by_status : (t : Option Bool) (s : Option Status) → (t ≡ Some true → ⊥) → busy_by t s ≡ busy_by_status s
 unfolding busy_by
-by_status (TransparencyGiven.Given true) s n = absurd (n refl)
-by_status (TransparencyGiven.Given false) s n = refl
-by_status TransparencyGiven.Absent s n = refl
+by_status (Some true) s n = absurd (n refl)
+by_status (Some false) s n = refl
+by_status None s n = refl
 
 -- ---- a VEVENT: what is read of it is what its lines say
 
@@ -113,17 +104,17 @@ module _ (ss : List Reading) (m : Made (together ss)) where
   unfolding event_made days_by interval_by busy_by busy_by_status
   made_is =
       let few = few_lines ss m.not_twice in
-      let the_rule : (r : Rule) → Memᴰ (of (repeats r)) ss → repeat_by m.start (RuleGiven.Given r) ≡ RepeatRead.Of m.repeat =
+      let the_rule : (r : Rule) → Memᴰ (of (repeats r)) ss → repeat_by m.start (Some r) ≡ Some m.repeat =
       λ r k. ap (repeat_by m.start) (sym ((repeats_laws ss).holds r k few.3)) ∙ m.repeat_read in
       record {
         kind_is = λ s k. ap (λ (t : Time). t.kind) (the_start ss m s k);
         start_is = λ s k. ap (λ (t : Time). t.second) (the_start ss m s k);
         end_is =
             λ t k. end_gives m.start t _ m.ending
-            (ap (λ (o : TimeGiven). ending_by m.start o (together ss).span.lasts) (sym ((end_laws ss).holds t k few.1)) ∙ m.ending_read);
+            (ap (λ (o : Option Time). ending_by m.start o (together ss).span.lasts) (sym ((end_laws ss).holds t k few.1)) ∙ m.ending_read);
         duration_is =
             λ d k. duration_gives m.start _ d m.ending
-            (ap (λ (o : DurationGiven). ending_by m.start (together ss).span.end o) (sym ((lasts_laws ss).holds d k few.2)) ∙ m.ending_read);
+            (ap (λ (o : Option Duration). ending_by m.start (together ss).span.end o) (sym ((lasts_laws ss).holds d k few.2)) ∙ m.ending_read);
         no_ending = λ a b. none_gives m.start m.ending (rw ((end_laws ss).absent a, (lasts_laws ss).absent b) at m.ending_read);
         days_are = λ r k. ap days_by ((repeats_laws ss).holds r k few.3);
         interval_is = λ r k. ap interval_by ((repeats_laws ss).holds r k few.3);
@@ -133,16 +124,16 @@ module _ (ss : List Reading) (m : Made (together ss)) where
         no_rule_days = λ n. ap days_by ((repeats_laws ss).absent n);
         no_rule_interval = λ n. ap interval_by ((repeats_laws ss).absent n);
         no_rule_once = λ n. once_gives m.start m.repeat (ap (repeat_by m.start) (sym ((repeats_laws ss).absent n)) ∙ m.repeat_read);
-        transparent_free = λ k. ap (λ (t : TransparencyGiven). busy_by t (together ss).busy.status) ((transparency_laws ss).holds true k few.5);
+        transparent_free = λ k. ap (λ (t : Option Bool). busy_by t (together ss).busy.status) ((transparency_laws ss).holds true k few.5);
         cancelled_free =
-            λ k. ap (λ (s : StatusGiven). busy_by (together ss).busy.transparency s) ((status_laws ss).holds Status.Cancelled k few.4)
+            λ k. ap (λ (s : Option Status). busy_by (together ss).busy.transparency s) ((status_laws ss).holds Status.Cancelled k few.4)
             ∙ cancelled_any (together ss).busy.transparency;
         tentative_so = λ n k. not_transparent n ∙ ap busy_by_status ((status_laws ss).holds Status.Tentative k few.4);
         other_busy = λ n k. not_transparent n ∙ ap busy_by_status ((status_laws ss).holds Status.Other k few.4);
         no_status_busy = λ n k. not_transparent n ∙ ap busy_by_status ((status_laws ss).absent k);
       }
 
-read_is : (ss : List Reading) (e : Event) → event_by (together ss) ≡ EventRead.Of e → EventIs ss e
+read_is : (ss : List Reading) (e : Event) → event_by (together ss) ≡ Some e → EventIs ss e
 read_is ss e h =
     let m = made (together ss) e h in
     subst (λ (x : Event). EventIs ss x) (event_of_holds (sym (made_event (together ss) m) ∙ h)) (made_is ss m)
@@ -192,13 +183,13 @@ module _ (ss : List Reading) (w : EventRules ss) (a b : Event) (p : EventIs ss a
       ⊎_elim (λ k. p.no_status_busy n k ∙ sym (q.no_status_busy n k)) (λ s. by_stated n s.0 s.1)
       (none_or (lines_named (ascii "STATUS") ss) (status_laws ss).line)
 
-  by_transparency : (t : TransparencyGiven) → (together ss).busy.transparency ≡ t → a.busy ≡ b.busy
-  by_transparency (TransparencyGiven.Given true) e =
+  by_transparency : (t : Option Bool) → (together ss).busy.transparency ≡ t → a.busy ≡ b.busy
+  by_transparency (Some true) e =
       let k = (transparency_laws ss).said true e in
       p.transparent_free k ∙ sym (q.transparent_free k)
-  by_transparency (TransparencyGiven.Given false) e =
+  by_transparency (Some false) e =
       opaque_busy (λ k. let h = (transparency_laws ss).holds true k w.few_transparencies in let z : ◌≡◌ {A = ℕ} 0 1 = cc in absurd (omega arith))
-  by_transparency TransparencyGiven.Absent e =
+  by_transparency None e =
       opaque_busy (λ k. let h = (transparency_laws ss).holds true k w.few_transparencies in let z : ◌≡◌ {A = ℕ} 0 1 = cc in absurd (omega arith))
 
   event_is_one : a ≡ b
@@ -208,31 +199,31 @@ module _ (ss : List Reading) (w : EventRules ss) (a b : Event) (p : EventIs ss a
       same_days same_interval same_repeat (by_transparency (together ss).busy.transparency refl)
 
 -- THE THEOREM of which event: an event is read exactly where the lines keep the rules of a VEVENT and say this event
-pub event_is_iff : (ss : List Reading) (e : Event) → (event_by (with_properties no_properties ss) ≡ EventRead.Of e) ↔ (EventRules ss × EventIs ss e)
+pub event_is_iff : (ss : List Reading) (e : Event) → (event_by (with_properties no_properties ss) ≡ Some e) ↔ (EventRules ss × EventIs ss e)
 event_is_iff ss e = (
   λ h. ((event_iff ss).0 (e, h), read_is ss e h),
   λ w.
       let x = (event_iff ss).1 w.0 in
-      x.1 ∙ ap (λ (y : Event). EventRead.Of y) (event_is_one ss w.0 x.0 e (read_is ss x.0 x.1) w.1),
+      x.1 ∙ ap (λ (y : Event). Some y) (event_is_one ss w.0 x.0 e (read_is ss x.0 x.1) w.1),
 )
 
 -- ---- a VFREEBUSY
 
 -- a second that is given, or none
-abbrev bound_by : TimeGiven → Bound
-bound_by (TimeGiven.Given t) = Bound.At t.second
-bound_by TimeGiven.Absent = Bound.None
+abbrev bound_by : Option Time → Option ℕ
+bound_by (Some t) = Some t.second
+bound_by None = None
 
-block_gives : (a b : TimeGiven) (x : Block) → block_from a b ≡ BlockRead.Of x → (x.start ≡ bound_by a) × (x.end ≡ bound_by b)
+block_gives : (a b : Option Time) (x : Block) → block_from a b ≡ Some x → (x.start ≡ bound_by a) × (x.end ≡ bound_by b)
 unfolding block_from
-block_gives TimeGiven.Absent TimeGiven.Absent x h = let e = block_of_holds h in (ap (λ (y : Block). y.start) (sym e), ap (λ (y : Block). y.end) (sym e))
-block_gives (TimeGiven.Given s) TimeGiven.Absent x h = let e = block_of_holds h in (ap (λ (y : Block). y.start) (sym e), ap (λ (y : Block). y.end) (sym e))
-block_gives TimeGiven.Absent (TimeGiven.Given t) x h = let e = block_of_holds h in (ap (λ (y : Block). y.start) (sym e), ap (λ (y : Block). y.end) (sym e))
-block_gives (TimeGiven.Given s) (TimeGiven.Given t) x h =
+block_gives None None x h = let e = block_of_holds h in (ap (λ (y : Block). y.start) (sym e), ap (λ (y : Block). y.end) (sym e))
+block_gives (Some s) None x h = let e = block_of_holds h in (ap (λ (y : Block). y.start) (sym e), ap (λ (y : Block). y.end) (sym e))
+block_gives None (Some t) x h = let e = block_of_holds h in (ap (λ (y : Block). y.start) (sym e), ap (λ (y : Block). y.end) (sym e))
+block_gives (Some s) (Some t) x h =
     let e = block_of_holds (sym (later_between s.second t.second (between_later s.second t.second x h)) ∙ h) in
     (ap (λ (y : Block). y.start) (sym e), ap (λ (y : Block). y.end) (sym e))
 
-read_block_is : (ss : List Reading) (b : Block) → block_by (together ss) ≡ BlockRead.Of b → BlockIs ss b
+read_block_is : (ss : List Reading) (b : Block) → block_by (together ss) ≡ Some b → BlockIs ss b
 read_block_is ss b h =
     let w = block_by_lem (together ss) b h in
     let few = few_lines ss w.0 in
@@ -257,10 +248,10 @@ block_is_one ss a b p q =
 
 -- THE THEOREM of which block: of lines as a VFREEBUSY has them, a block is read exactly where they keep its rules and say this block
 pub block_is_iff : (ss : List Reading) → BlockLines ss → (b : Block)
-    → (block_by (with_properties no_properties ss) ≡ BlockRead.Of b) ↔ (BlockRules ss × BlockIs ss b)
+    → (block_by (with_properties no_properties ss) ≡ Some b) ↔ (BlockRules ss × BlockIs ss b)
 block_is_iff ss n b = (
   λ h. ((block_iff ss n).0 (b, h), read_block_is ss b h),
   λ w.
       let x = (block_iff ss n).1 w.0 in
-      x.1 ∙ ap (λ (y : Block). BlockRead.Of y) (block_is_one ss x.0 b (read_block_is ss x.0 x.1) w.1),
+      x.1 ∙ ap (λ (y : Block). Some y) (block_is_one ss x.0 b (read_block_is ss x.0 x.1) w.1),
 )

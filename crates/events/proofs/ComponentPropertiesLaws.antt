@@ -1,5 +1,9 @@
 -- What lines say together is small, where what each of them says is.
+use Rattle.std.specs.Prelude.{None, Option, Some}
 use Prim.Native.Nat.{◌≤◌}
+use Rattle.values.specs.declared.times.Time.{Time}
+use Rattle.values.specs.declared.rule.Rule.{Rule}
+use Rattle.time.specs.declared.duration.Duration.{Duration}
 use mathlib.Core.List.{List, [], ◌∷◌}
 use Rattle.time.specs.Limits.{last_second}
 use Rattle.values.specs.Period.{DurationSmall}
@@ -8,21 +12,18 @@ use Rattle.property.specs.Properties.{PropertyValueSmall}
 use Rattle.property.specs.Facts.{Reading, unread, fault, of, span, repeats, busy, identity, periods, start, end, lasts, status, transparent}
 use Rattle.events.specs.ComponentProperties.{no_properties, with_span, with_busy, with_property, with_properties}
 use Rattle.events.specs.declared.ComponentProperties.{ComponentProperties}
-use Rattle.events.specs.declared.TimeGiven.{TimeGiven}
-use Rattle.events.specs.declared.DurationGiven.{DurationGiven}
-use Rattle.events.specs.declared.RuleGiven.{RuleGiven}
 
-abbrev pub TimeSmall : TimeGiven → Type 0
-TimeSmall (TimeGiven.Given t) = t.second ≤ last_second
-TimeSmall TimeGiven.Absent = Unit {0}
+abbrev pub TimeSmall : Option Time → Type 0
+TimeSmall (Some t) = t.second ≤ last_second
+TimeSmall None = Unit {0}
 
-abbrev pub LastsSmall : DurationGiven → Type 0
-LastsSmall (DurationGiven.Given d) = DurationSmall d
-LastsSmall DurationGiven.Absent = Unit {0}
+abbrev pub LastsSmall : Option Duration → Type 0
+LastsSmall (Some d) = DurationSmall d
+LastsSmall None = Unit {0}
 
-abbrev pub RepeatsSmall : RuleGiven → Type 0
-RepeatsSmall (RuleGiven.Given r) = RuleSmall r
-RepeatsSmall RuleGiven.Absent = Unit {0}
+abbrev pub RepeatsSmall : Option Rule → Type 0
+RepeatsSmall (Some r) = RuleSmall r
+RepeatsSmall None = Unit {0}
 
 pub record ComponentPropertiesSmall (g : ComponentProperties) : Type 0 where
   pub start_small : TimeSmall g.span.start

@@ -1,4 +1,6 @@
 -- Laws of events and blocks as rows: how a row is written, that a row says what it was made of, and that other rows stay.
+use Rattle.std.specs.Prelude.{None, Option, Some}
+use Rattle.std.specs.Bool.{then_some}
 use Prim.Native.Nat.{ℕ, ◌+◌, ◌*◌, ◌≤◌, ◌<◌}
 use mathlib.Core.Path.{◌≡◌, refl, subst, ◌∙◌}
 use mathlib.Core.Bool.{Bool, true, false, cond}
@@ -7,9 +9,10 @@ use mathlib.Core.List.{List, [], ◌∷◌}
 use native.Mathlib.Omega.{arith}
 use native.Mathlib.Nat.{add-zero, zero-add}
 use lib.Dec.{eqb, ltb}
-use lib.ListN.{get_or}
+use lib.ListN.{length, take, drop, get_or, length-take, length-drop}
 use borrow.Author.Tests.{ltb-true, ltb-false}
-use Rattle.ascii.proofs.Rows.{Putting, putting_all}
+use borrow.Rule.Slice.PartMut.{put_mid}
+use Rattle.std.proofs.lemmas.List.{places}
 use Rattle.time.specs.declared.date_time.Kind.{Kind}
 use Rattle.time.specs.declared.duration.Duration.{Duration}
 use Rattle.periods.specs.declared.BusyType.{BusyType}
@@ -20,21 +23,25 @@ use Rattle.events.specs.EntryRows.{event_row, block_row, event_at, block_at, Ent
 use Rattle.events.specs.declared.Ending.{Ending}
 use Rattle.events.specs.declared.Repeat.{Repeat}
 use Rattle.events.specs.declared.Event.{Event}
-use Rattle.events.specs.declared.Bound.{Bound}
 use Rattle.events.specs.declared.Block.{Block}
 use Rattle.events.specs.declared.rows.EndingNumbers.{EndingNumbers}
 use Rattle.events.specs.declared.rows.TaggedNumber.{TaggedNumber}
 
 -- ---- writing a row
 
--- the whole row stands at its place
-pub putting_end : {old : List ℕ} {k : ℕ} {row new : List ℕ} {p : ℕ} → Putting old 12 (12 * k) row new p → 12 ≤ p → EntryPut old k row new
-putting_end g h = record { here = putting_all g h; before = g.before; behind = g.behind }
+-- the row stands in the part that it was copied to
+pub row_put : (old : List ℕ) (k n : ℕ) (row part : List ℕ) → n ≡ 12 → 12 * k + 12 ≤ length old → length part ≡ length (take n (drop (12 * k) old)) → part ≡ row
+    → EntryPut old k row (put_mid (12 * k) n old part)
+row_put old k n row part w h l e =
+    let whole : length part ≡ 12 = omega (arith, length-take n (drop (12 * k) old), length-drop (12 * k) old) in
+    rw (← e)
+    (record {
+      here = λ p q. grind (arith, places);
+      before = λ p q. grind (arith, places);
+      behind = λ p q. grind (arith, places);
+    })
 
 -- ---- other rows
-
-apart : (j k : ℕ) → k ≤ j → (j ≡ k → ⊥) → k < j
-apart j k h d = omega arith
 
 -- row j is as it was
 row_kept : {old row new : List ℕ} {k : ℕ} (j : ℕ) → EntryPut old k row new → (j ≡ k → ⊥) → (p : ℕ) → p < 12
@@ -44,7 +51,7 @@ row_kept {old} {row} {new} {k} j w d p h = go (ltb j k) refl
     go : (t : Bool) → ltb j k ≡ t → get_or new (12 * j + p) 0 ≡ get_or old (12 * j + p) 0
     go true q = w.before (12 * j + p) (omega (arith, ltb-true))
     go false q =
-        let z : k < j = apart j k (ltb-false j k q) d in
+        let z : k < j = omega (arith, ltb-false j k q, d) in
         w.behind (12 * j + p) (omega arith)
 
 -- ---- what is put is the row of the event, or of the block
@@ -59,6 +66,11 @@ pub lasts_numbers : (d : Duration) {x : Ending} → x ≡ Ending.Lasts d
     → ◌≡◌ {A = EndingNumbers} (record { tag = 1; number = d.days; seconds = d.seconds; timed = bool_byte d.timed }) (ending_numbers x)
 unfolding ending_numbers
 lasts_numbers d q = rw (q, bit d.timed) refl
+
+-- a value where a test holds
+pub given_then : (t : Bool) (n : ℕ) → then_some t n ≡ cond t (Some n) None
+given_then true n = refl
+given_then false n = refl
 
 module _ (e : Event) {kind place : ℕ} {ends : EndingNumbers} {repeats : TaggedNumber} (a : kind ≡ kind_number e.kind) (b : ends ≡ ending_numbers e.ending)
     (c : repeats ≡ repeat_numbers e.repeat) (d : place ≡ report_place e.busy) where
@@ -144,10 +156,10 @@ busy_back BusyType.Busy = refl
 busy_back BusyType.Tentative = refl
 busy_back BusyType.Unavailable = refl
 
-bound_back : (x : Bound) → bound_of (bound_numbers x).tag (bound_numbers x).number ≡ x
+bound_back : (x : Option ℕ) → bound_of (bound_numbers x).tag (bound_numbers x).number ≡ x
 unfolding bound_of bound_numbers
-bound_back (Bound.At t) = refl
-bound_back Bound.None = refl
+bound_back (Some t) = refl
+bound_back None = refl
 
 event_back : (e : Event) → event_at (event_row e) 0 ≡ e
 unfolding event_at event_row

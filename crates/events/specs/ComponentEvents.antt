@@ -1,7 +1,7 @@
 -- Which event a VEVENT is, and which block a VFREEBUSY is (document 01, Events and blocks), for the reader: each part of it, by the line that
 -- says it, or by there being no such line. They speak of the list of what each line directly in the component says, as the rules of
 -- ComponentRules do. Tied to `event_by` and `block_by` in proofs/ComponentEvents.antt.
-use Rattle.std.specs.Prelude.{ℕ, ◌≡◌, true}
+use Rattle.std.specs.Prelude.{ℕ, ◌≡◌, true, None, Some}
 use mathlib.Core.List.{List, Memᴰ}
 use Rattle.ascii.specs.Words.{ascii}
 use Rattle.time.specs.declared.duration.Duration.{Duration}
@@ -15,7 +15,6 @@ use Rattle.events.specs.ComponentRules.{lines_named}
 use Rattle.events.specs.declared.Ending.{Ending}
 use Rattle.events.specs.declared.Repeat.{Repeat}
 use Rattle.events.specs.declared.Event.{Event}
-use Rattle.events.specs.declared.Bound.{Bound}
 use Rattle.events.specs.declared.Block.{Block}
 
 -- the event of a VEVENT
@@ -46,7 +45,7 @@ pub record EventIs (ss : List Reading) (e : Event) : Type 0 where
 
 -- the block of a VFREEBUSY
 pub record BlockIs (ss : List Reading) (b : Block) : Type 0 where
-  pub start_is : (s : Time) → Memᴰ (of (span (start s))) ss → b.start ≡ Bound.At s.second
-  pub no_start : lines_named (ascii "DTSTART") ss ≡ 0 → b.start ≡ Bound.None
-  pub end_is : (t : Time) → Memᴰ (of (span (end t))) ss → b.end ≡ Bound.At t.second
-  pub no_end : lines_named (ascii "DTEND") ss ≡ 0 → b.end ≡ Bound.None
+  pub start_is : (s : Time) → Memᴰ (of (span (start s))) ss → b.start ≡ Some s.second
+  pub no_start : lines_named (ascii "DTSTART") ss ≡ 0 → b.start ≡ None
+  pub end_is : (t : Time) → Memᴰ (of (span (end t))) ss → b.end ≡ Some t.second
+  pub no_end : lines_named (ascii "DTEND") ss ≡ 0 → b.end ≡ None

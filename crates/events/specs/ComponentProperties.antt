@@ -1,44 +1,18 @@
 -- What the lines directly in a component say together: each property once, and whether one stands twice that may not.
-use Rattle.std.specs.Prelude.{Bool, true, false, ◌||◌, List, [], ◌∷◌}
+use Rattle.std.specs.Prelude.{Bool, false, ◌||◌, List, [], ◌∷◌, None, Some, is_some}
 use Rattle.property.specs.Facts.{Reading, unread, fault, of, span, repeats, busy, identity, periods, start, end, lasts, status, transparent}
 use Rattle.events.specs.declared.ComponentProperties.{ComponentProperties}
 use Rattle.events.specs.declared.SpanProperties.{SpanProperties}
 use Rattle.events.specs.declared.BusyProperties.{BusyProperties}
-use Rattle.events.specs.declared.TimeGiven.{TimeGiven}
-use Rattle.events.specs.declared.DurationGiven.{DurationGiven}
-use Rattle.events.specs.declared.RuleGiven.{RuleGiven}
-use Rattle.events.specs.declared.StatusGiven.{StatusGiven}
-use Rattle.events.specs.declared.TransparencyGiven.{TransparencyGiven}
 
 unfoldable pub no_properties : ComponentProperties
 no_properties =
     record {
       repeated = false;
-      span = record { start = TimeGiven.Absent; end = TimeGiven.Absent; lasts = DurationGiven.Absent };
-      repeats = RuleGiven.Absent;
-      busy = record { status = StatusGiven.Absent; transparency = TransparencyGiven.Absent };
+      span = record { start = None; end = None; lasts = None };
+      repeats = None;
+      busy = record { status = None; transparency = None };
     }
-
--- was the property there before?
-unfoldable pub time_given : TimeGiven → Bool
-time_given (TimeGiven.Given t) = true
-time_given TimeGiven.Absent = false
-
-unfoldable pub duration_given : DurationGiven → Bool
-duration_given (DurationGiven.Given d) = true
-duration_given DurationGiven.Absent = false
-
-unfoldable pub rule_given : RuleGiven → Bool
-rule_given (RuleGiven.Given r) = true
-rule_given RuleGiven.Absent = false
-
-unfoldable pub status_given : StatusGiven → Bool
-status_given (StatusGiven.Given s) = true
-status_given StatusGiven.Absent = false
-
-unfoldable pub transparency_given : TransparencyGiven → Bool
-transparency_given (TransparencyGiven.Given t) = true
-transparency_given TransparencyGiven.Absent = false
 
 -- a line more of one group; was its property there before?
 unfoldable pub with_span : ComponentProperties → Bool → SpanProperties → ComponentProperties
@@ -53,17 +27,17 @@ unfoldable pub with_property : ComponentProperties → Reading → ComponentProp
 with_property g unread = g
 with_property g (fault f) = g
 with_property g (of (span (start t))) =
-    with_span g (time_given g.span.start) (record { start = TimeGiven.Given t; end = g.span.end; lasts = g.span.lasts })
+    with_span g (is_some g.span.start) (record { start = Some t; end = g.span.end; lasts = g.span.lasts })
 with_property g (of (span (end t))) =
-    with_span g (time_given g.span.end) (record { start = g.span.start; end = TimeGiven.Given t; lasts = g.span.lasts })
+    with_span g (is_some g.span.end) (record { start = g.span.start; end = Some t; lasts = g.span.lasts })
 with_property g (of (span (lasts d))) =
-    with_span g (duration_given g.span.lasts) (record { start = g.span.start; end = g.span.end; lasts = DurationGiven.Given d })
+    with_span g (is_some g.span.lasts) (record { start = g.span.start; end = g.span.end; lasts = Some d })
 with_property g (of (repeats r)) =
-    record { repeated = g.repeated || rule_given g.repeats; span = g.span; repeats = RuleGiven.Given r; busy = g.busy }
+    record { repeated = g.repeated || is_some g.repeats; span = g.span; repeats = Some r; busy = g.busy }
 with_property g (of (busy (status s))) =
-    with_busy g (status_given g.busy.status) (record { status = StatusGiven.Given s; transparency = g.busy.transparency })
+    with_busy g (is_some g.busy.status) (record { status = Some s; transparency = g.busy.transparency })
 with_property g (of (busy (transparent t))) =
-    with_busy g (transparency_given g.busy.transparency) (record { status = g.busy.status; transparency = TransparencyGiven.Given t })
+    with_busy g (is_some g.busy.transparency) (record { status = g.busy.status; transparency = Some t })
 with_property g (of (identity f)) = g
 with_property g (of (periods b)) = g
 

@@ -1,5 +1,5 @@
 -- Events and free-busy blocks as rows of twelve numbers: the row of each, and what a row says.
-use Rattle.std.specs.Prelude.{ℕ, ◌+◌, ◌*◌, ◌≤◌, ◌<◌, ◌≡◌, cond, List, [], ◌∷◌, eqb, get_or}
+use Rattle.std.specs.Prelude.{ℕ, ◌+◌, ◌*◌, ◌≤◌, ◌<◌, ◌≡◌, cond, List, [], ◌∷◌, eqb, get_or, None, Option, Some}
 use Rattle.time.specs.declared.date_time.Kind.{Kind}
 use Rattle.periods.specs.declared.BusyType.{BusyType}
 use Rattle.periods.specs.BusyTypes.{report_place}
@@ -7,7 +7,6 @@ use Rattle.events.specs.Events.{kind_number}
 use Rattle.events.specs.declared.Ending.{Ending}
 use Rattle.events.specs.declared.Repeat.{Repeat}
 use Rattle.events.specs.declared.Event.{Event}
-use Rattle.events.specs.declared.Bound.{Bound}
 use Rattle.events.specs.declared.Block.{Block}
 use Rattle.events.specs.declared.rows.EndingNumbers.{EndingNumbers}
 use Rattle.events.specs.declared.rows.TaggedNumber.{TaggedNumber}
@@ -28,9 +27,9 @@ repeat_numbers (Repeat.Count n) = record { tag = 2; number = n }
 repeat_numbers (Repeat.Until t) = record { tag = 3; number = t }
 
 -- whether it is given, and its second
-unfoldable pub bound_numbers : Bound → TaggedNumber
-bound_numbers (Bound.At t) = record { tag = 0; number = t }
-bound_numbers Bound.None = record { tag = 1; number = 0 }
+unfoldable pub bound_numbers : Option ℕ → TaggedNumber
+bound_numbers (Some t) = record { tag = 0; number = t }
+bound_numbers None = record { tag = 1; number = 0 }
 
 -- the row of an event; the last number says nothing
 unfoldable pub event_row : Event → List ℕ
@@ -89,8 +88,8 @@ busy_of place =
     cond (eqb place 0) BusyType.Busy (cond (eqb place 1) BusyType.Tentative (cond (eqb place 2) BusyType.Unavailable BusyType.Free))
 
 -- the bound by its two numbers
-unfoldable pub bound_of : ℕ → ℕ → Bound
-bound_of tag number = cond (eqb tag 0) (Bound.At number) Bound.None
+unfoldable pub bound_of : ℕ → ℕ → Option ℕ
+bound_of tag number = cond (eqb tag 0) (Some number) None
 
 -- ---- in a column
 

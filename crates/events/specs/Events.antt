@@ -1,5 +1,6 @@
 -- Events and blocks (document 01, Events and blocks, first two paragraphs): the component rules of refusal 10.
-use Rattle.std.specs.Prelude.{ℕ, Bool, true, false, cond, ◌&&◌, List, eqb, ltb, leb}
+use Rattle.std.specs.Prelude.{ℕ, Bool, true, false, cond, ◌&&◌, List, eqb, ltb, leb, None, Option, Some}
+use Rattle.values.specs.declared.rule.Rule.{Rule}
 use Rattle.time.specs.declared.date_time.Kind.{Kind}
 use Rattle.time.specs.declared.duration.Duration.{Duration}
 use Rattle.values.specs.declared.times.Time.{Time}
@@ -10,18 +11,8 @@ use Rattle.periods.specs.BusyTypes.{BusyPeriod}
 use Rattle.events.specs.declared.Ending.{Ending}
 use Rattle.events.specs.declared.Repeat.{Repeat}
 use Rattle.events.specs.declared.Event.{Event}
-use Rattle.events.specs.declared.Bound.{Bound}
 use Rattle.events.specs.declared.Block.{Block}
 use Rattle.events.specs.declared.ComponentProperties.{ComponentProperties}
-use Rattle.events.specs.declared.TimeGiven.{TimeGiven}
-use Rattle.events.specs.declared.DurationGiven.{DurationGiven}
-use Rattle.events.specs.declared.RuleGiven.{RuleGiven}
-use Rattle.events.specs.declared.StatusGiven.{StatusGiven}
-use Rattle.events.specs.declared.TransparencyGiven.{TransparencyGiven}
-use Rattle.events.specs.declared.EndingRead.{EndingRead}
-use Rattle.events.specs.declared.RepeatRead.{RepeatRead}
-use Rattle.events.specs.declared.EventRead.{EventRead}
-use Rattle.events.specs.declared.BlockRead.{BlockRead}
 
 -- kinds: UTC, floating, DATE
 unfoldable pub kind_number : Kind → ℕ
@@ -38,51 +29,51 @@ is_date Kind.Floating = false
 is_date Kind.Date = true
 
 -- DTEND is of DTSTART's kind and later
-unfoldable pub stated_end : Time → Time → EndingRead
-stated_end s e = cond (same_kind e s && ltb s.second e.second) (EndingRead.Of (Ending.End e.second)) EndingRead.Broken
+unfoldable pub stated_end : Time → Time → Option Ending
+stated_end s e = cond (same_kind e s && ltb s.second e.second) (Some (Ending.End e.second)) None
 
 -- an event on a DATE lasts whole days: its duration names no time
-unfoldable pub stated_duration : Time → Duration → EndingRead
-stated_duration s d = cond (is_date s.kind && d.timed) EndingRead.Broken (EndingRead.Of (Ending.Lasts d))
+unfoldable pub stated_duration : Time → Duration → Option Ending
+stated_duration s d = cond (is_date s.kind && d.timed) None (Some (Ending.Lasts d))
 
 -- one of three endings; not both DTEND and DURATION
-unfoldable pub ending_by : Time → TimeGiven → DurationGiven → EndingRead
-ending_by s TimeGiven.Absent DurationGiven.Absent = EndingRead.Of Ending.None
-ending_by s (TimeGiven.Given e) DurationGiven.Absent = stated_end s e
-ending_by s TimeGiven.Absent (DurationGiven.Given d) = stated_duration s d
-ending_by s (TimeGiven.Given e) (DurationGiven.Given d) = EndingRead.Broken
+unfoldable pub ending_by : Time → Option Time → Option Duration → Option Ending
+ending_by s None None = Some Ending.None
+ending_by s (Some e) None = stated_end s e
+ending_by s None (Some d) = stated_duration s d
+ending_by s (Some e) (Some d) = None
 
 -- UNTIL must be a time like DTSTART, and no earlier
-unfoldable pub limit_by : Time → Limit → RepeatRead
-limit_by s Limit.Forever = RepeatRead.Of Repeat.Forever
-limit_by s (Limit.Count n) = RepeatRead.Of (Repeat.Count n)
-limit_by s (Limit.Until t) = cond (same_kind t s && leb s.second t.second) (RepeatRead.Of (Repeat.Until t.second)) RepeatRead.Broken
+unfoldable pub limit_by : Time → Limit → Option Repeat
+limit_by s Limit.Forever = Some Repeat.Forever
+limit_by s (Limit.Count n) = Some (Repeat.Count n)
+limit_by s (Limit.Until t) = cond (same_kind t s && leb s.second t.second) (Some (Repeat.Until t.second)) None
 
 -- without a rule there is instance 0 only
-unfoldable pub repeat_by : Time → RuleGiven → RepeatRead
-repeat_by s RuleGiven.Absent = RepeatRead.Of Repeat.Once
-repeat_by s (RuleGiven.Given r) = limit_by s r.limit
+unfoldable pub repeat_by : Time → Option Rule → Option Repeat
+repeat_by s None = Some Repeat.Once
+repeat_by s (Some r) = limit_by s r.limit
 
-unfoldable pub days_by : RuleGiven → ℕ
-days_by RuleGiven.Absent = 1
-days_by (RuleGiven.Given r) = r.days
+unfoldable pub days_by : Option Rule → ℕ
+days_by None = 1
+days_by (Some r) = r.days
 
-unfoldable pub interval_by : RuleGiven → ℕ
-interval_by RuleGiven.Absent = 1
-interval_by (RuleGiven.Given r) = r.interval
+unfoldable pub interval_by : Option Rule → ℕ
+interval_by None = 1
+interval_by (Some r) = r.interval
 
 -- STATUS CANCELLED is free, TENTATIVE tentative, any other or none busy
-unfoldable pub busy_by_status : StatusGiven → BusyType
-busy_by_status (StatusGiven.Given Status.Cancelled) = BusyType.Free
-busy_by_status (StatusGiven.Given Status.Tentative) = BusyType.Tentative
-busy_by_status (StatusGiven.Given Status.Other) = BusyType.Busy
-busy_by_status StatusGiven.Absent = BusyType.Busy
+unfoldable pub busy_by_status : Option Status → BusyType
+busy_by_status (Some Status.Cancelled) = BusyType.Free
+busy_by_status (Some Status.Tentative) = BusyType.Tentative
+busy_by_status (Some Status.Other) = BusyType.Busy
+busy_by_status None = BusyType.Busy
 
 -- TRANSP TRANSPARENT is free, before STATUS is asked
-unfoldable pub busy_by : TransparencyGiven → StatusGiven → BusyType
-busy_by (TransparencyGiven.Given true) s = BusyType.Free
-busy_by (TransparencyGiven.Given false) s = busy_by_status s
-busy_by TransparencyGiven.Absent s = busy_by_status s
+unfoldable pub busy_by : Option Bool → Option Status → BusyType
+busy_by (Some true) s = BusyType.Free
+busy_by (Some false) s = busy_by_status s
+busy_by None s = busy_by_status s
 
 -- the event that starts, ends and repeats so
 unfoldable pub event_made : Time → ComponentProperties → Ending → Repeat → Event
@@ -97,33 +88,33 @@ event_made s g e r =
       busy = busy_by g.busy.transparency g.busy.status;
     }
 
-unfoldable pub event_with : Time → ComponentProperties → EndingRead → RepeatRead → EventRead
-event_with s g (EndingRead.Of e) (RepeatRead.Of r) = EventRead.Of (event_made s g e r)
-event_with s g (EndingRead.Of e) RepeatRead.Broken = EventRead.Broken
-event_with s g EndingRead.Broken r = EventRead.Broken
+unfoldable pub event_with : Time → ComponentProperties → Option Ending → Option Repeat → Option Event
+event_with s g (Some e) (Some r) = Some (event_made s g e r)
+event_with s g (Some e) None = None
+event_with s g None r = None
 
 -- exactly one DTSTART
-unfoldable pub event_from : TimeGiven → ComponentProperties → EventRead
-event_from TimeGiven.Absent g = EventRead.Broken
-event_from (TimeGiven.Given s) g = event_with s g (ending_by s g.span.end g.span.lasts) (repeat_by s g.repeats)
+unfoldable pub event_from : Option Time → ComponentProperties → Option Event
+event_from None g = None
+event_from (Some s) g = event_with s g (ending_by s g.span.end g.span.lasts) (repeat_by s g.repeats)
 
 -- A VEVENT, by what its lines say
-unfoldable pub event_by : ComponentProperties → EventRead
-event_by g = cond g.repeated EventRead.Broken (event_from g.span.start g)
+unfoldable pub event_by : ComponentProperties → Option Event
+event_by g = cond g.repeated None (event_from g.span.start g)
 
 -- if both, DTEND is later
-unfoldable pub block_between : ℕ → ℕ → BlockRead
-block_between s e = cond (ltb s e) (BlockRead.Of (record { start = Bound.At s; end = Bound.At e })) BlockRead.Broken
+unfoldable pub block_between : ℕ → ℕ → Option Block
+block_between s e = cond (ltb s e) (Some (record { start = Some s; end = Some e })) None
 
-unfoldable pub block_from : TimeGiven → TimeGiven → BlockRead
-block_from TimeGiven.Absent TimeGiven.Absent = BlockRead.Of (record { start = Bound.None; end = Bound.None })
-block_from (TimeGiven.Given s) TimeGiven.Absent = BlockRead.Of (record { start = Bound.At s.second; end = Bound.None })
-block_from TimeGiven.Absent (TimeGiven.Given e) = BlockRead.Of (record { start = Bound.None; end = Bound.At e.second })
-block_from (TimeGiven.Given s) (TimeGiven.Given e) = block_between s.second e.second
+unfoldable pub block_from : Option Time → Option Time → Option Block
+block_from None None = Some (record { start = None; end = None })
+block_from (Some s) None = Some (record { start = Some s.second; end = None })
+block_from None (Some e) = Some (record { start = None; end = Some e.second })
+block_from (Some s) (Some e) = block_between s.second e.second
 
 -- A VFREEBUSY, by what its lines say: at most one DTSTART and one DTEND
-unfoldable pub block_by : ComponentProperties → BlockRead
-block_by g = cond g.repeated BlockRead.Broken (block_from g.span.start g.span.end)
+unfoldable pub block_by : ComponentProperties → Option Block
+block_by g = cond g.repeated None (block_from g.span.start g.span.end)
 
 -- what a calendar holds: events, each with the starts that are taken away from it, and blocks with their periods
 pub data Entry : Type 0 where

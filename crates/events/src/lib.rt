@@ -13,7 +13,7 @@ use time::duration::Duration;
 use values::rule::Rule;
 use values::times::Time;
 
-// How an event ends.
+// How an event ends. None is a case of it: an Option<Ending> would make what ending_by answers, which may be none at all, an Option of an Option.
 #[derive(Clone, Copy)]
 pub enum Ending {
     // At a stated second.
@@ -34,6 +34,7 @@ pub enum Repeat {
     Until(u64),
 }
 
+// EventSmall is no ghost field of it: rows::event_at and rules::event_by make one of any numbers, and may not ask for small ones.
 #[derive(Clone, Copy)]
 pub struct Event {
     pub kind: Kind,
@@ -46,94 +47,33 @@ pub struct Event {
     pub busy: BusyType,
 }
 
-// A second that may be given.
-#[derive(Clone, Copy)]
-pub enum Bound {
-    At(u64),
-    None,
-}
-
 #[derive(Clone, Copy)]
 pub struct Block {
-    pub start: Bound,
-    pub end: Bound,
-}
-
-#[derive(Clone, Copy)]
-pub enum TimeGiven {
-    Given(Time),
-    Absent,
-}
-
-#[derive(Clone, Copy)]
-pub enum DurationGiven {
-    Given(Duration),
-    Absent,
-}
-
-#[derive(Clone, Copy)]
-pub enum RuleGiven {
-    Given(Rule),
-    Absent,
-}
-
-#[derive(Clone, Copy)]
-pub enum StatusGiven {
-    Given(Status),
-    Absent,
-}
-
-#[derive(Clone, Copy)]
-pub enum TransparencyGiven {
-    Given(bool),
-    Absent,
+    pub start: Option<u64>,
+    pub end: Option<u64>,
 }
 
 // When it takes place.
 #[derive(Clone, Copy)]
 pub struct SpanProperties {
-    pub start: TimeGiven,
-    pub end: TimeGiven,
-    pub lasts: DurationGiven,
+    pub start: Option<Time>,
+    pub end: Option<Time>,
+    pub lasts: Option<Duration>,
 }
 
 // What it counts for.
 #[derive(Clone, Copy)]
 pub struct BusyProperties {
-    pub status: StatusGiven,
-    pub transparency: TransparencyGiven,
+    pub status: Option<Status>,
+    pub transparency: Option<bool>,
 }
 
-// What the lines of a component say together.
+// What the lines of a component say together. `repeated` is no Result: with_start and its like cannot fail, and the lines behind a repeated one are still read.
 #[derive(Clone, Copy)]
 pub struct ComponentProperties {
     // Does a line stand twice that may stand once?
     pub repeated: bool,
     pub span: SpanProperties,
-    pub repeats: RuleGiven,
+    pub repeats: Option<Rule>,
     pub busy: BusyProperties,
-}
-
-#[derive(Clone, Copy)]
-pub enum EndingRead {
-    Of(Ending),
-    Broken,
-}
-
-#[derive(Clone, Copy)]
-pub enum RepeatRead {
-    Of(Repeat),
-    Broken,
-}
-
-#[derive(Clone, Copy)]
-pub enum EventRead {
-    Of(Event),
-    Broken,
-}
-
-#[derive(Clone, Copy)]
-pub enum BlockRead {
-    Of(Block),
-    Broken,
 }

@@ -2,12 +2,9 @@
 // Of a property that stands twice the last is kept, and that it was repeated.
 ghost use Rattle.std.specs.Prelude.{◌≡◌};
 ghost use Rattle.property.specs.Facts.{SpanFact, BusyFact, Fact, Reading};
-ghost use Rattle.events.specs.ComponentProperties.{time_given, duration_given, rule_given, status_given, transparency_given, no_properties, with_span, with_busy, with_property};
+ghost use Rattle.events.specs.ComponentProperties.{no_properties, with_span, with_busy, with_property};
 
-use crate::{
-    BusyProperties, ComponentProperties, DurationGiven, RuleGiven, SpanProperties, StatusGiven,
-    TimeGiven, TransparencyGiven,
-};
+use crate::{BusyProperties, ComponentProperties, SpanProperties};
 use property::Status;
 use time::duration::Duration;
 use values::rule::Rule;
@@ -16,65 +13,18 @@ use values::times::Time;
 pub fn no_properties() -> ComponentProperties
     ensures { result ≡ no_properties }
 {
-    let span = SpanProperties {
-        start: TimeGiven::Absent,
-        end: TimeGiven::Absent,
-        lasts: DurationGiven::Absent,
-    };
-    let busy = BusyProperties {
-        status: StatusGiven::Absent,
-        transparency: TransparencyGiven::Absent,
-    };
     ComponentProperties {
         repeated: false,
-        span,
-        repeats: RuleGiven::Absent,
-        busy,
-    }
-}
-
-fn time_given(g: TimeGiven) -> bool
-    ensures { result ≡ time_given g }
-{
-    match g {
-        TimeGiven::Given(_) => true,
-        TimeGiven::Absent => false,
-    }
-}
-
-fn duration_given(g: DurationGiven) -> bool
-    ensures { result ≡ duration_given g }
-{
-    match g {
-        DurationGiven::Given(_) => true,
-        DurationGiven::Absent => false,
-    }
-}
-
-fn rule_given(g: RuleGiven) -> bool
-    ensures { result ≡ rule_given g }
-{
-    match g {
-        RuleGiven::Given(_) => true,
-        RuleGiven::Absent => false,
-    }
-}
-
-fn status_given(g: StatusGiven) -> bool
-    ensures { result ≡ status_given g }
-{
-    match g {
-        StatusGiven::Given(_) => true,
-        StatusGiven::Absent => false,
-    }
-}
-
-fn transparency_given(g: TransparencyGiven) -> bool
-    ensures { result ≡ transparency_given g }
-{
-    match g {
-        TransparencyGiven::Given(_) => true,
-        TransparencyGiven::Absent => false,
+        span: SpanProperties {
+            start: None,
+            end: None,
+            lasts: None,
+        },
+        repeats: None,
+        busy: BusyProperties {
+            status: None,
+            transparency: None,
+        },
     }
 }
 
@@ -82,14 +32,10 @@ fn transparency_given(g: TransparencyGiven) -> bool
 fn with_span(g: ComponentProperties, again: bool, span: SpanProperties) -> ComponentProperties
     ensures { result ≡ with_span g again span }
 {
-    let repeated = g.repeated;
-    let repeats = g.repeats;
-    let busy = g.busy;
     ComponentProperties {
-        repeated: repeated | again,
+        repeated: g.repeated | again,
         span,
-        repeats,
-        busy,
+        ..g
     }
 }
 
@@ -97,99 +43,69 @@ fn with_span(g: ComponentProperties, again: bool, span: SpanProperties) -> Compo
 fn with_busy(g: ComponentProperties, again: bool, busy: BusyProperties) -> ComponentProperties
     ensures { result ≡ with_busy g again busy }
 {
-    let repeated = g.repeated;
-    let span = g.span;
-    let repeats = g.repeats;
     ComponentProperties {
-        repeated: repeated | again,
-        span,
-        repeats,
+        repeated: g.repeated | again,
         busy,
+        ..g
     }
 }
 
 pub fn with_start(g: ComponentProperties, t: Time) -> ComponentProperties
     ensures { result ≡ with_property g (Reading.of (Fact.span (SpanFact.start t))) }
 {
-    let span = g.span;
-    let start = span.start;
-    let end = span.end;
-    let lasts = span.lasts;
-    let more = SpanProperties {
-        start: TimeGiven::Given(t),
-        end,
-        lasts,
+    let span = SpanProperties {
+        start: Some(t),
+        ..g.span
     };
-    with_span(g, time_given(start), more)
+    with_span(g, g.span.start.is_some(), span)
 }
 
 pub fn with_end(g: ComponentProperties, t: Time) -> ComponentProperties
     ensures { result ≡ with_property g (Reading.of (Fact.span (SpanFact.end t))) }
 {
-    let span = g.span;
-    let start = span.start;
-    let end = span.end;
-    let lasts = span.lasts;
-    let more = SpanProperties {
-        start,
-        end: TimeGiven::Given(t),
-        lasts,
+    let span = SpanProperties {
+        end: Some(t),
+        ..g.span
     };
-    with_span(g, time_given(end), more)
+    with_span(g, g.span.end.is_some(), span)
 }
 
 pub fn with_lasts(g: ComponentProperties, d: Duration) -> ComponentProperties
     ensures { result ≡ with_property g (Reading.of (Fact.span (SpanFact.lasts d))) }
 {
-    let span = g.span;
-    let start = span.start;
-    let end = span.end;
-    let lasts = span.lasts;
-    let more = SpanProperties {
-        start,
-        end,
-        lasts: DurationGiven::Given(d),
+    let span = SpanProperties {
+        lasts: Some(d),
+        ..g.span
     };
-    with_span(g, duration_given(lasts), more)
+    with_span(g, g.span.lasts.is_some(), span)
 }
 
 pub fn with_repeats(g: ComponentProperties, x: Rule) -> ComponentProperties
     ensures { result ≡ with_property g (Reading.of (Fact.repeats x)) }
 {
-    let repeated = g.repeated;
-    let span = g.span;
-    let repeats = g.repeats;
-    let busy = g.busy;
     ComponentProperties {
-        repeated: repeated | rule_given(repeats),
-        span,
-        repeats: RuleGiven::Given(x),
-        busy,
+        repeated: g.repeated | g.repeats.is_some(),
+        repeats: Some(x),
+        ..g
     }
 }
 
 pub fn with_status(g: ComponentProperties, x: Status) -> ComponentProperties
     ensures { result ≡ with_property g (Reading.of (Fact.busy (BusyFact.status x))) }
 {
-    let busy = g.busy;
-    let status = busy.status;
-    let transparency = busy.transparency;
-    let more = BusyProperties {
-        status: StatusGiven::Given(x),
-        transparency,
+    let busy = BusyProperties {
+        status: Some(x),
+        ..g.busy
     };
-    with_busy(g, status_given(status), more)
+    with_busy(g, g.busy.status.is_some(), busy)
 }
 
 pub fn with_transparency(g: ComponentProperties, x: bool) -> ComponentProperties
     ensures { result ≡ with_property g (Reading.of (Fact.busy (BusyFact.transparent x))) }
 {
-    let busy = g.busy;
-    let status = busy.status;
-    let transparency = busy.transparency;
-    let more = BusyProperties {
-        status,
-        transparency: TransparencyGiven::Given(x),
+    let busy = BusyProperties {
+        transparency: Some(x),
+        ..g.busy
     };
-    with_busy(g, transparency_given(transparency), more)
+    with_busy(g, g.busy.transparency.is_some(), busy)
 }

@@ -34,7 +34,7 @@ use Rattle.property.specs.Properties.{property_of, time_in, time_fact, unless_zo
 use Rattle.nesting.specs.Nesting.{after_begin, after_end, after_property, walk, outcome, nesting_of}
 use Rattle.nesting.specs.Components.{delimited_from, items_of, tree_of, components_in, properties_in, items_below}
 use Rattle.table.specs.Runs.{lead, lead_if, runs}
-use Rattle.events.specs.ComponentProperties.{no_properties, time_given, duration_given, rule_given, with_property, with_span, with_busy, with_properties}
+use Rattle.events.specs.ComponentProperties.{no_properties, with_property, with_span, with_busy, with_properties}
 use Rattle.events.specs.Events.{Entry, event, block, kind_number, same_kind, is_date, stated_end, stated_duration, ending_by, limit_by, repeat_by, days_by, interval_by, busy_by_status, busy_by, event_made, event_with as event_ending, event_from, event_by, block_between, block_from, block_by}
 use Rattle.events.specs.declared.Event.{Event}
 use Rattle.events.specs.declared.Block.{Block}
@@ -43,7 +43,7 @@ use Rattle.overrides.specs.Rules.{has_rule, other_kind, override_breaks, event_b
 use Rattle.overrides.specs.VEvents.{is_master, is_override, has_uid, shares_uid, master_of}
 use Rattle.calendar.specs.Identities.{uids_by, recurrence_ids_by, exceptions_by, uids_in, recurrence_ids_in, exceptions_in, identity_in, identity_of}
 use Rattle.calendar.specs.Meaning.{removed_as, fault_of, structure_fault}
-use Rattle.property.specs.Properties.{exceptions_by as exceptions_by', unless_ranged, status_named, is_start, gives_periods}
+use Rattle.property.specs.Properties.{exceptions_by as exceptions_by', unless_ranged, status_named, gives_periods}
 use Rattle.values.specs.TimeLists.{time_items, all_times, good_times, seconds_of, kind_number as kind_number', same_kind as same_kind', with_kind, with_kinds}
 use Rattle.overrides.specs.Instances.{number_at, names_instance, moved_from, removed_from as removed_from'}
 use Rattle.calendar.specs.Meaning.{Meaning, fault, calendar, scope_of, component_scope, property_values_in, fault_or, fault_in, value_fault, event_of, block_of, vevents_as, vevents, vevent_of, breaks_rule, broken_or, first_fault, rule_fault, periods_by, block_periods, removed_from, entry_of, entries_among, entries_of, file_lines, components_of, by_rules, by_values, by_lines, contents_of, meaning_of}
@@ -252,5 +252,5 @@ all_hold (c ∷ cs) h = (sound c (and_left (test c) (tests cs) h), all_hold cs (
 
 -- document 01, Examples at the edges, and R-2: every row holds
 pub edges : All table
-unfolding table calendar_bytes meaning_with event_with block_with starting_at lasting is_fault starts_at has_length of_event of_block of_entries in_range in_block is_last has_periods tests test is_utc same_period same_periods is_digit upper same_name first_outside before after split_parts head_of value_of name_of parameter_texts line_of parameters_named some_list has_parameter has_twice has_list digit_pair pair_at joined year_at checked_day three date_at checked_time time_at clock_of clock_at read_date_time is_leap year_days days_before_year month_lengths length_in before_in month_days days_before_month day_number is_day time_start next_stage weight_of blank with_digit fitting unit_to with_unit step text_runs finish duration_text duration_seconds within_limit limited read_duration epoch since utc_second property_of time_in time_fact unless_zoned duration_by value_as property_value_of before_items items_good with_items utc_of at_second time_by read_time form_of time_of utc_only report_place same_busy fault_or by_values second_in covers lead lead_if runs first_at span_of starts_before step_of start_of repeats among clock_among is_instance occurs default_length length_by is_zero_length end_of ends_after instance_in overlaps between_in periods_overlap bounds_in block_in stated_periods instance_periods gathered busy_periods of_type covered_by covered is_letter is_name_byte is_control is_name is_break is_blank is_fold unfolded cut content_lines scan_step is_ending scan is_well_formed line_check_from line_check plain_split values_named first_value delimiter_of is_calendar is_event is_free_busy may_begin after_begin after_end after_property walk outcome nesting_of delimited_from items_of tree_of components_in properties_in items_below scope_of component_scope property_values_in fault_in value_fault event_of block_of vevents_as vevents vevent_of breaks_rule broken_or first_fault rule_fault periods_by block_periods removed_from entry_of entries_among entries_of file_lines components_of by_rules by_lines contents_of meaning_of no_properties time_given duration_given rule_given with_property with_span with_busy with_properties kind_number same_kind is_date stated_end stated_duration ending_by limit_by repeat_by days_by interval_by busy_by_status busy_by event_made event_ending event_from event_by block_between block_from block_by rule_value busy_named busy_of type_value utc_by utc_at period_end period_to period_from period_of period_items all_periods good_periods number_to frequency_part interval_part count_by named_part part_of no_parts with_part with_parts rule_by rule_of decimal pooled has_rule other_kind override_breaks event_breaks breaks_alone masters_clash overrides_clash misnames misplaced override_misplaced breaks_beside breaks first_broken broken_line is_master is_override has_uid shares_uid master_of uids_by recurrence_ids_by exceptions_by uids_in recurrence_ids_in exceptions_in identity_in identity_of removed_as fault_of structure_fault exceptions_by' unless_ranged status_named is_start gives_periods time_items all_times good_times seconds_of kind_number' same_kind' with_kind with_kinds number_at names_instance moved_from removed_from' some is_empty two_or_more
+unfolding table calendar_bytes meaning_with event_with block_with starting_at lasting is_fault starts_at has_length of_event of_block of_entries in_range in_block is_last has_periods tests test is_utc same_period same_periods is_digit upper same_name first_outside before after split_parts head_of value_of name_of parameter_texts line_of parameters_named some_list has_parameter has_twice has_list digit_pair pair_at joined year_at checked_day three date_at checked_time time_at clock_of clock_at read_date_time is_leap year_days days_before_year month_lengths length_in before_in month_days days_before_month day_number is_day time_start next_stage weight_of blank with_digit fitting unit_to with_unit step text_runs finish duration_text duration_seconds within_limit limited read_duration epoch since utc_second property_of time_in time_fact unless_zoned duration_by value_as property_value_of before_items items_good with_items utc_of at_second time_by read_time form_of time_of utc_only report_place same_busy fault_or by_values second_in covers lead lead_if runs first_at span_of starts_before step_of start_of repeats among clock_among is_instance occurs default_length length_by is_zero_length end_of ends_after instance_in overlaps between_in periods_overlap bounds_in block_in stated_periods instance_periods gathered busy_periods of_type covered_by covered is_letter is_name_byte is_control is_name is_break is_blank is_fold unfolded cut content_lines scan_step is_ending scan is_well_formed line_check_from line_check plain_split values_named first_value delimiter_of is_calendar is_event is_free_busy may_begin after_begin after_end after_property walk outcome nesting_of delimited_from items_of tree_of components_in properties_in items_below scope_of component_scope property_values_in fault_in value_fault event_of block_of vevents_as vevents vevent_of breaks_rule broken_or first_fault rule_fault periods_by block_periods removed_from entry_of entries_among entries_of file_lines components_of by_rules by_lines contents_of meaning_of no_properties with_property with_span with_busy with_properties kind_number same_kind is_date stated_end stated_duration ending_by limit_by repeat_by days_by interval_by busy_by_status busy_by event_made event_ending event_from event_by block_between block_from block_by rule_value busy_named busy_of type_value utc_by utc_at period_end period_to period_from period_of period_items all_periods good_periods number_to frequency_part interval_part count_by named_part part_of no_parts with_part with_parts rule_by rule_of decimal pooled has_rule other_kind override_breaks event_breaks breaks_alone masters_clash overrides_clash misnames misplaced override_misplaced breaks_beside breaks first_broken broken_line is_master is_override has_uid shares_uid master_of uids_by recurrence_ids_by exceptions_by uids_in recurrence_ids_in exceptions_in identity_in identity_of removed_as fault_of structure_fault exceptions_by' unless_ranged status_named gives_periods time_items all_times good_times seconds_of kind_number' same_kind' with_kind with_kinds number_at names_instance moved_from removed_from' some is_empty two_or_more
 edges = all_hold table refl

@@ -1,4 +1,5 @@
 -- The theorems for the reader: the tests of a query hold exactly where its sentences do.
+use Rattle.std.specs.Prelude.{None, Option, Some}
 use Prim.Native.Nat.{ℕ, zero, suc, ◌-◌, ◌≤◌, ◌<◌}
 use mathlib.Core.Path.{◌≡◌, refl, sym, ap, ◌∙◌, subst}
 use mathlib.Core.Bool.{Bool, true, false, cond, not, ◌&&◌, ◌||◌}
@@ -33,10 +34,7 @@ use Rattle.property_tests.specs.PropertyTests.{collation_of, text_holds, some_va
 use Rattle.property_tests.proofs.PropertyTests.{SomeOf, named_lines, holding_lines}
 use Rattle.periods.specs.BusyTypes.{BusyPeriod, periods_of}
 use Rattle.events.specs.declared.Event.{Event}
-use Rattle.events.specs.declared.EventRead.{EventRead}
-use Rattle.events.specs.declared.Bound.{Bound}
 use Rattle.events.specs.declared.Block.{Block}
-use Rattle.events.specs.declared.BlockRead.{BlockRead}
 use Rattle.calendar.specs.Meaning.{component_scope, event_of, block_of, block_periods, removed_from}
 use Rattle.calendar.proofs.Meaning.{event_of_small}
 use Rattle.recurrence.specs.TimeRange.{EventIn, between_in, periods_overlap, bounds_in, block_in, Decides}
@@ -283,25 +281,25 @@ module _ (p : List ℕ) (q : Sections) where
 
 -- ---- a component in a time range
 
-no_bound : {A : Type 0} {s : ℕ} → Bound.None ≡ Bound.At s → A
+no_bound : {A : Type 0} {s : ℕ} → None ≡ Some s → A
 no_bound e = let z : ◌≡◌ {A = ℕ} 0 1 = cc in absurd (omega arith)
 
 module _ (a b : ℕ) (ps : List BusyPeriod) where
   -- without both ends the periods decide
-  by_periods : (u v : Bound) → ((s t : ℕ) → u ≡ Bound.At s → v ≡ Bound.At t → ⊥) → bounds_in a b u v ps ≡ periods_overlap a b (periods_of ps)
+  by_periods : (u v : Option ℕ) → ((s t : ℕ) → u ≡ Some s → v ≡ Some t → ⊥) → bounds_in a b u v ps ≡ periods_overlap a b (periods_of ps)
   unfolding bounds_in
-  by_periods (Bound.At s) (Bound.At t) h = absurd (h s t refl refl)
-  by_periods (Bound.At s) Bound.None h = refl
-  by_periods Bound.None (Bound.At t) h = refl
-  by_periods Bound.None Bound.None h = refl
+  by_periods (Some s) (Some t) h = absurd (h s t refl refl)
+  by_periods (Some s) None h = refl
+  by_periods None (Some t) h = refl
+  by_periods None None h = refl
 
-  by_ends : {P : Type 0} (u v : Bound) → ((s t : ℕ) → u ≡ Bound.At s → v ≡ Bound.At t → between_in a b s t ≡ true → P)
-      → (((s t : ℕ) → u ≡ Bound.At s → v ≡ Bound.At t → ⊥) → periods_overlap a b (periods_of ps) ≡ true → P) → bounds_in a b u v ps ≡ true → P
+  by_ends : {P : Type 0} (u v : Option ℕ) → ((s t : ℕ) → u ≡ Some s → v ≡ Some t → between_in a b s t ≡ true → P)
+      → (((s t : ℕ) → u ≡ Some s → v ≡ Some t → ⊥) → periods_overlap a b (periods_of ps) ≡ true → P) → bounds_in a b u v ps ≡ true → P
   unfolding bounds_in
-  by_ends (Bound.At s) (Bound.At t) both other h = both s t refl refl h
-  by_ends (Bound.At s) Bound.None both other h = other (λ x y d e. no_bound e) h
-  by_ends Bound.None (Bound.At t) both other h = other (λ x y d e. no_bound d) h
-  by_ends Bound.None Bound.None both other h = other (λ x y d e. no_bound d) h
+  by_ends (Some s) (Some t) both other h = both s t refl refl h
+  by_ends (Some s) None both other h = other (λ x y d e. no_bound e) h
+  by_ends None (Some t) both other h = other (λ x y d e. no_bound d) h
+  by_ends None None both other h = other (λ x y d e. no_bound d) h
 
 module _ (c : Whole) (k : Component) (a b : ℕ) where
   abbrev gone : List ℕ
@@ -310,19 +308,19 @@ module _ (c : Whole) (k : Component) (a b : ℕ) where
   abbrev busy_periods : List BusyPeriod
   busy_periods = block_periods c.context (properties_in k.items)
 
-  event_says : component_scope k ≡ Scope.Event → (r : EventRead) → event_of c.context k ≡ r → event_in r gone a b ≡ true → ComponentIn c k a b
+  event_says : component_scope k ≡ Scope.Event → (r : Option Event) → event_of c.context k ≡ r → event_in r gone a b ≡ true → ComponentIn c k a b
   unfolding event_in
-  event_says o (EventRead.Of e) x h = let i = some_at e gone a b instances_at_most h in ComponentIn.event_in_holds e o x i.number ((instance_in_iff e gone a b i.number).0 i.passes)
-  event_says o EventRead.Broken x h = clash h refl
+  event_says o (Some e) x h = let i = some_at e gone a b instances_at_most h in ComponentIn.event_in_holds e o x i.number ((instance_in_iff e gone a b i.number).0 i.passes)
+  event_says o None x h = clash h refl
 
-  block_says : component_scope k ≡ Scope.FreeBusy → (r : BlockRead) → block_of c.context k ≡ r → block_range_in c.context k r a b ≡ true → ComponentIn c k a b
+  block_says : component_scope k ≡ Scope.FreeBusy → (r : Option Block) → block_of c.context k ≡ r → block_range_in c.context k r a b ≡ true → ComponentIn c k a b
   unfolding block_range_in block_in
-  block_says o (BlockRead.Of x) e h =
+  block_says o (Some x) e h =
       by_ends a b busy_periods x.start x.end
       (λ s t y z w. ComponentIn.block_between_holds x s t o e y z ((between_iff a b s t).0 w))
       (λ y w. let i = (periods_iff a b busy_periods).0 w in ComponentIn.block_period x o e y i.which i.listed ((overlaps_iff a b _ _).0 i.passes))
       h
-  block_says o BlockRead.Broken e h = clash h refl
+  block_says o None e h = clash h refl
 
   scope_says : (o : Scope) → component_scope k ≡ o → component_in c o k a b ≡ true → ComponentIn c k a b
   unfolding component_in
@@ -331,16 +329,16 @@ module _ (c : Whole) (k : Component) (a b : ℕ) where
   scope_says Scope.Other o h = clash h refl
 
   -- by what is read
-  as_event : component_scope k ≡ Scope.Event → (r : EventRead) → event_of c.context k ≡ r → event_in r gone a b ≡ true → component_in c (component_scope k) k a b ≡ true
+  as_event : component_scope k ≡ Scope.Event → (r : Option Event) → event_of c.context k ≡ r → event_in r gone a b ≡ true → component_in c (component_scope k) k a b ≡ true
   unfolding component_in
-  as_event o r e h = ap (λ (w : Scope). component_in c w k a b) o ∙ ap (λ (w : EventRead). event_in w gone a b) e ∙ h
+  as_event o r e h = ap (λ (w : Scope). component_in c w k a b) o ∙ ap (λ (w : Option Event). event_in w gone a b) e ∙ h
 
-  as_block : component_scope k ≡ Scope.FreeBusy → (x : Block) → block_of c.context k ≡ BlockRead.Of x → block_in x busy_periods a b ≡ true
+  as_block : component_scope k ≡ Scope.FreeBusy → (x : Block) → block_of c.context k ≡ Some x → block_in x busy_periods a b ≡ true
       → component_in c (component_scope k) k a b ≡ true
   unfolding component_in block_range_in
-  as_block o x e h = ap (λ (w : Scope). component_in c w k a b) o ∙ ap (λ (w : BlockRead). block_range_in c.context k w a b) e ∙ h
+  as_block o x e h = ap (λ (w : Scope). component_in c w k a b) o ∙ ap (λ (w : Option Block). block_range_in c.context k w a b) e ∙ h
 
-  in_event : b ≤ last_second → (e : Event) → event_of c.context k ≡ EventRead.Of e → EventIn e gone a b → event_in (EventRead.Of e) gone a b ≡ true
+  in_event : b ≤ last_second → (e : Event) → event_of c.context k ≡ Some e → EventIn e gone a b → event_in (Some e) gone a b ≡ true
   unfolding event_in
   in_event l e x i =
       sym (decided_once true _ (search_finds i.number i.passes) (some_decides gone a b (event_of_small c.context k e x) l))
@@ -348,7 +346,7 @@ module _ (c : Whole) (k : Component) (a b : ℕ) where
   scope_holds : b ≤ last_second → ComponentIn c k a b → component_in c (component_scope k) k a b ≡ true
   unfolding block_in
   scope_holds l (ComponentIn.event_in_holds e o x n i) =
-      as_event o (EventRead.Of e) x (in_event l e x (record { number = n; passes = (instance_in_iff e gone a b n).1 i }))
+      as_event o (Some e) x (in_event l e x (record { number = n; passes = (instance_in_iff e gone a b n).1 i }))
   scope_holds l (ComponentIn.block_between_holds x s t o e y z h) = as_block o x e (sym (both_ends c.context a b x (properties_in k.items) s t y z (sym ((between_iff a b s t).1 h))))
   scope_holds l (ComponentIn.block_period x o e y p m h) =
       as_block o x e (by_periods a b busy_periods x.start x.end y ∙ (periods_iff a b busy_periods).1 (record { which = p; listed = m; passes = (overlaps_iff a b _ _).1 h }))

@@ -1,4 +1,5 @@
 -- Laws of the time range of one component: the periods of its lines, its ends, and what its row tells.
+use Rattle.std.specs.Prelude.{None, Option, Some}
 use Prim.Native.Nat.{ℕ, zero, suc, ◌+◌, ◌-◌, ◌*◌, ◌≤◌, ◌<◌}
 use mathlib.Core.Path.{◌≡◌, refl, sym, ap, ◌∙◌, subst}
 use mathlib.Core.Bool.{Bool, true, false, cond, not, ◌||◌, or-false}
@@ -30,10 +31,7 @@ use Rattle.property_tests.proofs.PropertyTests.{SomeOf}
 use Rattle.periods.specs.BusyTypes.{periods_of}
 use Rattle.events.specs.EntryRows.{event_at, block_at}
 use Rattle.events.specs.declared.Event.{Event}
-use Rattle.events.specs.declared.EventRead.{EventRead}
 use Rattle.events.specs.declared.Block.{Block}
-use Rattle.events.specs.declared.BlockRead.{BlockRead}
-use Rattle.events.specs.declared.Bound.{Bound}
 use Rattle.nesting.specs.Files.{tree_in}
 use Rattle.calendar.specs.Meaning.{scope_of, component_scope, event_of, block_of, periods_by, block_periods, removed_from}
 use Rattle.calendar.specs.Periods.{periods_from, NextPeriod, NoPeriod}
@@ -124,33 +122,33 @@ module _ (c : Context) (a b : ℕ) where
   -- ---- a block
 
   module _ (k : Block) (xs : List Numbered) where
-    pub both_ends : (x y : ℕ) {r : Bool} → k.start ≡ Bound.At x → k.end ≡ Bound.At y → r ≡ between_in a b x y → r ≡ block_in k (block_periods c xs) a b
+    pub both_ends : (x y : ℕ) {r : Bool} → k.start ≡ Some x → k.end ≡ Some y → r ≡ between_in a b x y → r ≡ block_in k (block_periods c xs) a b
     unfolding block_in bounds_in
     both_ends x y p q e =
-        e ∙ sym (ap (λ (w : Bound). bounds_in a b w k.end (block_periods c xs)) p ∙ ap (λ (w : Bound). bounds_in a b (Bound.At x) w (block_periods c xs)) q)
+        e ∙ sym (ap (λ (w : Option ℕ). bounds_in a b w k.end (block_periods c xs)) p ∙ ap (λ (w : Option ℕ). bounds_in a b (Some x) w (block_periods c xs)) q)
 
-    pub no_end : (x : ℕ) {r : Bool} → k.start ≡ Bound.At x → k.end ≡ Bound.None → r ≡ lines_in c a b xs → r ≡ block_in k (block_periods c xs) a b
+    pub no_end : (x : ℕ) {r : Bool} → k.start ≡ Some x → k.end ≡ None → r ≡ lines_in c a b xs → r ≡ block_in k (block_periods c xs) a b
     unfolding block_in bounds_in lines_in
     no_end x p q e =
-        e ∙ sym (ap (λ (w : Bound). bounds_in a b w k.end (block_periods c xs)) p ∙ ap (λ (w : Bound). bounds_in a b (Bound.At x) w (block_periods c xs)) q)
+        e ∙ sym (ap (λ (w : Option ℕ). bounds_in a b w k.end (block_periods c xs)) p ∙ ap (λ (w : Option ℕ). bounds_in a b (Some x) w (block_periods c xs)) q)
 
-    none_first : (w : Bound) → periods_overlap a b (periods_of (block_periods c xs)) ≡ bounds_in a b Bound.None w (block_periods c xs)
+    none_first : (w : Option ℕ) → periods_overlap a b (periods_of (block_periods c xs)) ≡ bounds_in a b None w (block_periods c xs)
     unfolding bounds_in
-    none_first (Bound.At y) = refl
-    none_first Bound.None = refl
+    none_first (Some y) = refl
+    none_first None = refl
 
-    pub no_start : {r : Bool} → k.start ≡ Bound.None → r ≡ lines_in c a b xs → r ≡ block_in k (block_periods c xs) a b
+    pub no_start : {r : Bool} → k.start ≡ None → r ≡ lines_in c a b xs → r ≡ block_in k (block_periods c xs) a b
     unfolding block_in lines_in
-    no_start p e = e ∙ none_first k.end ∙ sym (ap (λ (w : Bound). bounds_in a b w k.end (block_periods c xs)) p)
+    no_start p e = e ∙ none_first k.end ∙ sym (ap (λ (w : Option ℕ). bounds_in a b w k.end (block_periods c xs)) p)
 
 -- the ends of a block, against the range
 module _ (x : Block) (a b : ℕ) where
-  pub between_outside : (y z : ℕ) {r : Bool} → x.start ≡ Bound.At y → x.end ≡ Bound.At z → r ≡ between_in a b y z → not r ≡ true → EndsOutside x a b
+  pub between_outside : (y z : ℕ) {r : Bool} → x.start ≡ Some y → x.end ≡ Some z → r ≡ between_in a b y z → not r ≡ true → EndsOutside x a b
   unfolding block_in bounds_in
   between_outside y z p q e n =
       record {
         outside = λ ps.
-            ap (λ (w : Bound). bounds_in a b w x.end ps) p ∙ ap (λ (w : Bound). bounds_in a b (Bound.At y) w ps) q ∙ sym e ∙ not-true _ n;
+            ap (λ (w : Option ℕ). bounds_in a b w x.end ps) p ∙ ap (λ (w : Option ℕ). bounds_in a b (Some y) w ps) q ∙ sym e ∙ not-true _ n;
       }
 
   pub no_outside : false ≡ true → EndsOutside x a b
@@ -217,10 +215,10 @@ module _ {c : Context} {s index rows column : List ℕ} (g : Given c s index row
   pub row_number : k < get_or rows 2 0
   row_number = omega (arith, rows_rise h.row.inner.items, h.within)
 
-  pub event_of_holds : get_or rows (4 * k + 3) 0 ≡ 1 → event_of c (component_by s rows k) ≡ EventRead.Of (event_at column k)
+  pub event_of_holds : get_or rows (4 * k + 3) 0 ≡ 1 → event_of c (component_by s rows k) ≡ Some (event_at column k)
   event_of_holds e = g.entries.events k row_number e
 
-  pub block_of_holds : get_or rows (4 * k + 3) 0 ≡ 2 → block_of c (component_by s rows k) ≡ BlockRead.Of (block_at column k)
+  pub block_of_holds : get_or rows (4 * k + 3) 0 ≡ 2 → block_of c (component_by s rows k) ≡ Some (block_at column k)
   block_of_holds e = g.entries.blocks k row_number e
 
   pub row_small : RowSmall rows column k
@@ -240,11 +238,11 @@ module _ {c : Context} {s index rows column : List ℕ} (g : Given c s index row
       by_kind h.row
       (λ e y.
       ap (λ (v : Scope). component_in w v x a b) y
-      ∙ ap (λ (v : EventRead). event_in v (removed_from c w.components x) a b) (event_of_holds e)
+      ∙ ap (λ (v : Option Event). event_in v (removed_from c w.components x) a b) (event_of_holds e)
       ∙ o.no_instance e (removed_from c w.components x))
       (λ e y.
       ap (λ (v : Scope). component_in w v x a b) y
-      ∙ ap (λ (v : BlockRead). block_range_in c x v a b) (block_of_holds e)
+      ∙ ap (λ (v : Option Block). block_range_in c x v a b) (block_of_holds e)
       ∙ (o.no_block e).outside (block_periods c (properties_in x.items)))
       (λ e y. ap (λ (v : Scope). component_in w v x a b) y)
 

@@ -1,4 +1,5 @@
 -- Laws of what is tried of a component: what a trial decides, what one look at a row rules out, and the search through the instances.
+use Rattle.std.specs.Prelude.{Option, Some}
 use Prim.Native.Nat.{ℕ, zero, suc, ◌+◌, ◌-◌, ◌*◌, ◌≤◌, ◌<◌}
 use mathlib.Core.Path.{◌≡◌, refl, sym, ap, ◌∙◌, subst}
 use mathlib.Core.Bool.{Bool, true, false, not, ◌&&◌, ◌||◌, and-true, and-false}
@@ -21,9 +22,7 @@ use Rattle.nesting.specs.Components.{Component, properties_in, components_in}
 use Rattle.structure.specs.Rows.{RowOf, component_by, components_by}
 use Rattle.events.specs.EntryRows.{event_at, block_at}
 use Rattle.events.specs.declared.Event.{Event}
-use Rattle.events.specs.declared.EventRead.{EventRead}
 use Rattle.events.specs.declared.Block.{Block}
-use Rattle.events.specs.declared.BlockRead.{BlockRead}
 use Rattle.events.specs.Sizes.{EventSmall}
 use Rattle.seconds.specs.Seconds.{among}
 use Rattle.nesting.specs.Files.{tree_in}
@@ -69,12 +68,12 @@ module _ {c : Context} {s index rows column : List ℕ} (g : Given c s index row
   pub trial_event : {e : Event} (a b : ℕ) → n ≡ 1 → e ≡ event_at column k → (a < b) × (b ≤ last_second) → TrialOf (tested a b) (gone_from c s rows k) (Trial.Instances e a b)
   unfolding trial_holds component_in event_in whole_of gone_from
   trial_event {e} a b o x w =
-      let q : event_of c (component_by s rows k) ≡ EventRead.Of e = event_of_holds g h (sym z ∙ o) ∙ ap EventRead.Of (sym x) in
+      let q : event_of c (component_by s rows k) ≡ Some e = event_of_holds g h (sym z ∙ o) ∙ ap Some (sym x) in
       record {
         small = (event_of_small c (component_by s rows k) e q, w.0, w.1);
         decides =
             by_kind h.row
-            (λ u y. sym (ap (λ (v : Scope). component_in whole v (component_by s rows k) a b) y ∙ ap (λ (v : EventRead). event_in v (gone_from c s rows k) a b) q))
+            (λ u y. sym (ap (λ (v : Scope). component_in whole v (component_by s rows k) a b) y ∙ ap (λ (v : Option Event). event_in v (gone_from c s rows k) a b) q))
             (λ u y. absurd (omega arith))
             (λ u y. absurd (omega arith));
       }
@@ -89,7 +88,7 @@ module _ {c : Context} {s index rows column : List ℕ} (g : Given c s index row
       (λ u y.
       q
       ∙ ap (λ (v : Block). block_in v (block_periods c (properties_in (component_by s rows k).items)) a b) e
-      ∙ sym (ap (λ (v : Scope). component_in whole v (component_by s rows k) a b) y ∙ ap (λ (v : BlockRead). block_range_in c (component_by s rows k) v a b) (block_of_holds g h u)))
+      ∙ sym (ap (λ (v : Scope). component_in whole v (component_by s rows k) a b) y ∙ ap (λ (v : Option Block). block_range_in c (component_by s rows k) v a b) (block_of_holds g h u)))
       (λ u y. absurd (omega arith)))
 
   pub trial_other : (a b : ℕ) → (n ≡ 1 → ⊥) → (n ≡ 2 → ⊥) → TrialOf (tested a b) (gone_from c s rows k) (Trial.Once false)

@@ -1,5 +1,5 @@
 -- The tests of a query, said sentence by sentence (document 01, The query paper). They are what the Bools of Tests decide.
-use Rattle.std.specs.Prelude.{ℕ, suc, ◌<◌, ◌≡◌}
+use Rattle.std.specs.Prelude.{ℕ, suc, ◌<◌, ◌≡◌, Some}
 use mathlib.Core.List.{List, Memᴰ}
 use Rattle.text.specs.TextMatch.{Occurs}
 use Rattle.query.specs.Records.{range_start, range_end, text_of, component_at, property_at, parameter_at}
@@ -15,10 +15,7 @@ use Rattle.property.specs.declared.Scope.{Scope}
 use Rattle.nesting.specs.Components.{Numbered, Items, Component, components_in, properties_in}
 use Rattle.property_tests.specs.PropertyTests.{collation_of}
 use Rattle.events.specs.declared.Event.{Event}
-use Rattle.events.specs.declared.EventRead.{EventRead}
-use Rattle.events.specs.declared.Bound.{Bound}
 use Rattle.events.specs.declared.Block.{Block}
-use Rattle.events.specs.declared.BlockRead.{BlockRead}
 use Rattle.calendar.specs.Meaning.{component_scope, event_of, block_of, block_periods, removed_from}
 use Rattle.filter.specs.Tests.{Whole, whole_of}
 use Rattle.recurrence.specs.TimeRange.{InstanceIn, BetweenIn, Overlaps}
@@ -60,14 +57,14 @@ pub data PropertyPasses (p : List ℕ) (q : Sections) (i : ℕ) (r : PropertyRec
 
 pub data ComponentIn (c : Whole) (k : Component) (a b : ℕ) : Type 0 where
   -- an event: some instance that it supplies itself is in range
-  event_in_holds : (e : Event) → component_scope k ≡ Scope.Event → event_of c.context k ≡ EventRead.Of e → (n : ℕ)
+  event_in_holds : (e : Event) → component_scope k ≡ Scope.Event → event_of c.context k ≡ Some e → (n : ℕ)
       → InstanceIn e (removed_from c.context c.components k) a b n → ComponentIn c k a b
   -- a block with both ends: by them alone
-  block_between_holds : (x : Block) (s t : ℕ) → component_scope k ≡ Scope.FreeBusy → block_of c.context k ≡ BlockRead.Of x → x.start ≡ Bound.At s → x.end ≡ Bound.At t
+  block_between_holds : (x : Block) (s t : ℕ) → component_scope k ≡ Scope.FreeBusy → block_of c.context k ≡ Some x → x.start ≡ Some s → x.end ≡ Some t
       → BetweenIn a b s t → ComponentIn c k a b
   -- any other block: some period is in range
-  block_period : (x : Block) → component_scope k ≡ Scope.FreeBusy → block_of c.context k ≡ BlockRead.Of x
-      → ((s t : ℕ) → x.start ≡ Bound.At s → x.end ≡ Bound.At t → ⊥) → (p : BusyPeriod) → Memᴰ p (block_periods c.context (properties_in k.items))
+  block_period : (x : Block) → component_scope k ≡ Scope.FreeBusy → block_of c.context k ≡ Some x
+      → ((s t : ℕ) → x.start ≡ Some s → x.end ≡ Some t → ⊥) → (p : BusyPeriod) → Memᴰ p (block_periods c.context (properties_in k.items))
       → Overlaps a b p.period.start p.period.end → ComponentIn c k a b
 
 -- against a record's range, 0 for none

@@ -1,6 +1,8 @@
 -- The tests of a query on a calendar (document 01, The query paper): component tests over the component tree, each with its time range.
 -- A component test and the tests of its children go down the records: those of higher numbers are left.
-use Rattle.std.specs.Prelude.{ℕ, zero, suc, ◌-◌, Bool, true, false, cond, not, ◌&&◌, ◌||◌, List, [], ◌∷◌, eqb}
+use Rattle.std.specs.Prelude.{ℕ, zero, suc, ◌-◌, Bool, true, false, cond, not, ◌&&◌, ◌||◌, List, [], ◌∷◌, eqb, None, Option, Some}
+use Rattle.events.specs.declared.Event.{Event}
+use Rattle.events.specs.declared.Block.{Block}
 use Rattle.ascii.specs.Names.{same_name}
 use Rattle.query.specs.Records.{range_start, range_end, text_of, component_at}
 use Rattle.query.specs.Counting.{some_below, implies}
@@ -10,8 +12,6 @@ use Rattle.values.specs.declared.times.Context.{Context}
 use Rattle.property.specs.declared.Scope.{Scope}
 use Rattle.nesting.specs.Components.{Items, Component, items_below, components_in, properties_in}
 use Rattle.property_tests.specs.PropertyTests.{properties_hold}
-use Rattle.events.specs.declared.EventRead.{EventRead}
-use Rattle.events.specs.declared.BlockRead.{BlockRead}
 use Rattle.calendar.specs.Meaning.{component_scope, event_of, block_of, block_periods, removed_from}
 use Rattle.recurrence.specs.TimeRange.{instance_in, block_in}
 use Rattle.recurrence.specs.Instances.{instances_at_most}
@@ -25,14 +25,14 @@ unfoldable pub whole_of : Context → Items → Whole
 whole_of c tree = record { context = c; components = components_in (items_below tree) }
 
 -- some instance of the event is in the range, where these starts are taken away
-unfoldable pub event_in : EventRead → List ℕ → ℕ → ℕ → Bool
-event_in (EventRead.Of e) gone a b = some_below instances_at_most (instance_in e gone a b)
-event_in EventRead.Broken gone a b = false
+unfoldable pub event_in : Option Event → List ℕ → ℕ → ℕ → Bool
+event_in (Some e) gone a b = some_below instances_at_most (instance_in e gone a b)
+event_in None gone a b = false
 
 -- the block is, by its ends or by its periods
-unfoldable pub block_range_in : Context → Component → BlockRead → ℕ → ℕ → Bool
-block_range_in c k (BlockRead.Of b) from to = block_in b (block_periods c (properties_in k.items)) from to
-block_range_in c k BlockRead.Broken from to = false
+unfoldable pub block_range_in : Context → Component → Option Block → ℕ → ℕ → Bool
+block_range_in c k (Some b) from to = block_in b (block_periods c (properties_in k.items)) from to
+block_range_in c k None from to = false
 
 -- is a component in a time range?
 unfoldable pub component_in : Whole → Scope → Component → ℕ → ℕ → Bool

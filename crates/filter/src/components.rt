@@ -1,12 +1,13 @@
 // The component tests of a query, and the query on a whole file, by the rows of its components.
 // The search is left at the first component and instance that pass; a record's children have higher numbers.
+// `records_good`, Given, Here and the bound of a record's number stay clauses, and query, calendar and columns arguments of their own:
+// docs/TRACE.md names `component_holds`, `children_hold` and `query_holds`, which take them so.
 ghost use Rattle.std.specs.Prelude.{◌≡◌, true, ◌+◌, ◌-◌, ◌*◌, ◌≤◌, ◌<◌, get_or};
 ghost use Rattle.ascii.specs.Names.{same_name};
 ghost use Rattle.values.specs.Times.{ContextGood};
 ghost use Rattle.nesting.specs.Files.{tree_in};
 ghost use Rattle.index.specs.Index.{Indexed};
 ghost use Rattle.structure.specs.Rows.{ComponentsAt, RowOf, FileRows, component_by, components_by};
-ghost use Rattle.query.specs.Fits.{Fits};
 ghost use Rattle.query.specs.Records.{text_of, component_at};
 ghost use Rattle.query_check.specs.WellFormed.{records_good};
 ghost use Rattle.contents.specs.EntryRows.{EntryRows};
@@ -18,91 +19,81 @@ ghost use Rattle.filter.specs.Trials.{component_fits, TrialOf, gone_from, Alone}
 use crate::trials;
 use crate::trials::Trial;
 use line::read;
-use query::{Sections, fields};
-use series::columns;
-use structure::rows;
+use query::Query;
+use series::columns::RemovedColumn;
+use structure::calendar::Calendar;
 use values::times::Context;
 
 // Has the component of row k the name? It stands on the BEGIN line.
-fn is_called(name: &[u8], s: &[u8], index: &[u32], rows: &[u32], k: usize) -> bool
-    requires indexed { Indexed s.now index.now }
-    requires row_of { RowOf s.now rows.now k }
-    ensures { result ≡ same_name (component_by s.now rows.now k).begin.line.value name.now }
+fn is_called(name: &[u8], cal: &Calendar, k: usize) -> bool
+    requires indexed { Indexed cal.now.text.now cal.now.index.now }
+    requires row_of { RowOf cal.now.text.now cal.now.rows.now k }
+    ensures { result ≡ same_name (component_by cal.now.text.now cal.now.rows.now k).begin.line.value name.now }
 {
-    let i = rows::first_line(rows, k) - 1;
-    ascii::same_name(read::value(index::line_at(s, index, i)), name)
+    let i = cal.first_line(k) - 1;
+    ascii::same_name(read::value(cal.line_at(i)), name)
 }
 
 // Has some component the name, of those side by side from row `first` up to row `end`?
-fn some_component_named(
-    name: &[u8],
-    s: &[u8],
-    index: &[u32],
-    rows: &[u32],
-    first: usize,
-    end: usize,
-) -> bool
-    requires indexed { Indexed s.now index.now }
-    requires components_at { ComponentsAt s.now rows.now first end }
-    ensures { result ≡ some_component_named name.now (components_by s.now rows.now first end) }
+fn some_component_named(name: &[u8], cal: &Calendar, first: usize, end: usize) -> bool
+    requires indexed { Indexed cal.now.text.now cal.now.index.now }
+    requires components_at { ComponentsAt cal.now.text.now cal.now.rows.now first end }
+    ensures { result ≡ some_component_named name.now (components_by cal.now.text.now cal.now.rows.now first end) }
 {
     let mut k = first;
+    // A `while`: a component is passed by its rows, as the row read says.
     while k < end {
-        if is_called(name, s, index, rows, k) {
+        if is_called(name, cal, k) {
             return true;
         }
-        k = rows::next_row(rows, k);
+        k = cal.next_row(k);
     }
     false
 }
 
 // Component record j among the components side by side from row `first` up to row `end`.
+// The record keeps its flag as a number: whether it may stand there is what `query_check` asks.
 #[cycle(children_hold_component_holds_trial_here)]
 fn component_holds(
-    query: &[u8],
-    q: Sections,
+    q: &Query,
     j: usize,
-    s: &[u8],
-    index: &[u32],
-    rows: &[u32],
+    cal: &Calendar,
     column: &[u64],
-    places: &[u32],
-    removed: &[u32],
+    removed: &RemovedColumn,
     first: usize,
     end: usize,
     c: Context,
 ) -> bool
-    requires fits { Fits query.now q }
-    requires q_value { records_good query.now q ≡ true }
-    requires j_lt_count { j < q.components.count }
+    requires q_value { records_good q.now.bytes.now q.now.sections ≡ true }
+    requires j_lt_count { j < q.now.sections.components.count }
     requires context_good { ContextGood c }
-    requires given { Given c s.now index.now rows.now column.now }
-    requires removed_rows { RemovedRows c s.now rows.now places.now removed.now (get_or rows.now 2 0) }
-    requires among { Among s.now rows.now first end }
-    ensures { result ≡ component_test (whole_of c (tree_in s.now)) query.now q j (components_by s.now rows.now first end) }
+    requires given { Given c cal.now.text.now cal.now.index.now cal.now.rows.now column.now }
+    requires removed_rows { RemovedRows c cal.now.text.now cal.now.rows.now removed.now.places.now removed.now.seconds.now (get_or cal.now.rows.now 2 0) }
+    requires among { Among cal.now.text.now cal.now.rows.now first end }
+    ensures { result ≡ component_test (whole_of c (tree_in cal.now.text.now)) q.now.bytes.now q.now.sections j (components_by cal.now.text.now cal.now.rows.now first end) }
 {
-    let r = fields::component_at(query, q, j);
-    let name = fields::text_of(query, q, r.name);
+    let r = q.component_at(j);
+    let name = q.text_of(r.name);
     if r.flag == 1 {
-        return !some_component_named(name, s, index, rows, first, end);
+        return !some_component_named(name, cal, first, end);
     }
     let mut row = first;
+    // A `loop` with a label, left from inside: document 01 names this form for this search.
     'search: loop {
         if end <= row {
             return false;
         }
-        let t = trial_here(
-            query, q, j, name, s, index, rows, column, places, removed, row, c,
-        );
-        let gone = columns::gone_at(places, removed, row);
+        let t = trial_here(q, j, name, cal, column, removed, row, c);
+        let gone = removed.gone_at(row);
         let mut k = trials::first_tried(t);
+        // A `while`: whether there is an instance k is asked of the trial each time.
         while trials::goes_on(t, k) {
             if trials::passes(t, gone, k) {
                 break 'search;
             }
             k += 1;
         }
-        row = rows::next_row(rows, row);
+        row = cal.next_row(row);
     }
     true // left from inside
 }
@@ -110,46 +101,28 @@ fn component_holds(
 // What is tried of the component of row k: the range of component record j, where all else holds.
 #[cycle(children_hold_component_holds_trial_here)]
 fn trial_here(
-    query: &[u8],
-    q: Sections,
+    q: &Query,
     j: usize,
     name: &[u8],
-    s: &[u8],
-    index: &[u32],
-    rows: &[u32],
+    cal: &Calendar,
     column: &[u64],
-    places: &[u32],
-    removed: &[u32],
+    removed: &RemovedColumn,
     k: usize,
     c: Context,
 ) -> Trial
-    requires fits { Fits query.now q }
-    requires q_value { records_good query.now q ≡ true }
-    requires j_lt_count { j < q.components.count }
-    requires name_value { name.now ≡ text_of query.now q (component_at query.now q j).name }
+    requires q_value { records_good q.now.bytes.now q.now.sections ≡ true }
+    requires j_lt_count { j < q.now.sections.components.count }
+    requires name_value { name.now ≡ text_of q.now.bytes.now q.now.sections (component_at q.now.bytes.now q.now.sections j).name }
     requires context_good { ContextGood c }
-    requires given { Given c s.now index.now rows.now column.now }
-    requires removed_rows { RemovedRows c s.now rows.now places.now removed.now (get_or rows.now 2 0) }
-    requires here { Here s.now rows.now k }
-    ensures { TrialOf (component_fits (whole_of c (tree_in s.now)) query.now q j (component_by s.now rows.now k)) (gone_from c s.now rows.now k) result }
+    requires given { Given c cal.now.text.now cal.now.index.now cal.now.rows.now column.now }
+    requires removed_rows { RemovedRows c cal.now.text.now cal.now.rows.now removed.now.places.now removed.now.seconds.now (get_or cal.now.rows.now 2 0) }
+    requires here { Here cal.now.text.now cal.now.rows.now k }
+    ensures { TrialOf (component_fits (whole_of c (tree_in cal.now.text.now)) q.now.bytes.now q.now.sections j (component_by cal.now.text.now cal.now.rows.now k)) (gone_from c cal.now.text.now cal.now.rows.now k) result }
 {
-    if alone_holds(query, q, j, name, s, index, rows, column, k) {
-        if children_hold(
-            query,
-            q,
-            j + 1,
-            j,
-            s,
-            index,
-            rows,
-            column,
-            places,
-            removed,
-            k,
-            c,
-        ) {
-            let r = fields::component_at(query, q, j);
-            return trials::trial_of(query, q, r.range, s, index, rows, column, k, c);
+    if alone_holds(q, j, name, cal, column, k) {
+        if children_hold(q, j + 1, j, cal, column, removed, k, c) {
+            let r = q.component_at(j);
+            return trials::trial_of(q, r.range, cal, column, k, c);
         }
     }
     Trial::Once(false)
@@ -158,40 +131,33 @@ fn trial_here(
 // Of the component records from number `from` on, do all those of this parent hold among the components directly in that of row k?
 #[cycle(children_hold_component_holds_trial_here)]
 fn children_hold(
-    query: &[u8],
-    q: Sections,
+    q: &Query,
     from: usize,
     parent: usize,
-    s: &[u8],
-    index: &[u32],
-    rows: &[u32],
+    cal: &Calendar,
     column: &[u64],
-    places: &[u32],
-    removed: &[u32],
+    removed: &RemovedColumn,
     k: usize,
     c: Context,
 ) -> bool
-    requires fits { Fits query.now q }
-    requires q_value { records_good query.now q ≡ true }
-    requires from_le_count { from ≤ q.components.count }
+    requires q_value { records_good q.now.bytes.now q.now.sections ≡ true }
+    requires from_le_count { from ≤ q.now.sections.components.count }
     requires context_good { ContextGood c }
-    requires given { Given c s.now index.now rows.now column.now }
-    requires removed_rows { RemovedRows c s.now rows.now places.now removed.now (get_or rows.now 2 0) }
-    requires here { Here s.now rows.now k }
-    ensures { result ≡ children_hold (whole_of c (tree_in s.now)) query.now q (q.components.count - from) parent (components_by s.now rows.now (k + 1) (get_or rows.now (4 * k + 2) 0)) }
+    requires given { Given c cal.now.text.now cal.now.index.now cal.now.rows.now column.now }
+    requires removed_rows { RemovedRows c cal.now.text.now cal.now.rows.now removed.now.places.now removed.now.seconds.now (get_or cal.now.rows.now 2 0) }
+    requires here { Here cal.now.text.now cal.now.rows.now k }
+    ensures { result ≡ children_hold (whole_of c (tree_in cal.now.text.now)) q.now.bytes.now q.now.sections (q.now.sections.components.count - from) parent (components_by cal.now.text.now cal.now.rows.now (k + 1) (get_or cal.now.rows.now (4 * k + 2) 0)) }
 {
-    let components = q.components;
+    let components = q.sections.components;
     let n = components.count;
     let inside = k + 1;
-    let end = rows::next_row(rows, k);
+    let end = cal.next_row(k);
     let mut i = from;
     while i < n {
         let next = i + 1;
-        let r = fields::component_at(query, q, i);
+        let r = q.component_at(i);
         if r.parent == parent {
-            if !component_holds(
-                query, q, i, s, index, rows, column, places, removed, inside, end, c,
-            ) {
+            if !component_holds(q, i, cal, column, removed, inside, end, c) {
                 return false;
             }
         }
@@ -201,58 +167,40 @@ fn children_hold(
 }
 
 // Has the component of row k the name, can its row be in the range of component record j, and does it pass the property tests?
-fn alone_holds(
-    query: &[u8],
-    q: Sections,
-    j: usize,
-    name: &[u8],
-    s: &[u8],
-    index: &[u32],
-    rows: &[u32],
-    column: &[u64],
-    k: usize,
-) -> bool
-    requires fits { Fits query.now q }
-    requires q_value { records_good query.now q ≡ true }
-    requires j_lt_count { j < q.components.count }
-    requires name_value { name.now ≡ text_of query.now q (component_at query.now q j).name }
-    requires indexed { Indexed s.now index.now }
-    requires row_of { RowOf s.now rows.now k }
-    requires row_small { RowSmall rows.now column.now k }
-    ensures { Alone query.now q j s.now rows.now column.now k result }
+fn alone_holds(q: &Query, j: usize, name: &[u8], cal: &Calendar, column: &[u64], k: usize) -> bool
+    requires q_value { records_good q.now.bytes.now q.now.sections ≡ true }
+    requires j_lt_count { j < q.now.sections.components.count }
+    requires name_value { name.now ≡ text_of q.now.bytes.now q.now.sections (component_at q.now.bytes.now q.now.sections j).name }
+    requires indexed { Indexed cal.now.text.now cal.now.index.now }
+    requires row_of { RowOf cal.now.text.now cal.now.rows.now k }
+    requires row_small { RowSmall cal.now.rows.now column.now k }
+    ensures { Alone q.now.bytes.now q.now.sections j cal.now.text.now cal.now.rows.now column.now k result }
 {
-    if !is_called(name, s, index, rows, k) {
+    if !is_called(name, cal, k) {
         return false;
     }
-    let r = fields::component_at(query, q, j);
-    if trials::ruled_out(query, q, r.range, rows, column, k) {
+    let r = q.component_at(j);
+    if trials::ruled_out(q, r.range, cal, column, k) {
         return false;
     }
-    property_tests::properties_hold(query, q, j, s, index, rows, k)
+    property_tests::properties_hold(q, j, cal, k)
 }
 
 // The query on a file: component record 0 among what stands outside every component.
 pub fn query_holds(
-    query: &[u8],
-    q: Sections,
-    s: &[u8],
-    index: &[u32],
-    rows: &[u32],
+    q: &Query,
+    cal: &Calendar,
     column: &[u64],
-    places: &[u32],
-    removed: &[u32],
+    removed: &RemovedColumn,
     c: Context,
 ) -> bool
-    requires fits { Fits query.now q }
-    requires q_value { records_good query.now q ≡ true }
+    requires q_value { records_good q.now.bytes.now q.now.sections ≡ true }
     requires context_good { ContextGood c }
-    requires file_rows { FileRows s.now index.now rows.now }
-    requires entry_rows { EntryRows c s.now rows.now column.now (get_or rows.now 2 0) }
-    requires removed_rows { RemovedRows c s.now rows.now places.now removed.now (get_or rows.now 2 0) }
-    ensures { result ≡ query_holds c query.now q (tree_in s.now) }
+    requires file_rows { FileRows cal.now.text.now cal.now.index.now cal.now.rows.now }
+    requires entry_rows { EntryRows c cal.now.text.now cal.now.rows.now column.now (get_or cal.now.rows.now 2 0) }
+    requires removed_rows { RemovedRows c cal.now.text.now cal.now.rows.now removed.now.places.now removed.now.seconds.now (get_or cal.now.rows.now 2 0) }
+    ensures { result ≡ query_holds c q.now.bytes.now q.now.sections (tree_in cal.now.text.now) }
 {
-    let end = rows::next_row(rows, 0);
-    component_holds(
-        query, q, 0, s, index, rows, column, places, removed, 0, end, c,
-    )
+    let end = cal.next_row(0);
+    component_holds(q, 0, cal, column, removed, 0, end, c)
 }

@@ -1,5 +1,7 @@
 // Is a block in a time range, from a up to, but not including, b?
 // A block with both ends is tested by them alone, any other by its periods.
+// The range is two numbers, the context stands beside it, and a line goes with its name's length:
+// docs/TRACE.md names `bounds_in`, `lines_in` and `property::gives_periods`, which take them so.
 ghost use Rattle.std.specs.Prelude.{◌≡◌, true, length};
 ghost use Rattle.line.specs.Reading.{name_of, line_of};
 ghost use Rattle.nesting.specs.Components.{properties_in};
@@ -12,12 +14,11 @@ ghost use Rattle.recurrence.specs.TimeRange.{periods_overlap, block_in};
 ghost use Rattle.filter.specs.Ranges.{line_in, lines_in, EndsOutside};
 
 use calendar::period_list;
-use calendar::period_list::PeriodStep;
-use events::{Block, Bound};
+use events::Block;
 use line::read;
 use recurrence::time_range;
+use structure::calendar::Calendar;
 use structure::items::Item;
-use structure::{items, rows};
 use values::times::Context;
 
 // Does some period of a value overlap the range?
@@ -25,17 +26,13 @@ fn value_in(v: &[u8], a: u64, b: u64) -> bool
     ensures { result ≡ periods_overlap a b (periods_from v.now 0) }
 {
     let mut at: usize = 0;
-    loop {
-        match period_list::next_period(v, at) {
-            PeriodStep::Of(p, next) => {
-                if time_range::overlaps(a, b, p.start, p.end) {
-                    return true;
-                }
-                at = next;
-            }
-            PeriodStep::Done => return false,
+    while let Some((p, next)) = period_list::next_period(v, at) {
+        if time_range::overlaps(a, b, p.start, p.end) {
+            return true;
         }
+        at = next;
     }
+    false
 }
 
 // Does some period of a line, whose name is n bytes long, overlap the range?
@@ -51,21 +48,22 @@ fn line_in(line: &[u8], n: usize, c: Context, a: u64, b: u64) -> bool
 }
 
 // Does some period of the lines directly in the component of row k overlap the range?
-fn lines_in(s: &[u8], index: &[u32], rows: &[u32], k: usize, c: Context, a: u64, b: u64) -> bool
+fn lines_in(cal: &Calendar, k: usize, c: Context, a: u64, b: u64) -> bool
     requires context_good { ContextGood c }
-    requires indexed { Indexed s.now index.now }
-    requires row_of { RowOf s.now rows.now k }
-    ensures { result ≡ lines_in c a b (properties_in (component_by s.now rows.now k).items) }
+    requires indexed { Indexed cal.now.text.now cal.now.index.now }
+    requires row_of { RowOf cal.now.text.now cal.now.rows.now k }
+    ensures { result ≡ lines_in c a b (properties_in (component_by cal.now.text.now cal.now.rows.now k).items) }
 {
-    let mut i = rows::first_line(rows, k);
+    let mut i = cal.first_line(k);
     let mut row = k + 1;
-    let stop = rows::line_behind(rows, k) - 1;
-    let end = rows::next_row(rows, k);
+    let stop = cal.line_behind(k) - 1;
+    let end = cal.next_row(k);
+    // A `loop`: a line is passed by one, an inner component by its rows.
     loop {
-        match items::item_at(rows, i, row, stop, end) {
+        match cal.item_at(i, row, stop, end) {
             Item::Property => {
-                let n = index::name_length(index, i);
-                if line_in(index::line_at(s, index, i), n, c, a, b) {
+                let n = cal.name_length(i);
+                if line_in(cal.line_at(i), n, c, a, b) {
                     return true;
                 }
                 i += 1;
@@ -80,29 +78,20 @@ fn lines_in(s: &[u8], index: &[u32], rows: &[u32], k: usize, c: Context, a: u64,
 }
 
 // Is the block of row k, whose ends these are, in the range?
-pub fn bounds_in(
-    x: Block,
-    s: &[u8],
-    index: &[u32],
-    rows: &[u32],
-    k: usize,
-    c: Context,
-    a: u64,
-    b: u64,
-) -> bool
+pub fn bounds_in(x: Block, cal: &Calendar, k: usize, c: Context, a: u64, b: u64) -> bool
     requires context_good { ContextGood c }
-    requires indexed { Indexed s.now index.now }
-    requires row_of { RowOf s.now rows.now k }
-    ensures { result ≡ block_in x (block_periods c (properties_in (component_by s.now rows.now k).items)) a b }
+    requires indexed { Indexed cal.now.text.now cal.now.index.now }
+    requires row_of { RowOf cal.now.text.now cal.now.rows.now k }
+    ensures { result ≡ block_in x (block_periods c (properties_in (component_by cal.now.text.now cal.now.rows.now k).items)) a b }
 {
     let start = x.start;
     let end = x.end;
     match start {
-        Bound::At(y) => match end {
-            Bound::At(z) => time_range::between_in(a, b, y, z),
-            Bound::None => lines_in(s, index, rows, k, c, a, b),
+        Some(y) => match end {
+            Some(z) => time_range::between_in(a, b, y, z),
+            None => lines_in(cal, k, c, a, b),
         },
-        Bound::None => lines_in(s, index, rows, k, c, a, b),
+        None => lines_in(cal, k, c, a, b),
     }
 }
 
@@ -113,10 +102,10 @@ pub fn ends_outside(x: Block, a: u64, b: u64) -> bool
     let start = x.start;
     let end = x.end;
     match start {
-        Bound::At(y) => match end {
-            Bound::At(z) => !time_range::between_in(a, b, y, z),
-            Bound::None => false,
+        Some(y) => match end {
+            Some(z) => !time_range::between_in(a, b, y, z),
+            None => false,
         },
-        Bound::None => false,
+        None => false,
     }
 }

@@ -1,10 +1,12 @@
 // What is tried of a component against a record's range: the instances of an event one by one, anything else once.
 // So one search serves events, blocks and records without a range.
+// A component's kind is a number, as its row in lent memory has it (no heap): 1 is an event, 2 a block (`row_outside`, `trial_in`).
+// A range's number is 0 for none, as the record has it; query, calendar and column are arguments of their own, and RowSmall, Given and Here stay clauses:
+// docs/TRACE.md names `ruled_out` and `trial_of`, which take them so.
 ghost use Rattle.std.specs.Prelude.{◌≡◌, true, List, ℕ, ◌≤◌, ◌<◌};
 ghost use Rattle.time.specs.Limits.{last_second};
 ghost use Rattle.values.specs.Times.{ContextGood};
 ghost use Rattle.structure.specs.Rows.{component_by};
-ghost use Rattle.query.specs.Fits.{Fits};
 ghost use Rattle.query_check.specs.WellFormed.{records_good};
 ghost use Rattle.calendar.specs.Meaning.{component_scope};
 ghost use Rattle.seconds.specs.Seconds.{Ordered};
@@ -15,12 +17,13 @@ ghost use Rattle.filter.specs.Trials.{trial_passes, Tried, MoreTrials, SmallTria
 
 use crate::ranges;
 use events::Event;
-use query::{Sections, fields};
+use query::Query;
 use recurrence::time_range;
-use structure::rows;
+use structure::calendar::Calendar;
 use values::times::Context;
 
 // The trial of one component.
+// No invariant: docs/TRACE.md names `first_tried`, `goes_on` and `passes`, whose argument may not change, so SmallTrial stays a clause.
 #[derive(Clone, Copy)]
 pub enum Trial {
     // An event's instances, against the range from the first of two seconds up to, but not including, the other.
@@ -30,12 +33,12 @@ pub enum Trial {
 }
 
 // Does one look at row k tell that the component is not in the range? Of a block without both ends it does not.
-fn row_outside(rows: &[u32], column: &[u64], k: usize, a: u64, b: u64) -> bool
-    requires row_small { RowSmall rows.now column.now k }
+fn row_outside(cal: &Calendar, column: &[u64], k: usize, a: u64, b: u64) -> bool
+    requires row_small { RowSmall cal.now.rows.now column.now k }
     requires a_lt_b { (a < b) × (b ≤ last_second) }
-    ensures { result ≡ true → RowOutside rows.now column.now k a b }
+    ensures { result ≡ true → RowOutside cal.now.rows.now column.now k a b }
 {
-    let kind = rows::kind_at(rows, k);
+    let kind = cal.kind_at(k);
     if kind == 1 {
         let e = events::rows::event_at(column, k);
         return !time_range::starts_before(e, b, time_range::first_candidate(e, a));
@@ -47,84 +50,57 @@ fn row_outside(rows: &[u32], column: &[u64], k: usize, a: u64, b: u64) -> bool
 }
 
 // The same against a record's range, 0 for none: without one nothing is ruled out.
-pub fn ruled_out(
-    query: &[u8],
-    q: Sections,
-    r: usize,
-    rows: &[u32],
-    column: &[u64],
-    k: usize,
-) -> bool
-    requires fits { Fits query.now q }
-    requires q_value { records_good query.now q ≡ true }
-    requires r_le_count { r ≤ q.ranges.count }
-    requires row_small { RowSmall rows.now column.now k }
-    ensures { result ≡ true → RuledOut query.now q r rows.now column.now k }
+pub fn ruled_out(q: &Query, r: usize, cal: &Calendar, column: &[u64], k: usize) -> bool
+    requires q_value { records_good q.now.bytes.now q.now.sections ≡ true }
+    requires r_le_count { r ≤ q.now.sections.ranges.count }
+    requires row_small { RowSmall cal.now.rows.now column.now k }
+    ensures { result ≡ true → RuledOut q.now.bytes.now q.now.sections r cal.now.rows.now column.now k }
 {
     if r == 0 {
         return false;
     }
     let i = r - 1;
-    let a = fields::range_start(query, q, i);
-    let b = fields::range_end(query, q, i);
-    row_outside(rows, column, k, a, b)
+    let a = q.range_start(i);
+    let b = q.range_end(i);
+    row_outside(cal, column, k, a, b)
 }
 
 // The trial of the component of row k against a range.
-fn trial_in(
-    s: &[u8],
-    index: &[u32],
-    rows: &[u32],
-    column: &[u64],
-    k: usize,
-    c: Context,
-    a: u64,
-    b: u64,
-) -> Trial
+fn trial_in(cal: &Calendar, column: &[u64], k: usize, c: Context, a: u64, b: u64) -> Trial
     requires context_good { ContextGood c }
-    requires given { Given c s.now index.now rows.now column.now }
-    requires here { Here s.now rows.now k }
+    requires given { Given c cal.now.text.now cal.now.index.now cal.now.rows.now column.now }
+    requires here { Here cal.now.text.now cal.now.rows.now k }
     requires a_lt_b { (a < b) × (b ≤ last_second) }
-    ensures { TrialOf (component_in (whole_of c (tree_in s.now)) (component_scope (component_by s.now rows.now k)) (component_by s.now rows.now k) a b) (gone_from c s.now rows.now k) result }
+    ensures { TrialOf (component_in (whole_of c (tree_in cal.now.text.now)) (component_scope (component_by cal.now.text.now cal.now.rows.now k)) (component_by cal.now.text.now cal.now.rows.now k) a b) (gone_from c cal.now.text.now cal.now.rows.now k) result }
 {
-    let kind = rows::kind_at(rows, k);
+    let kind = cal.kind_at(k);
     if kind == 1 {
         return Trial::Instances(events::rows::event_at(column, k), a, b);
     }
     if kind == 2 {
         let x = events::rows::block_at(column, k);
-        return Trial::Once(ranges::bounds_in(x, s, index, rows, k, c, a, b));
+        return Trial::Once(ranges::bounds_in(x, cal, k, c, a, b));
     }
     Trial::Once(false)
 }
 
 // The same against a record's range, 0 for none.
-pub fn trial_of(
-    query: &[u8],
-    q: Sections,
-    r: usize,
-    s: &[u8],
-    index: &[u32],
-    rows: &[u32],
-    column: &[u64],
-    k: usize,
-    c: Context,
-) -> Trial
-    requires fits { Fits query.now q }
-    requires q_value { records_good query.now q ≡ true }
-    requires r_le_count { r ≤ q.ranges.count }
+// Not one with `ruled_out`: an Option of both seconds would be made in as many lines as they share, and each would take it apart.
+pub fn trial_of(q: &Query, r: usize, cal: &Calendar, column: &[u64], k: usize, c: Context) -> Trial
+    requires q_value { records_good q.now.bytes.now q.now.sections ≡ true }
+    requires r_le_count { r ≤ q.now.sections.ranges.count }
     requires context_good { ContextGood c }
-    requires given { Given c s.now index.now rows.now column.now }
-    requires here { Here s.now rows.now k }
-    ensures { TrialOf (range_holds (whole_of c (tree_in s.now)) query.now q r (component_by s.now rows.now k)) (gone_from c s.now rows.now k) result }
+    requires given { Given c cal.now.text.now cal.now.index.now cal.now.rows.now column.now }
+    requires here { Here cal.now.text.now cal.now.rows.now k }
+    ensures { TrialOf (range_holds (whole_of c (tree_in cal.now.text.now)) q.now.bytes.now q.now.sections r (component_by cal.now.text.now cal.now.rows.now k)) (gone_from c cal.now.text.now cal.now.rows.now k) result }
 {
     if r == 0 {
         return Trial::Once(true);
     }
     let i = r - 1;
-    let a = fields::range_start(query, q, i);
-    let b = fields::range_end(query, q, i);
-    trial_in(s, index, rows, column, k, c, a, b)
+    let a = q.range_start(i);
+    let b = q.range_end(i);
+    trial_in(cal, column, k, c, a, b)
 }
 
 // The first instance to try: none before it passes.

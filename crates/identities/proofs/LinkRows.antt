@@ -9,46 +9,30 @@ use native.Mathlib.Nat.{add-zero, zero-add}
 use lib.Dec.{eqb, ltb}
 use lib.ListN.{get_or}
 use borrow.Author.Tests.{ltb-true, ltb-false}
-use Rattle.ascii.proofs.Rows.{Putting, putting_all}
 use Rattle.time.specs.declared.date_time.Kind.{Kind}
 use Rattle.values.specs.declared.time_lists.Kinds.{Kinds}
-use Rattle.identities.specs.LinkRows.{UidSmall, RecurrenceSmall}
 use Rattle.identities.specs.LinkRows.{kind_tag, kinds_tag, uid_numbers, recurrence_numbers, kind_of, kinds_of, uid_of, recurrence_of}
 use Rattle.identities.specs.LinkRows.{link_row, link_at, LinkPut}
-use Rattle.identities.specs.declared.UidGiven.{UidGiven}
+use Rattle.values.specs.declared.given.Given.{Given}
 use Rattle.identities.specs.declared.RecurrenceId.{RecurrenceId}
-use Rattle.identities.specs.declared.RecurrenceGiven.{RecurrenceGiven}
 use Rattle.identities.specs.declared.rows.Link.{Link}
-use Rattle.identities.specs.declared.rows.TaggedNumber.{TaggedNumber}
-
--- ---- what a row can hold
-
-pub line_small : {x : UidGiven} {n : ℕ} → x ≡ UidGiven.One n → UidSmall x → n < 4294967296
-line_small q h = subst (λ (x : UidGiven). UidSmall x) q h
-
-pub second_small : {x : RecurrenceGiven} {t : RecurrenceId} → x ≡ RecurrenceGiven.One t → RecurrenceSmall x → t.second < 4294967296
-second_small q h = subst (λ (x : RecurrenceGiven). RecurrenceSmall x) q h
 
 -- ---- writing a row
-
--- the whole row stands at its place
-pub putting_end : {old : List ℕ} {k : ℕ} {row new : List ℕ} {p : ℕ} → Putting old 8 (8 * k) row new p → 8 ≤ p → LinkPut old k row new
-putting_end g h = record { here = putting_all g h; before = g.before; behind = g.behind }
 
 -- a bool cast to a number is 1 or 0
 bit : (b : Bool) → bool_byte b ≡ cond b 1 0
 bit true = refl
 bit false = refl
 
-module _ (l : Link) {by at : TaggedNumber} {tag : ℕ} (a : by ≡ uid_numbers l.uid) (b : at ≡ recurrence_numbers l.recurrence)
+module _ (l : Link) {by at : ℕ × ℕ} {tag : ℕ} (a : by ≡ uid_numbers l.uid) (b : at ≡ recurrence_numbers l.recurrence)
     (c : tag ≡ kinds_tag l.kinds) where
-  link_numbers : by.tag ∷ by.number ∷ at.tag ∷ at.number ∷ tag ∷ l.from ∷ l.to ∷ bool_byte l.broken ∷ [] ≡ link_row l
+  link_numbers : by.0 ∷ by.1 ∷ at.0 ∷ at.1 ∷ tag ∷ l.from ∷ l.to ∷ bool_byte l.broken ∷ [] ≡ link_row l
   unfolding link_row
   link_numbers = rw (a, b, c, bit l.broken) refl
 
   -- what is put is the row of the link
   pub put_as : {old new : List ℕ} {k : ℕ}
-      → LinkPut old k (by.tag ∷ by.number ∷ at.tag ∷ at.number ∷ tag ∷ l.from ∷ l.to ∷ bool_byte l.broken ∷ []) new
+      → LinkPut old k (by.0 ∷ by.1 ∷ at.0 ∷ at.1 ∷ tag ∷ l.from ∷ l.to ∷ bool_byte l.broken ∷ []) new
       → LinkPut old k (link_row l) new
   put_as {old} {new} {k} w = subst (λ (x : List ℕ). LinkPut old k x new) link_numbers w
 
@@ -101,17 +85,17 @@ kinds_back Kinds.None = refl
 kinds_back (Kinds.One k) = rw (kind_none k, kind_several k, kind_back k) refl
 kinds_back Kinds.Several = refl
 
-uid_back : (x : UidGiven) → uid_of (uid_numbers x).tag (uid_numbers x).number ≡ x
+uid_back : (x : Given ℕ) → uid_of (uid_numbers x).0 (uid_numbers x).1 ≡ x
 unfolding uid_of uid_numbers
-uid_back UidGiven.None = refl
-uid_back (UidGiven.One n) = refl
-uid_back UidGiven.Several = refl
+uid_back Given.None = refl
+uid_back (Given.One n) = refl
+uid_back Given.Several = refl
 
-recurrence_back : (x : RecurrenceGiven) → recurrence_of (recurrence_numbers x).tag (recurrence_numbers x).number ≡ x
+recurrence_back : (x : Given RecurrenceId) → recurrence_of (recurrence_numbers x).0 (recurrence_numbers x).1 ≡ x
 unfolding recurrence_of recurrence_numbers
-recurrence_back RecurrenceGiven.None = refl
-recurrence_back (RecurrenceGiven.One t) = rw (kind_none t.kind, kind_several t.kind, kind_back t.kind) refl
-recurrence_back RecurrenceGiven.Several = refl
+recurrence_back Given.None = refl
+recurrence_back (Given.One t) = rw (kind_none t.kind, kind_several t.kind, kind_back t.kind) refl
+recurrence_back Given.Several = refl
 
 bit_back : (b : Bool) → eqb (cond b 1 0) 1 ≡ b
 bit_back true = refl
@@ -126,9 +110,6 @@ link_back l = rw (uid_back l.uid, recurrence_back l.recurrence, kinds_back l.kin
 pub link_put : {old new : List ℕ} {k : ℕ} (l : Link) → LinkPut old k (link_row l) new → link_at new k ≡ l
 link_put {old} {new} {k} l w = link_same new k (link_row l) 0 (λ p h. rw (zero-add p) (w.here p h)) ∙ link_back l
 
-apart : (j k : ℕ) → k ≤ j → (j ≡ k → ⊥) → k < j
-apart j k h d = omega arith
-
 -- row j is as it was
 row_kept : {old row new : List ℕ} {k : ℕ} (j : ℕ) → LinkPut old k row new → (j ≡ k → ⊥) → SameRow new j old j
 row_kept {old} {row} {new} {k} j w d p h = go (ltb j k) refl
@@ -136,7 +117,7 @@ row_kept {old} {row} {new} {k} j w d p h = go (ltb j k) refl
     go : (t : Bool) → ltb j k ≡ t → get_or new (8 * j + p) 0 ≡ get_or old (8 * j + p) 0
     go true q = w.before (8 * j + p) (omega (arith, ltb-true))
     go false q =
-        let z : k < j = apart j k (ltb-false j k q) d in
+        let z : k ≤ j = ltb-false j k q in
         w.behind (8 * j + p) (omega arith)
 
 pub link_kept : {old row new : List ℕ} {k : ℕ} (j : ℕ) → LinkPut old k row new → (j ≡ k → ⊥) → link_at new j ≡ link_at old j

@@ -2,22 +2,21 @@
 use Rattle.std.specs.Prelude.{ℕ, ◌+◌, ◌*◌, ◌≤◌, ◌<◌, ◌≡◌, cond, List, [], ◌∷◌, eqb, get_or}
 use Rattle.time.specs.declared.date_time.Kind.{Kind}
 use Rattle.values.specs.declared.time_lists.Kinds.{Kinds}
-use Rattle.identities.specs.declared.UidGiven.{UidGiven}
-use Rattle.identities.specs.declared.RecurrenceGiven.{RecurrenceGiven}
+use Rattle.values.specs.declared.given.Given.{Given}
+use Rattle.identities.specs.declared.RecurrenceId.{RecurrenceId}
 use Rattle.identities.specs.declared.rows.Link.{Link}
-use Rattle.identities.specs.declared.rows.TaggedNumber.{TaggedNumber}
 
 -- ---- what a row of 32-bit numbers can hold
 
-abbrev pub UidSmall : UidGiven → Type 0
-UidSmall UidGiven.None = Unit {0}
-UidSmall (UidGiven.One n) = n < 4294967296
-UidSmall UidGiven.Several = Unit {0}
+abbrev pub UidSmall : Given ℕ → Type 0
+UidSmall Given.None = Unit {0}
+UidSmall (Given.One n) = n < 4294967296
+UidSmall Given.Several = Unit {0}
 
-abbrev pub RecurrenceSmall : RecurrenceGiven → Type 0
-RecurrenceSmall RecurrenceGiven.None = Unit {0}
-RecurrenceSmall (RecurrenceGiven.One t) = t.second < 4294967296
-RecurrenceSmall RecurrenceGiven.Several = Unit {0}
+abbrev pub RecurrenceSmall : Given RecurrenceId → Type 0
+RecurrenceSmall Given.None = Unit {0}
+RecurrenceSmall (Given.One t) = t.second < 4294967296
+RecurrenceSmall Given.Several = Unit {0}
 
 pub record LinkSmall (l : Link) : Type 0 where
   pub uid_small : UidSmall l.uid
@@ -39,24 +38,24 @@ kinds_tag (Kinds.One k) = kind_tag k
 kinds_tag Kinds.Several = 4
 
 -- whether it is given, and its line
-unfoldable pub uid_numbers : UidGiven → TaggedNumber
-uid_numbers UidGiven.None = record { tag = 0; number = 0 }
-uid_numbers (UidGiven.One n) = record { tag = 1; number = n }
-uid_numbers UidGiven.Several = record { tag = 2; number = 0 }
+unfoldable pub uid_numbers : Given ℕ → ℕ × ℕ
+uid_numbers Given.None = (0, 0)
+uid_numbers (Given.One n) = (1, n)
+uid_numbers Given.Several = (2, 0)
 
 -- 0 where none is given, 1 to 3 the kind of one, 4 where there are several; and the second of one
-unfoldable pub recurrence_numbers : RecurrenceGiven → TaggedNumber
-recurrence_numbers RecurrenceGiven.None = record { tag = 0; number = 0 }
-recurrence_numbers (RecurrenceGiven.One t) = record { tag = kind_tag t.kind; number = t.second }
-recurrence_numbers RecurrenceGiven.Several = record { tag = 4; number = 0 }
+unfoldable pub recurrence_numbers : Given RecurrenceId → ℕ × ℕ
+recurrence_numbers Given.None = (0, 0)
+recurrence_numbers (Given.One t) = (kind_tag t.kind, t.second)
+recurrence_numbers Given.Several = (4, 0)
 
 -- the row of a link
 unfoldable pub link_row : Link → List ℕ
 link_row l =
-    (uid_numbers l.uid).tag
-    ∷ (uid_numbers l.uid).number
-    ∷ (recurrence_numbers l.recurrence).tag
-    ∷ (recurrence_numbers l.recurrence).number
+    (uid_numbers l.uid).0
+    ∷ (uid_numbers l.uid).1
+    ∷ (recurrence_numbers l.recurrence).0
+    ∷ (recurrence_numbers l.recurrence).1
     ∷ kinds_tag l.kinds
     ∷ l.from
     ∷ l.to
@@ -71,13 +70,13 @@ kind_of tag = cond (eqb tag 1) Kind.Utc (cond (eqb tag 2) Kind.Floating Kind.Dat
 unfoldable pub kinds_of : ℕ → Kinds
 kinds_of tag = cond (eqb tag 0) Kinds.None (cond (eqb tag 4) Kinds.Several (Kinds.One (kind_of tag)))
 
-unfoldable pub uid_of : ℕ → ℕ → UidGiven
-uid_of tag number = cond (eqb tag 0) UidGiven.None (cond (eqb tag 1) (UidGiven.One number) UidGiven.Several)
+unfoldable pub uid_of : ℕ → ℕ → Given ℕ
+uid_of tag number = cond (eqb tag 0) Given.None (cond (eqb tag 1) (Given.One number) Given.Several)
 
-unfoldable pub recurrence_of : ℕ → ℕ → RecurrenceGiven
+unfoldable pub recurrence_of : ℕ → ℕ → Given RecurrenceId
 recurrence_of tag number =
-    cond (eqb tag 0) RecurrenceGiven.None
-    (cond (eqb tag 4) RecurrenceGiven.Several (RecurrenceGiven.One (record { kind = kind_of tag; second = number })))
+    cond (eqb tag 0) Given.None
+    (cond (eqb tag 4) Given.Several (Given.One (record { kind = kind_of tag; second = number })))
 
 -- ---- in a column
 

@@ -5,19 +5,12 @@
 pub mod rows;
 
 ghost use Rattle.std.specs.Prelude.{◌≡◌};
-ghost use Rattle.identities.specs.Gathering.{more_uids, more_recurrences, no_identity, with_uid, with_recurrence, with_exceptions};
+ghost use Rattle.identities.specs.Gathering.{no_identity, with_uid, with_recurrence, with_exceptions};
 
 use time::date_time::Kind;
+use values::given::Given;
 use values::time_lists::Kinds;
 use values::times::Time;
-
-#[derive(Clone, Copy)]
-pub enum UidGiven {
-    None,
-    // On the line of this number.
-    One(usize),
-    Several,
-}
 
 // What is kept of a RECURRENCE-ID: its kind, and the second that it names.
 #[derive(Clone, Copy)]
@@ -27,16 +20,10 @@ pub struct RecurrenceId {
 }
 
 #[derive(Clone, Copy)]
-pub enum RecurrenceGiven {
-    None,
-    One(RecurrenceId),
-    Several,
-}
-
-#[derive(Clone, Copy)]
 pub struct IdentityRead {
-    pub uid: UidGiven,
-    pub recurrence: RecurrenceGiven,
+    // The number of its line.
+    pub uid: Given<usize>,
+    pub recurrence: Given<RecurrenceId>,
     // Which kinds the times of its EXDATE lines have.
     pub kinds: Kinds,
     // How many times stand in the column, those of events before it among them.
@@ -44,85 +31,48 @@ pub struct IdentityRead {
 }
 
 // Nothing is read yet, and so many times stand in the column.
+#[tactic(auto, unfolding(crate::specs::Gathering::no_identity))]
 pub fn no_identity(held: usize) -> IdentityRead
     ensures { result ≡ no_identity held }
 {
     IdentityRead {
-        uid: UidGiven::None,
-        recurrence: RecurrenceGiven::None,
+        uid: Given::None,
+        recurrence: Given::None,
         kinds: Kinds::None,
         held,
     }
 }
 
-fn more_uids(uid: UidGiven, line: usize) -> UidGiven
-    ensures { result ≡ more_uids uid line }
-{
-    match uid {
-        UidGiven::None => UidGiven::One(line),
-        UidGiven::One(_) => UidGiven::Several,
-        UidGiven::Several => UidGiven::Several,
-    }
-}
-
-fn more_recurrences(recurrence: RecurrenceGiven, t: Time) -> RecurrenceGiven
-    ensures { result ≡ more_recurrences recurrence t }
-{
-    match recurrence {
-        RecurrenceGiven::None => {
-            let kind = t.kind;
-            let second = t.second;
-            RecurrenceGiven::One(RecurrenceId { kind, second })
-        }
-        RecurrenceGiven::One(_) => RecurrenceGiven::Several,
-        RecurrenceGiven::Several => RecurrenceGiven::Several,
-    }
-}
-
 // A UID more, on the line of this number.
+#[tactic(auto, unfolding(crate::specs::Gathering::with_uid))]
 pub fn with_uid(y: IdentityRead, line: usize) -> IdentityRead
     ensures { result ≡ with_uid y line }
 {
-    let uid = y.uid;
-    let recurrence = y.recurrence;
-    let kinds = y.kinds;
-    let held = y.held;
-    let more = more_uids(uid, line);
     IdentityRead {
-        uid: more,
-        recurrence,
-        kinds,
-        held,
+        uid: y.uid.with(line),
+        ..y
     }
 }
 
 // A RECURRENCE-ID more.
+#[tactic(auto, unfolding(crate::specs::Gathering::with_recurrence))]
 pub fn with_recurrence(y: IdentityRead, t: Time) -> IdentityRead
     ensures { result ≡ with_recurrence y t }
 {
-    let uid = y.uid;
-    let recurrence = y.recurrence;
-    let kinds = y.kinds;
-    let held = y.held;
-    let more = more_recurrences(recurrence, t);
+    let id = RecurrenceId {
+        kind: t.kind,
+        second: t.second,
+    };
     IdentityRead {
-        uid,
-        recurrence: more,
-        kinds,
-        held,
+        recurrence: y.recurrence.with(id),
+        ..y
     }
 }
 
 // The times of an EXDATE line more: so many stand in the column now, and these are the kinds of all.
+#[tactic(auto, unfolding(crate::specs::Gathering::with_exceptions))]
 pub fn with_exceptions(y: IdentityRead, kinds: Kinds, held: usize) -> IdentityRead
     ensures { result ≡ with_exceptions y kinds held }
 {
-    let uid = y.uid;
-    let recurrence = y.recurrence;
-    IdentityRead {
-        uid,
-        recurrence,
-        kinds,
-        held,
-    }
+    IdentityRead { kinds, held, ..y }
 }

@@ -5,30 +5,27 @@ ghost use Rattle.identities.specs.LinkRows.{UidSmall, RecurrenceSmall, LinkSmall
 ghost use Rattle.identities.specs.LinkRows.{kind_tag, kinds_tag, uid_numbers, recurrence_numbers, kind_of, kinds_of, uid_of, recurrence_of};
 ghost use Rattle.identities.specs.LinkRows.{link_row, link_at, LinkPut};
 
-use crate::{RecurrenceGiven, RecurrenceId, UidGiven};
+use crate::RecurrenceId;
 use time::date_time::Kind;
+use values::given::Given;
 use values::time_lists::Kinds;
 
 #[derive(Clone, Copy)]
 pub struct Link {
-    pub uid: UidGiven,
-    pub recurrence: RecurrenceGiven,
+    pub uid: Given<usize>,
+    pub recurrence: Given<RecurrenceId>,
     // Which kinds the times of its EXDATE lines have.
     pub kinds: Kinds,
     // Where the seconds of its EXDATE lines stand in the column.
     pub from: usize,
     pub to: usize,
-    // Does it break a rule by itself?
+    // Does it break a rule by itself? The row says it beside the rest (link_row), so it is no Result.
     pub broken: bool,
 }
 
-// Which variant it is, and the number that it holds.
-#[derive(Clone, Copy)]
-pub struct TaggedNumber {
-    pub tag: u32,
-    pub number: u32,
-}
-
+// Tags of rows, and a variant that holds a number beside its tag: a row is numbers in lent memory (fixed memory, no heap), and says what LinkRows gives,
+// so that no derive or TryFrom of the types alone would do. 0 is a row's tag for none, so that kinds have other tags here than in the rows of events.
+#[tactic(auto, unfolding(crate::specs::LinkRows::kind_tag))]
 fn kind_tag(kind: Kind) -> u32
     ensures { result ≡ kind_tag kind }
 {
@@ -39,6 +36,7 @@ fn kind_tag(kind: Kind) -> u32
     }
 }
 
+#[tactic(auto, unfolding(crate::specs::LinkRows::kinds_tag))]
 fn kinds_tag(kinds: Kinds) -> u32
     ensures { result ≡ kinds_tag kinds }
 {
@@ -49,102 +47,85 @@ fn kinds_tag(kinds: Kinds) -> u32
     }
 }
 
-fn uid_numbers(uid: UidGiven) -> TaggedNumber
+#[tactic(auto, unfolding(crate::specs::LinkRows::uid_numbers))]
+fn uid_numbers(uid: Given<usize>) -> (u32, u32)
     requires { UidSmall uid }
     ensures { result ≡ uid_numbers uid }
 {
     match uid {
-        UidGiven::None => TaggedNumber { tag: 0, number: 0 },
-        UidGiven::One(line) => TaggedNumber {
-            tag: 1,
-            number: line as u32,
-        },
-        UidGiven::Several => TaggedNumber { tag: 2, number: 0 },
+        Given::None => (0, 0),
+        Given::One(line) => (1, line as u32),
+        Given::Several => (2, 0),
     }
 }
 
-fn recurrence_numbers(recurrence: RecurrenceGiven) -> TaggedNumber
+#[tactic(auto, unfolding(crate::specs::LinkRows::recurrence_numbers))]
+fn recurrence_numbers(recurrence: Given<RecurrenceId>) -> (u32, u32)
     requires { RecurrenceSmall recurrence }
     ensures { result ≡ recurrence_numbers recurrence }
 {
     match recurrence {
-        RecurrenceGiven::None => TaggedNumber { tag: 0, number: 0 },
-        RecurrenceGiven::One(t) => {
-            let kind = t.kind;
-            let second = t.second;
-            TaggedNumber {
-                tag: kind_tag(kind),
-                number: second as u32,
-            }
-        }
-        RecurrenceGiven::Several => TaggedNumber { tag: 4, number: 0 },
+        Given::None => (0, 0),
+        Given::One(t) => (kind_tag(t.kind), t.second as u32),
+        Given::Several => (4, 0),
     }
 }
 
+#[tactic(auto, unfolding(crate::specs::LinkRows::kind_of))]
 fn kind_of(tag: u32) -> Kind
     ensures { result ≡ kind_of tag }
 {
-    if tag == 1 {
-        return Kind::Utc;
+    match tag {
+        1 => Kind::Utc,
+        2 => Kind::Floating,
+        _ => Kind::Date,
     }
-    if tag == 2 {
-        return Kind::Floating;
-    }
-    Kind::Date
 }
 
+#[tactic(auto, unfolding(crate::specs::LinkRows::kinds_of))]
 fn kinds_of(tag: u32) -> Kinds
     ensures { result ≡ kinds_of tag }
 {
-    if tag == 0 {
-        return Kinds::None;
+    match tag {
+        0 => Kinds::None,
+        4 => Kinds::Several,
+        _ => Kinds::One(kind_of(tag)),
     }
-    if tag == 4 {
-        return Kinds::Several;
-    }
-    let kind = kind_of(tag);
-    Kinds::One(kind)
 }
 
-fn uid_of(tag: u32, number: u32) -> UidGiven
+#[tactic(auto, unfolding(crate::specs::LinkRows::uid_of))]
+fn uid_of(tag: u32, number: u32) -> Given<usize>
     ensures { result ≡ uid_of tag number }
 {
-    if tag == 0 {
-        return UidGiven::None;
+    match tag {
+        0 => Given::None,
+        1 => Given::One(number as usize),
+        _ => Given::Several,
     }
-    if tag == 1 {
-        return UidGiven::One(number as usize);
-    }
-    UidGiven::Several
 }
 
-fn recurrence_of(tag: u32, number: u32) -> RecurrenceGiven
+#[tactic(auto, unfolding(crate::specs::LinkRows::recurrence_of))]
+fn recurrence_of(tag: u32, number: u32) -> Given<RecurrenceId>
     ensures { result ≡ recurrence_of tag number }
 {
-    if tag == 0 {
-        return RecurrenceGiven::None;
+    match tag {
+        0 => Given::None,
+        4 => Given::Several,
+        _ => Given::One(RecurrenceId {
+            kind: kind_of(tag),
+            second: number as u64,
+        }),
     }
-    if tag == 4 {
-        return RecurrenceGiven::Several;
-    }
-    let kind = kind_of(tag);
-    RecurrenceGiven::One(RecurrenceId {
-        kind,
-        second: number as u64,
-    })
 }
 
 // Row k becomes these numbers.
+// No generic one with those of `structure` and `events`: each is one `copy_from_slice` with a definition of its own (docs/CONTRACTS.md).
 fn put_row(links: &mut [u32], k: usize, row: [u32; 8])
     requires { 8 * k + 8 ≤ length links.old }
     ensures { LinkPut links.old k row links.new }
 {
     let first = 8 * k;
-    let mut p = 0;
-    while p < 8 {
-        links[first + p] = row[p];
-        p += 1;
-    }
+    links[first..first + 8].copy_from_slice(&row);
 }
 
 // Row k becomes that of the link.
@@ -153,53 +134,38 @@ pub fn put_link(links: &mut [u32], k: usize, l: Link)
     requires link_small { LinkSmall l }
     ensures { LinkPut links.old k (link_row l) links.new }
 {
-    let uid = l.uid;
-    let recurrence = l.recurrence;
-    let kinds = l.kinds;
-    let from = l.from;
-    let to = l.to;
-    let by = uid_numbers(uid);
-    let at = recurrence_numbers(recurrence);
-    let tag = kinds_tag(kinds);
+    let (uid, line) = uid_numbers(l.uid);
+    let (recurrence, second) = recurrence_numbers(l.recurrence);
+    let kinds = kinds_tag(l.kinds);
     put_row(
         links,
         k,
         [
-            by.tag,
-            by.number,
-            at.tag,
-            at.number,
-            tag,
-            from as u32,
-            to as u32,
+            uid,
+            line,
+            recurrence,
+            second,
+            kinds,
+            l.from as u32,
+            l.to as u32,
             l.broken as u32,
         ],
     );
 }
 
-fn wide(x: u32) -> usize
-    ensures { result ≡ x }
-{
-    x as usize
-}
-
 // The link of row k.
+#[tactic(auto, unfolding(crate::specs::LinkRows::link_at))]
 pub fn link_at(links: &[u32], k: usize) -> Link
     requires { 8 * k + 8 ≤ length links.now }
     ensures { result ≡ link_at links.now k }
 {
     let at = 8 * k;
-    let uid = uid_of(links[at], links[at + 1]);
-    let recurrence = recurrence_of(links[at + 2], links[at + 3]);
-    let kinds = kinds_of(links[at + 4]);
-    let from = wide(links[at + 5]);
-    let to = wide(links[at + 6]);
     Link {
-        uid,
-        recurrence,
-        kinds,
-        from,
-        to,
+        uid: uid_of(links[at], links[at + 1]),
+        recurrence: recurrence_of(links[at + 2], links[at + 3]),
+        kinds: kinds_of(links[at + 4]),
+        from: links[at + 5] as usize,
+        to: links[at + 6] as usize,
         broken: links[at + 7] == 1,
     }
 }

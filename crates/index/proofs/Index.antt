@@ -1,5 +1,7 @@
 -- Laws of the index: how the walk over the lines fills it, and what a reader of one line takes from it.
+use Rattle.std.specs.Prelude.{Err, Ok, Result}
 use Prim.Native.Nat.{ℕ, zero, suc, ◌+◌, ◌-◌, ◌*◌, ◌/◌, ◌%◌, ◌≤◌, ◌<◌}
+use Rattle.index.specs.declared.IndexError.{IndexError}
 use mathlib.Core.Path.{◌≡◌, refl, sym, ap, subst, ◌∙◌}
 use mathlib.Core.Bool.{Bool, true, false, cond}
 use mathlib.Core.List.{List, [], ◌∷◌}
@@ -7,11 +9,9 @@ use native.Mathlib.Omega.{arith}
 use native.Mathlib.Nat.{add-zero}
 use borrow.Author.Tests.{ltb-true, ltb-false}
 use lib.Dec.{leb, ltb}
-use lib.ListN.{length, take, drop, get_or, set, length-set, length-drop, get_or-eq_default}
+use lib.ListN.{length, drop, get_or, set, length-set, length-drop, get_or-eq_default}
 use lib.Seq.{get_or-drop, get_or-set_same, get_or-set_other, drop-drop}
 use Rattle.ascii.specs.Bytes.{is_name_byte}
-use Rattle.ascii.specs.Names.{same_name}
-use Rattle.ascii.proofs.Names.{same_name_length}
 use Rattle.ascii.proofs.Bools.{clash, and_right}
 use Rattle.text.specs.Lines.{part, all_lines, content_lines, LineAt, NothingAt}
 use Rattle.text.proofs.Lines.{length_part}
@@ -19,11 +19,9 @@ use Rattle.line.specs.Scanner.{step, is_ending, scan, is_well_formed}
 use Rattle.line.specs.Reading.{name_of}
 use Rattle.line.specs.WellFormed.{Checked, GoodLineAt, NamedLineAt, BadLineAt}
 use Rattle.line.specs.declared.scan.State.TheVariants.{Start, Name, Wrong}
-use Rattle.line.proofs.Reading.{name_take, name_fits}
 use Rattle.line.proofs.ScannerNames.{name_short}
 use Rattle.line.proofs.WellFormed.{checked_start, checked_next, checked_bad, checked_end}
 use Rattle.index.specs.Index.{line_bytes, Between, start_in, name_in, Entry, Indexed, Lines, FilledBy}
-use Rattle.index.specs.declared.Filled.{Filled}
 
 -- ---- a line is two bytes or more
 
@@ -47,25 +45,25 @@ well_formed_two l e = scan_two l (and_right (leb (length l) 1024) _ e)
 -- what the walk keeps: the next line starts at `at`, and the first n lines are known as soon as entry n says so
 pub record Filling (s index : List ℕ) (size n at : ℕ) : Type 0 where
   pub long : length index ≡ size
-  pub room : n < size
+  pub room : n ≤ size
   pub short : length s ≤ 65536
   pub checked : Checked s (n + 1) at
   pub fours : 4 * n ≤ at
   pub place : content_lines (drop at s) ≡ drop n (content_lines s)
   pub few : n ≤ length (content_lines s)
-  pub entries : (v : ℕ) → start_in v ≡ at → (i : ℕ) → i < n → Entry s (set index n v) i
+  pub entries : n < size → (v : ℕ) → start_in v ≡ at → (i : ℕ) → i < n → Entry s (set index n v) i
 
-pub filling_start : (s index : List ℕ) → 1 ≤ length index → length s ≤ 65536 → Filling s index (length index) 0 0
-filling_start s index h k =
+pub filling_start : (s index : List ℕ) → length s ≤ 65536 → Filling s index (length index) 0 0
+filling_start s index k =
     record {
       long = refl;
-      room = h;
+      room = omega arith;
       short = k;
       checked = checked_start s;
       fours = omega arith;
       place = refl;
       few = omega arith;
-      entries = λ v q i l. absurd (omega arith);
+      entries = λ r v q i l. absurd (omega arith);
     }
 
 drop_tail : (n : ℕ) (ls : List (List ℕ)) (l : List ℕ) (r : List (List ℕ)) → drop n ls ≡ l ∷ r → drop (n + 1) ls ≡ r
@@ -125,8 +123,9 @@ get_d_first : (n : ℕ) (ls : List (List ℕ)) (l : List ℕ) (r : List (List �
 get_d_first n ls l r e = simp add-zero at (sym (get_or-drop n ls 0 [])) ∙ ap (λ (x : List (List ℕ)). get_or x 0 []) e
 
 module _ {s index : List ℕ} {size n at : ℕ} (k : Filling s index size n at) where
-  pub filling_inside : n < length index
-  filling_inside = omega (arith, k.long, k.room)
+  -- an index without room for an entry has too few for the bytes
+  pub filling_full : size ≤ n → 4 * length index ≤ length s
+  filling_full l = omega (arith, k.long, k.room, k.fours, k.checked.inside)
 
   module _ {e m : ℕ} (h : NamedLineAt s at e m) where
     name_small : m ≤ 1024
@@ -139,10 +138,6 @@ module _ {s index : List ℕ} {size n at : ℕ} (k : Filling s index size n at) 
     pub filling_more : 4 * (n + 1) ≤ e + 2
     filling_more = omega (arith, k.fours, good_long h.good)
 
-    -- an index that has no room for the next entry has too few for the bytes
-    pub filling_full : length index ≤ n + 1 → 4 * length index ≤ length s
-    filling_full l = omega (arith, filling_more, h.good.line.inside)
-
     this_line : part s at e ≡ line_bytes s n
     unfolding line_bytes
     this_line = sym (get_d_first n (content_lines s) _ _ (sym k.place ∙ lines_at h.good.line))
@@ -153,7 +148,7 @@ module _ {s index : List ℕ} {size n at : ℕ} (k : Filling s index size n at) 
         let a : at < 131072 = omega (arith, k.short, k.checked.inside) in
         let l : n + 1 < length (set index n w) = omega (arith, length-set index n w, r) in
         entry_of_holds
-        (get_or-set_other (set index n w) (n + 1) n v 0 (λ z. omega arith) ∙ get_or-set_same index n w 0 filling_inside)
+        (get_or-set_other (set index n w) (n + 1) n v 0 (λ z. omega arith) ∙ get_or-set_same index n w 0 (omega (arith, r)))
         (get_or-set_same (set index n w) (n + 1) v 0 l)
         (rw (start_of at m a, q) (between_at h.good k.place))
         (name_of_lem at m a ∙ h.name ∙ ap (λ (x : List ℕ). length (name_of x)) this_line)
@@ -165,10 +160,10 @@ module _ {s index : List ℕ} {size n at : ℕ} (k : Filling s index size n at) 
         a = omega (arith, k.short, k.checked.inside)
 
         go : (t : Bool) → ltb i n ≡ t → Entry s (set (set index n (at + m * 131072)) (n + 1) v) i
-        go true z = kept (n + 1) v (omega (arith, ltb-true)) (k.entries (at + m * 131072) (start_of at m a) i (omega (arith, ltb-true)))
+        go true z = kept (n + 1) v (omega (arith, ltb-true)) (k.entries (omega (arith, k.long, r)) (at + m * 131072) (start_of at m a) i (omega (arith, ltb-true)))
         go false z = let j : i ≡ n = omega (arith, ltb-false) in rw j (this_entry r v q)
 
-    pub filling_next : n + 1 < length index → Filling s (set index n (at + m * 131072)) size (n + 1) (e + 2)
+    pub filling_next : n < length index → Filling s (set index n (at + m * 131072)) size (n + 1) (e + 2)
     filling_next r =
         record {
           long = length-set index n (at + m * 131072) ∙ k.long;
@@ -178,22 +173,22 @@ module _ {s index : List ℕ} {size n at : ℕ} (k : Filling s index size n at) 
           fours = filling_more;
           place = sym (drop_tail n (content_lines s) _ _ (sym k.place ∙ lines_at h.good.line));
           few = omega (arith, some_more n (content_lines s) _ _ (sym k.place ∙ lines_at h.good.line));
-          entries = entry_next r;
+          entries = λ l. entry_next (omega (arith, l, k.long));
         }
 
-  pub filling_bad : BadLineAt s at → FilledBy s index (Filled.BadLine (n + 1))
+  pub filling_bad : BadLineAt s at → FilledBy s index (Err (IndexError.BadLine (n + 1)))
   unfolding FilledBy
   filling_bad h = checked_bad k.checked h
 
   counted : NothingAt s at → n ≡ length (content_lines s)
   counted h = omega (arith, k.few, no_more n (content_lines s) (sym k.place ∙ no_lines h))
 
-  pub filling_end : NothingAt s at → FilledBy s (set index n at) (Filled.Lines n)
+  pub filling_end : n < length index → NothingAt s at → FilledBy s (set index n at) (Ok n)
   unfolding FilledBy
-  filling_end h =
+  filling_end r h =
       let a : start_in at ≡ at = start_alone at (omega (arith, k.short, k.checked.inside)) in
       record {
-        indexed = record { entries = λ i l. k.entries at a i (omega (arith, counted h)); good = sym (checked_end k.checked h) };
+        indexed = record { entries = λ i l. k.entries (omega (arith, r, k.long)) at a i (omega (arith, counted h)); good = sym (checked_end k.checked h) };
         count = counted h;
         few = omega (arith, k.fours, k.checked.inside);
       }
@@ -242,19 +237,6 @@ module _ {s index : List ℕ} {i : ℕ} (k : Entry s index i) where
   pub entry_name : {n : ℕ} {l : List ℕ} → n ≡ name_in (get_or index i 0) → l ≡ line_bytes s i → n ≡ length (name_of l)
   entry_name p q = p ∙ k.named ∙ ap (λ (x : List ℕ). length (name_of x)) (sym q)
 
-  -- a name of another length is not the line's
-  pub other_length : {n : ℕ} (m : List ℕ) → n ≡ name_in (get_or index i 0) → (n ≡ length m → ⊥) → same_name (name_of (line_bytes s i)) m ≡ false
-  other_length m p h = same_name_length (name_of (line_bytes s i)) m (λ e. h (entry_name p refl ∙ e))
-
-  -- so many bytes of line i are its name
-  pub name_compared : {n : ℕ} {l : List ℕ} {t : Bool} (m : List ℕ) → n ≡ name_in (get_or index i 0) → l ≡ line_bytes s i → t ≡ same_name (take n l) m
-      → t ≡ same_name (name_of (line_bytes s i)) m
-  name_compared {n} {l} m p q w =
-      w ∙ ap (λ (x : List ℕ). same_name x m) (name_take l n (entry_name p q)) ∙ ap (λ (x : List ℕ). same_name (name_of x) m) q
-
-  pub name_inside : {n : ℕ} {l : List ℕ} → n ≡ name_in (get_or index i 0) → l ≡ line_bytes s i → n ≤ length l
-  name_inside {n} {l} p q = omega (arith, entry_name p q, name_fits l)
-
 -- the name of line i, as the code takes its length out
 pub name_read : (index : List ℕ) (i : ℕ) {x : ℕ} → x ≡ get_or index i 0 → x / 131072 ≡ name_in (get_or index i 0)
 unfolding name_in
@@ -279,10 +261,10 @@ starts_rise {s} {index} h i (suc n) l =
 
 -- ---- what a caller learns
 
-pub filled_lines : {s index : List ℕ} {r : Filled} (n : ℕ) → FilledBy s index r → r ≡ Filled.Lines n → Lines s index n
+pub filled_lines : {s index : List ℕ} {r : Result ℕ IndexError} (n : ℕ) → FilledBy s index r → r ≡ Ok n → Lines s index n
 unfolding FilledBy
 filled_lines {s} {index} n h q = subst (FilledBy s index) q h
 
-pub filled_full : (s index : List ℕ) {r : Filled} → FilledBy s index r → r ≡ Filled.Full → 4 * length index ≤ length s
+pub filled_full : (s index : List ℕ) {r : Result ℕ IndexError} → FilledBy s index r → r ≡ Err IndexError.Full → 4 * length index ≤ length s
 unfolding FilledBy
 filled_full s index h q = subst (FilledBy s index) q h

@@ -1,10 +1,10 @@
 -- The index of lines: where each line of a file starts and how long its name is, and behind the last where the file ends. Lines are counted from 0.
-use Rattle.std.specs.Prelude.{ℕ, ◌+◌, ◌-◌, ◌*◌, ◌/◌, ◌%◌, ◌≤◌, ◌<◌, ◌≡◌, true, List, [], length, drop, get_or}
+use Rattle.std.specs.Prelude.{ℕ, ◌+◌, ◌-◌, ◌*◌, ◌/◌, ◌%◌, ◌≤◌, ◌<◌, ◌≡◌, true, List, [], length, drop, get_or, Err, Ok, Result}
+use Rattle.index.specs.declared.IndexError.{IndexError}
 use Rattle.text.specs.Lines.{line, cut, part, content_lines}
 use Rattle.line.specs.Scanner.{is_well_formed}
 use Rattle.line.specs.Reading.{name_of}
 use Rattle.line.specs.WellFormed.{line_check, all_good, bad_line}
-use Rattle.index.specs.declared.Filled.{Filled}
 
 -- line i of a file; no bytes, where there are not so many lines
 unfoldable pub line_bytes : List ℕ → ℕ → List ℕ
@@ -42,7 +42,7 @@ pub record Lines (s index : List ℕ) (n : ℕ) : Type 0 where
   pub few : 4 * n ≤ length s
 
 -- what filling it answers
-unfoldable pub FilledBy : List ℕ → List ℕ → Filled → Type 0
-FilledBy s index (Filled.Lines n) = Lines s index n
-FilledBy s index (Filled.BadLine k) = bad_line k ≡ line_check s
-FilledBy s index Filled.Full = 4 * length index ≤ length s
+unfoldable pub FilledBy : List ℕ → List ℕ → Result ℕ IndexError → Type 0
+FilledBy s index (Ok n) = Lines s index n
+FilledBy s index (Err (IndexError.BadLine k)) = bad_line k ≡ line_check s
+FilledBy s index (Err IndexError.Full) = 4 * length index ≤ length s

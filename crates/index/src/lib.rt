@@ -9,50 +9,39 @@ ghost use Rattle.index.specs.Index.{FilledBy, Entry, line_bytes, name_in};
 
 use line::check::Next;
 
-// What filling the index tells.
-#[derive(Clone, Copy)]
-pub enum Filled {
-    // So many lines, each well formed.
-    Lines(usize),
+// Why an index is not filled.
+#[derive(Clone, Copy, PartialEq, Eq)]
+pub enum IndexError {
     // The first badly formed line, counted from 1.
     BadLine(usize),
     // There are more lines than the index has room for.
     Full,
 }
 
-fn wide(x: u32) -> usize
-    ensures { result ≡ x }
-{
-    x as usize
-}
-
 // Entry i is where line i starts, counted from 0, and the length of its name in units of 131,072; behind the last line stands the length of the file.
+// Both in one number, as definition `name_in` has it: an index is lent memory of a fixed size.
 // A line has four bytes or more with its CR LF, so an index of more than a quarter of the bytes is never full.
-pub fn fill_index(index: &mut [u32], s: &[u8]) -> Filled
+// The bound of s is that of the public calls. It stays a clause, here and above: docs/TRACE.md names this function and `structure::read_structure`.
+pub fn fill_index(index: &mut [u32], s: &[u8]) -> Result<usize, IndexError>
     requires in_bounds { 1 ≤ length index.old }
     requires s_len_bound { length s.now ≤ 65536 }
     ensures { FilledBy s.now index.new result }
 {
     let mut at = 0;
-    let mut n = 0;
-    loop {
+    for (n, entry) in index.iter_mut().enumerate() {
         match line::check::next_good(s, at) {
             Next::Line(e, name) => {
-                let next = n + 1;
-                if index.len() <= next {
-                    return Filled::Full;
-                }
-                index[n] = (at + name * 131072) as u32;
+                *entry = (at + name * 131072) as u32;
                 at = e + 2;
-                n = next;
             }
-            Next::Bad => return Filled::BadLine(n + 1),
+            Next::Bad => return Err(IndexError::BadLine(n + 1)),
             Next::End => {
-                index[n] = at as u32;
-                return Filled::Lines(n);
+                *entry = at as u32;
+                return Ok(n);
             }
         }
     }
+    Err(IndexError::Full)
 }
 
 // Line i, counted from 0, without its CR LF.
@@ -60,8 +49,8 @@ pub fn line_at<'a>(s: &'a [u8], index: &[u32], i: usize) -> &'a [u8]
     requires { Entry s.now index.now i }
     ensures { result.now ≡ line_bytes s.now i }
 {
-    let a = wide(index[i]) % 131072;
-    let b = wide(index[i + 1]) % 131072;
+    let a = index[i] as usize % 131072;
+    let b = index[i + 1] as usize % 131072;
     &s[a..b - 2]
 }
 
@@ -70,7 +59,7 @@ pub fn name_length(index: &[u32], i: usize) -> usize
     requires { i < length index.now }
     ensures { result ≡ name_in (get_or index.now i 0) }
 {
-    wide(index[i]) / 131072
+    index[i] as usize / 131072
 }
 
 // Has line i the name, ASCII case disregarded? Mostly the lengths tell, and no byte is looked at.
@@ -78,10 +67,5 @@ pub fn is_called(s: &[u8], index: &[u32], i: usize, name: &[u8]) -> bool
     requires { Entry s.now index.now i }
     ensures { result ≡ same_name (name_of (line_bytes s.now i)) name.now }
 {
-    let n = name_length(index, i);
-    if n != name.len() {
-        return false;
-    }
-    let line = line_at(s, index, i);
-    ascii::same_name(&line[..n], name)
+    line::read::is_called(line_at(s, index, i), name_length(index, i), name)
 }

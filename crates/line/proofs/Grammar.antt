@@ -10,7 +10,7 @@ use native.Mathlib.Omega.{arith}
 use borrow.Author.Tests.{eqb-true, leb-true, le-leb, le-ltb, ne_eqb}
 use Rattle.ascii.specs.Bytes.{is_name_byte, is_control}
 use Rattle.ascii.specs.Names.{is_name, every}
-use Rattle.ascii.proofs.Bools.{and_left, and_right, and_both, clash}
+use Rattle.ascii.proofs.Bools.{and_left, and_right, and_both, or_neither, clash}
 use Rattle.line.specs.Grammar.{Parameter, ContentLine, content_line, parameter, is_quotable, is_unquoted, is_value_byte, ParameterValue, ParameterValues, Parameters}
 use Rattle.line.specs.Grammar.{LineGrammar, quoted, unquoted, one, comma, none, semicolon, colon}
 use Rattle.line.specs.Scanner.{after_value, step, scan, is_well_formed}
@@ -207,9 +207,6 @@ quoted_allowed s w =
 at_byte : (P : List ℕ → Type 0) (b n : ℕ) (s : List ℕ) → eqb b n ≡ true → P (n ∷ s) → P (b ∷ s)
 at_byte P b n s e x = subst (λ (k : ℕ). P (k ∷ s)) (sym (eqb-true b n e)) x
 
-none_of : (a b : Bool) → a ≡ false → b ≡ false → (a || b) ≡ false
-none_of a b p q = rw (p, q)
-
 is_unquoted_lem : (b : ℕ) → eqb b 34 ≡ false → eqb b 44 ≡ false → eqb b 59 ≡ false → eqb b 58 ≡ false → is_control b ≡ false → is_unquoted b ≡ true
 unfolding is_unquoted
 is_unquoted_lem b p q r u v = rw (p, q, r, u, v)
@@ -297,7 +294,7 @@ module _ (b : ℕ) (s : List ℕ) (allowed : (q : State) → scan q s ≡ true �
       (λ f h. wrong_absurd h)
       (λ f h.
       let (v, r, w, k, x) = allowed Quoted h in
-      (b ∷ v, r, cons_eq b w, and_both (ap not (none_of (eqb b 34) (is_control b) e f)) k, x)))
+      (b ∷ v, r, cons_eq b w, and_both (ap not (or_neither e f)) k, x)))
 
   after_quoted_byte : scan (step AfterQuoted b) s ≡ true → Allowed AfterQuoted (b ∷ s)
   unfolding step

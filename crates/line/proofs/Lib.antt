@@ -1,5 +1,6 @@
 pub mod Scanner
 pub mod Grammar
+pub mod Places
 pub mod Splitting
 pub mod ReadingParameters
 pub mod Reading

@@ -1,13 +1,15 @@
 -- Laws of the name of a well formed line: the name bytes that the line begins with are the name, and there is one at least.
 -- So the scanner knows its length.
-use Prim.Native.Nat.{ℕ, suc, ◌+◌, ◌≤◌, ◌<◌}
+use Rattle.std.specs.Prelude.{Some, None}
+use Rattle.std.proofs.lemmas.Option.{cond_some, none-some}
+use Prim.Native.Nat.{ℕ, zero, suc, ◌+◌, ◌≤◌, ◌<◌}
 use mathlib.Core.Path.{◌≡◌, refl, sym, ap, ◌∙◌}
-use mathlib.Core.Bool.{Bool, true, false, cond, ◌&&◌, and-false, and-true}
+use mathlib.Core.Bool.{Bool, true, false, not, cond, ◌&&◌, ◌||◌}
 use mathlib.Core.List.{List, [], ◌∷◌}
 use native.Mathlib.Omega.{arith}
 use lib.Dec.{eqb, ltb, leb}
 use lib.ListN.{length, drop, get_or}
-use borrow.Author.Tests.{lt-ltb, ltb-true, ltb-false, leb-true, ne_eqb}
+use borrow.Author.Tests.{lt-ltb, ltb-true, leb-true, ne_eqb}
 use Rattle.ascii.specs.Bytes.{is_name_byte, is_letter, is_digit}
 use Rattle.ascii.proofs.Bools.{and_left, and_right, clash, apart}
 use Rattle.ascii.proofs.Lists.{drop_next, drop_end}
@@ -120,50 +122,52 @@ name_short l e = omega (arith, name_fits l, leb-true (length l) 1024 (and_left (
 
 -- ---- what the code answers
 
-well_name : (l : List ℕ) → is_well_formed l ≡ true → well_formed_name l ≡ length (name_of l)
+well_name : (l : List ℕ) → is_well_formed l ≡ true → well_formed_name l ≡ Some (length (name_of l))
 unfolding well_formed_name
 well_name l e = rw e
 
-badly_name : (l : List ℕ) → is_well_formed l ≡ false → well_formed_name l ≡ 0
+badly_name : (l : List ℕ) → is_well_formed l ≡ false → well_formed_name l ≡ None
 unfolding well_formed_name
 badly_name l e = rw e
 
-pub name_of_long : (l : List ℕ) → 1024 < length l → 0 ≡ well_formed_name l
+pub name_of_long : (l : List ℕ) → 1024 < length l → None ≡ well_formed_name l
 name_of_long l h = sym (badly_name l (well_formed_long l h))
 
--- what may stand behind a name does: where there is no name, the count is 0 all the same
-pub name_behind : (l : List ℕ) {n : ℕ} {t : Bool} → length l ≤ 1024 → n ≡ name_bytes l → t ≡ scan Name (drop n l) → t ≡ true → n ≡ well_formed_name l
-name_behind l {n} {t} h p q w = p ∙ go (ltb 0 (name_bytes l)) refl
-  where
-    behind : scan Name (drop (name_bytes l) l) ≡ true
-    behind = sym (q ∙ ap (λ (k : ℕ). scan Name (drop k l)) p) ∙ w
+twice : (t : Bool) → t ≡ not (not t)
+twice true = refl
+twice false = refl
 
-    form : (u : Bool) → ltb 0 (name_bytes l) ≡ u → u ≡ is_well_formed l
-    form u e = sym (ap (λ (x : Bool). u && x) behind ∙ and-true u) ∙ ap (λ (x : Bool). x && scan Name (drop (name_bytes l) l)) (sym e) ∙ start_bytes l ∙ well_formed_start l h
+-- there is a name, and behind it stands what may
+taken : (n : ℕ) (t : Bool) → (ltb 0 n && t) ≡ not (eqb n 0 || not t)
+taken zero t = refl
+taken (suc n) t = rw (lt-ltb 0 (suc n) (omega arith), ne_eqb (suc n) 0 (λ e. omega (arith, e))) (twice t)
 
-    go : (u : Bool) → ltb 0 (name_bytes l) ≡ u → name_bytes l ≡ well_formed_name l
-    go true e = let k : is_well_formed l ≡ true = sym (form true e) in sym (well_name l k ∙ well_bytes l k)
-    go false e = let k : is_well_formed l ≡ false = sym (form false e) in omega (arith, badly_name l k, ltb-false 0 (name_bytes l) e)
+module _ (l : List ℕ) {n : ℕ} {t : Bool} (h : length l ≤ 1024) (p : n ≡ name_bytes l) (q : t ≡ scan Name (drop n l)) where
+  name_form : not (eqb n 0 || not t) ≡ is_well_formed l
+  name_form =
+      sym (taken n t)
+      ∙ ap (λ (x : Bool). ltb 0 n && x) q
+      ∙ ap (λ (k : ℕ). ltb 0 k && scan Name (drop k l)) p
+      ∙ start_bytes l
+      ∙ well_formed_start l h
 
-pub name_missed : (l : List ℕ) {n : ℕ} {t : Bool} → length l ≤ 1024 → n ≡ name_bytes l → t ≡ scan Name (drop n l) → t ≡ false → 0 ≡ well_formed_name l
-name_missed l {n} {t} h p q w =
-    let behind : scan Name (drop (name_bytes l) l) ≡ false = sym (q ∙ ap (λ (k : ℕ). scan Name (drop k l)) p) ∙ w in
-    sym
-    (badly_name l
-    (sym (well_formed_start l h) ∙ sym (start_bytes l) ∙ ap (λ (x : Bool). ltb 0 (name_bytes l) && x) behind ∙ and-false (ltb 0 (name_bytes l))))
+  pub name_behind : (eqb n 0 || not t) ≡ false → Some n ≡ well_formed_name l
+  name_behind w =
+      let k : is_well_formed l ≡ true = sym name_form ∙ ap not w in
+      sym (well_name l k ∙ ap Some (well_bytes l k ∙ sym p))
+
+  pub name_missed : (eqb n 0 || not t) ≡ true → None ≡ well_formed_name l
+  name_missed w = sym (badly_name l (sym name_form ∙ ap not w))
 
 -- ---- what a caller learns
 
-pub named_well : (l : List ℕ) (n : ℕ) → n ≡ well_formed_name l → (n ≡ 0 → ⊥) → (is_well_formed l ≡ true) × (n ≡ length (name_of l))
-named_well l n q w = go (is_well_formed l) refl
-  where
-    go : (t : Bool) → is_well_formed l ≡ t → (is_well_formed l ≡ true) × (n ≡ length (name_of l))
-    go true e = (e, q ∙ well_name l e)
-    go false e = absurd (w (q ∙ badly_name l e))
+pub named_well : (l : List ℕ) (n : ℕ) → Some n ≡ well_formed_name l → (is_well_formed l ≡ true) × (n ≡ length (name_of l))
+unfolding well_formed_name
+named_well l n q = let k = cond_some (is_well_formed l) (length (name_of l)) n (sym q) in (k.0, sym k.1)
 
-pub unnamed_badly : (l : List ℕ) → well_formed_name l ≡ 0 → is_well_formed l ≡ false
+pub unnamed_badly : (l : List ℕ) → None ≡ well_formed_name l → is_well_formed l ≡ false
 unnamed_badly l q = go (is_well_formed l) refl
   where
     go : (t : Bool) → is_well_formed l ≡ t → is_well_formed l ≡ false
-    go true e = absurd (omega (arith, well_name l e, name_some l e, q))
+    go true e = absurd (none-some _ (q ∙ well_name l e))
     go false e = e

@@ -9,7 +9,7 @@ use native.Mathlib.Nat.{add_assoc}
 use lib.Dec.{eqb, ltb, leb-suc-suc}
 use lib.ListN.{length, take, drop, get_or, length-append, length-drop}
 use lib.Seq.{length-take-le, take-length, drop-drop, take-append_seam, drop-append-add}
-use borrow.Author.Tests.{eq-eqb, ne_eqb, lt-ltb, le-ltb, ltb-true, ltb-false}
+use borrow.Author.Tests.{eq-eqb, ne_eqb, lt-ltb, le-ltb, ltb-true, ltb-false, not-true}
 use Rattle.ascii.specs.Names.{every}
 use Rattle.ascii.proofs.Bools.{and_left, and_right, and_both, clash, apart}
 use Rattle.ascii.proofs.Lists.{drop_next, drop_end, suffix}
@@ -181,15 +181,8 @@ abbrev pub closed : Bool → ℕ → Bool → List ℕ → Bool
 closed g sep q [] = not q
 closed g sep q (b ∷ s) = not (cuts_at sep q b) && closed g sep (quoted_after g q b) s
 
-not_cut : (t : Bool) → not t ≡ true → t ≡ false
-not_cut true e = sym e
-not_cut false e = refl
-
-closed_quotes : (q : Bool) → not q ≡ true → q ≡ false
-closed_quotes q e = not_cut q e
-
 pub closed_append : (g : Bool) (sep : ℕ) (q : Bool) (s t : List ℕ) → closed g sep q s ≡ true → closed g sep false t ≡ true → closed g sep q (s ++ t) ≡ true
-closed_append g sep q [] t p k = rw (closed_quotes q p) k
+closed_append g sep q [] t p k = rw (not-true q p) k
 closed_append g sep q (b ∷ s) t p k =
     and_both (and_left (not (cuts_at sep q b)) _ p) (closed_append g sep (quoted_after g q b) s t (and_right (not (cuts_at sep q b)) _ p) k)
 
@@ -198,27 +191,27 @@ pub first_outside_closed : (g : Bool) (sep : ℕ) (q : Bool) (t r : List ℕ) �
 first_outside_closed g sep q [] r p =
     first_outside_cut g sep q sep r (and_both (eq-eqb sep sep refl) p)
 first_outside_closed g sep q (b ∷ t) r p =
-    first_outside_keep g sep q b (t ++ (sep ∷ r)) (not_cut _ (and_left (not (cuts_at sep q b)) _ p))
+    first_outside_keep g sep q b (t ++ (sep ∷ r)) (not-true _ (and_left (not (cuts_at sep q b)) _ p))
     ∙ ap suc (first_outside_closed g sep (quoted_after g q b) t r (and_right (not (cuts_at sep q b)) _ p))
 
 pub parts_closed : (g : Bool) (sep : ℕ) (q : Bool) (t r : List ℕ) → closed g sep q t ≡ true → split_parts g sep q (t ++ (sep ∷ r)) ≡ t ∷ split_parts g sep false r
 parts_closed g sep q [] r p =
-    parts_cut g sep q sep r (and_both (eq-eqb sep sep refl) p) ∙ ap (λ (x : Bool). [] ∷ split_parts g sep x r) (closed_quotes q p)
+    parts_cut g sep q sep r (and_both (eq-eqb sep sep refl) p) ∙ ap (λ (x : Bool). [] ∷ split_parts g sep x r) (not-true q p)
 parts_closed g sep q (b ∷ t) r p =
-    parts_keep g sep q b (t ++ (sep ∷ r)) (not_cut _ (and_left (not (cuts_at sep q b)) _ p))
+    parts_keep g sep q b (t ++ (sep ∷ r)) (not-true _ (and_left (not (cuts_at sep q b)) _ p))
     ∙ ap (λ (l : List (List ℕ)). glue b l) (parts_closed g sep (quoted_after g q b) t r (and_right (not (cuts_at sep q b)) _ p))
 
 -- alone it is the one piece
 pub parts_one : (g : Bool) (sep : ℕ) (q : Bool) (t : List ℕ) → closed g sep q t ≡ true → split_parts g sep q t ≡ t ∷ []
 parts_one g sep q [] p = parts_end g sep q
 parts_one g sep q (b ∷ t) p =
-    parts_keep g sep q b t (not_cut _ (and_left (not (cuts_at sep q b)) _ p))
+    parts_keep g sep q b t (not-true _ (and_left (not (cuts_at sep q b)) _ p))
     ∙ ap (λ (l : List (List ℕ)). glue b l) (parts_one g sep (quoted_after g q b) t (and_right (not (cuts_at sep q b)) _ p))
 
 pub first_outside_alone : (g : Bool) (sep : ℕ) (q : Bool) (t : List ℕ) → closed g sep q t ≡ true → first_outside g sep q t ≡ length t
 first_outside_alone g sep q [] p = first_outside_end g sep q
 first_outside_alone g sep q (b ∷ t) p =
-    first_outside_keep g sep q b t (not_cut _ (and_left (not (cuts_at sep q b)) _ p))
+    first_outside_keep g sep q b t (not-true _ (and_left (not (cuts_at sep q b)) _ p))
     ∙ ap suc (first_outside_alone g sep (quoted_after g q b) t (and_right (not (cuts_at sep q b)) _ p))
 
 pub before_closed : (g : Bool) (sep : ℕ) (t r : List ℕ) → closed g sep false t ≡ true → before g sep (t ++ (sep ∷ r)) ≡ t

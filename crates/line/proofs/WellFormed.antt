@@ -1,4 +1,5 @@
 -- Laws of the check of all lines: what each piece adds to it, and what its answer says of the whole file.
+use Rattle.std.specs.Prelude.{Some, None}
 use Prim.Native.Nat.{ℕ, ◌+◌}
 use mathlib.Core.Path.{◌≡◌, refl, sym, ap, subst, ◌∙◌}
 use mathlib.Core.Bool.{Bool, true, false, not, ◌&&◌}
@@ -32,14 +33,14 @@ begins_badly_lem n end e = clash e refl
 begins_badly_lem n (unended t) e = refl
 begins_badly_lem n (line l p) e = line_check_badly n l p (not-true (is_well_formed l) e)
 
-pub next_line : {s : List ℕ} {from : ℕ} (e n : ℕ) → LineAt s from e → n ≡ well_formed_name (part s from e) → (n ≡ 0 → ⊥) → NextAt s from (Next.Line e n)
+pub next_line : {s : List ℕ} {from : ℕ} (e n : ℕ) → LineAt s from e → Some n ≡ well_formed_name (part s from e) → NextAt s from (Next.Line e n)
 unfolding NextAt
-next_line {s} {from} e n h q w =
-    let k = named_well (part s from e) n q w in record { good = record { line = h; good = k.0 }; name = k.1 }
+next_line {s} {from} e n h q =
+    let k = named_well (part s from e) n q in record { good = record { line = h; good = k.0 }; name = k.1 }
 
-pub next_badly : {s : List ℕ} {from : ℕ} (e n : ℕ) → LineAt s from e → n ≡ well_formed_name (part s from e) → n ≡ 0 → NextAt s from Next.Bad
+pub next_badly : {s : List ℕ} {from : ℕ} (e : ℕ) → LineAt s from e → None ≡ well_formed_name (part s from e) → NextAt s from Next.Bad
 unfolding NextAt begins_badly
-next_badly {s} {from} e n h q w = record { bad = ap begins_badly h.cuts ∙ ap not (unnamed_badly (part s from e) (sym q ∙ w)) }
+next_badly {s} {from} e h q = record { bad = ap begins_badly h.cuts ∙ ap not (unnamed_badly (part s from e) q) }
 
 pub next_unended : {s : List ℕ} {from : ℕ} → UnendedAt s from → NextAt s from Next.Bad
 unfolding NextAt begins_badly

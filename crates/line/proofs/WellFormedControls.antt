@@ -15,7 +15,7 @@ use Rattle.ascii.proofs.Bytes.{below, above}
 use Rattle.text.specs.Unfolding.{is_break, Nowhere}
 use Rattle.text.specs.Lines.{CutLines, end, unended, line, grow, cut, part, break_at, LineAt}
 use Rattle.text.proofs.Unfolding.{nowhere_next}
-use Rattle.text.proofs.Lines.{grown, grown_line, grown_end, length_part, no_break_pieces, searched_found, searched_end, searched_none, nothing_at, break_inside, line_at, unended_at}
+use Rattle.text.proofs.Lines.{grown, grown_line, grown_end, length_part, no_break_pieces, searched_found, searched_end, searched_none, break_inside}
 use Rattle.line.specs.Scanner.{Clear, Unclear, step, after_value, is_ending, scan, is_well_formed}
 use Rattle.line.specs.WellFormed.{begins_badly, control_at, NextControl, NextAt}
 use Rattle.line.specs.declared.scan.State.{State}
@@ -118,7 +118,7 @@ part_clear {s} {from} {e} h =
     }
 
 pub control_line : {s : List ℕ} {from e : ℕ} → NextControl s from e → break_at s e ≡ true → LineAt s from e
-control_line {s} {from} {e} h b = line_at e (searched_found (no_break h.before) b) refl
+control_line {s} {from} {e} h b = searched_found (no_break h.before) b
 
 grown_unended : (l t : List ℕ) → grown l (unended t) ≡ unended (l ++ t)
 grown_unended [] t = refl
@@ -165,7 +165,7 @@ module _ {s : List ℕ} {from e : ℕ} (g : from < length s) (h : NextControl s 
     where
       go : (t : Bool) → ltb e (length s) ≡ t → NextAt s from Next.Bad
       go true q = control_inside (ltb-true e (length s) q)
-      go false q = next_unended (unended_at (searched_end g (no_break h.before) (omega (arith, ltb-false e (length s) q))) refl)
+      go false q = next_unended (searched_end g (no_break h.before) (omega (arith, ltb-false e (length s) q)))
 
 -- ---- the search
 
@@ -181,4 +181,4 @@ break_none s i h = sym (not_so (break_at s i) (λ e. absurd (omega (arith, break
 
 -- no byte is left
 pub next_past : (s : List ℕ) (from : ℕ) → length s ≤ from → NextAt s from Next.End
-next_past s from h = next_none (nothing_at (searched_none s from h) refl)
+next_past s from h = next_none (searched_none s from h)

@@ -1,5 +1,5 @@
 -- Are all lines of a file well formed (document 01, Lines)? If not, which is the first that is not, counted from 1?
-use Rattle.std.specs.Prelude.{ℕ, ◌+◌, ◌≤◌, ◌<◌, ◌≡◌, Bool, true, false, cond, not, List, [], ◌∷◌, length, drop, get_or}
+use Rattle.std.specs.Prelude.{ℕ, ◌+◌, ◌≤◌, ◌<◌, ◌≡◌, Bool, true, false, cond, not, List, [], ◌∷◌, length, drop, get_or, Option, Some, None}
 use Rattle.ascii.specs.Bytes.{is_control}
 use Rattle.text.specs.Unfolding.{Nowhere}
 use Rattle.text.specs.Lines.{CutLines, end, unended, line, cut, part, LineAt, NothingAt, lines_of, content_lines, every_line}
@@ -12,9 +12,9 @@ pub data LineCheck : Type 0 where
   all_good : LineCheck
   bad_line : ℕ → LineCheck
 
--- the length of the name of a well formed line; 0, where the line is badly formed
-unfoldable pub well_formed_name : List ℕ → ℕ
-well_formed_name l = cond (is_well_formed l) (length (name_of l)) 0
+-- the length of the name of a well formed line; none, where the line is badly formed
+unfoldable pub well_formed_name : List ℕ → Option ℕ
+well_formed_name l = cond (is_well_formed l) (Some (length (name_of l))) None
 
 -- piece by piece, the first with number n; what no CR LF ends is badly formed
 unfoldable pub line_check_from : ℕ → CutLines → LineCheck

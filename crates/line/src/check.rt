@@ -7,7 +7,7 @@ ghost use Rattle.line.specs.WellFormed.{control_at, NextControl, NextAt};
 
 use crate::scan;
 
-// The line at a place.
+// The line at a place. Three cases, of which the index takes each: an Option in a Result would nest two matches there.
 #[derive(Clone, Copy)]
 pub enum Next {
     // It is well formed: where its CR LF stands, and the length of its name.
@@ -25,17 +25,16 @@ fn control_in(s: &[u8], i: usize) -> u8
     ensures { Nowhere control_at s.now i (i + result) }
 {
     let mut first: u8 = 32;
-    let mut k: u8 = 0;
-    while k < 32 {
+    for k in 0..32u8 {
         let b = s[i + (k as usize)];
         let here = if ascii::is_control(b) { k } else { 32 };
-        first = text::lesser(here, first);
-        k += 1;
+        first = first.min(here);
     }
     first
 }
 
 // A place up to which no control stands: there one does, or fewer than 32 bytes are left.
+// A `while`, since it steps by 32 and the place that it stops at is the answer.
 fn skip_clear(s: &[u8], from: usize) -> usize
     requires { from ≤ length s.now }
     ensures { Nowhere control_at s.now from result }
@@ -56,14 +55,12 @@ fn next_control(s: &[u8], from: usize) -> usize
     requires { from ≤ length s.now }
     ensures { NextControl s.now from result }
 {
-    let mut i = skip_clear(s, from);
-    while i < s.len() {
+    for i in skip_clear(s, from)..s.len() {
         if ascii::is_control(s[i]) {
             return i;
         }
-        i += 1;
     }
-    i
+    s.len()
 }
 
 // Does CR LF stand at this place?
@@ -90,6 +87,8 @@ pub fn next_good(s: &[u8], from: usize) -> Next
     if !break_at(s, e) {
         return Next::Bad;
     }
-    let n = scan::clear_name(&s[from..e]);
-    if n == 0 { Next::Bad } else { Next::Line(e, n) }
+    match scan::clear_name(&s[from..e]) {
+        Some(n) => Next::Line(e, n),
+        None => Next::Bad,
+    }
 }

@@ -1,5 +1,6 @@
 // The name, the parameters and the value of a line, read in place.
 // A part that is handed back is a part of the caller's own slice.
+// A line and the length of its name stay two arguments: docs/TRACE.md names functions that take them so (those here, `delimiters::nesting_step`).
 ghost use Rattle.std.specs.Prelude.{◌≡◌, [], ◌<◌, length, get_or};
 ghost use Rattle.ascii.specs.Names.{same_name};
 ghost use Rattle.line.specs.Reading.{head_of, value_of, name_of, parameter_texts, parameter_name, is_named, values_of};
@@ -94,6 +95,7 @@ pub fn parameter_value(p: &[u8], n: usize) -> &[u8]
 }
 
 // How the name is used on the line, in one pass over its parameters.
+// A `while` here and in `first_value`, since each turn goes on at the separator that it finds.
 pub fn usage_of(line: &[u8], name: &[u8]) -> Usage
     ensures { result ≡ usage_of name.now (line_of line.now).parameters }
 {

@@ -28,31 +28,33 @@ struct Place {
     state: State,
 }
 
-// The length of the name of a well formed line: at most 1,024 bytes, and the scanner ends in the value. Of any other line 0.
+// The length of the name of a well formed line: at most 1,024 bytes, and the scanner ends in the value.
 // The line has no control, which is all that a value asks.
-pub fn clear_name(line: &[u8]) -> usize
+// `Clear` stays a clause: docs/TRACE.md names this function, which takes the bytes.
+pub fn clear_name(line: &[u8]) -> Option<usize>
     requires { Clear line.now }
     ensures { result ≡ well_formed_name line.now }
 {
     if 1024 < line.len() {
-        return 0;
+        return None;
     }
     let n = name_length(line);
-    if is_behind_name(line, n) { n } else { 0 }
+    if (n == 0) | !is_behind_name(line, n) {
+        return None;
+    }
+    Some(n)
 }
 
 // How many name bytes the line begins with.
 fn name_length(line: &[u8]) -> usize
     ensures { result ≡ name_bytes line.now }
 {
-    let mut i = 0;
-    while i < line.len() {
-        if !ascii::is_name_byte(line[i]) {
+    for (i, &b) in line.iter().enumerate() {
+        if !ascii::is_name_byte(b) {
             return i;
         }
-        i += 1;
     }
-    i
+    line.len()
 }
 
 // May this stand behind a name? Most lines are a name, a colon and a value: no state is needed for those.
@@ -69,7 +71,7 @@ fn is_behind_name(line: &[u8], from: usize) -> bool
 }
 
 // What follows the name, as far as the colon. The scanner steps from one separator to the next;
-// the usual bytes between two are passed by in loops of their own.
+// the usual bytes between two are passed by in loops of their own. A `while`, since each turn goes on where the part ends that it passed.
 fn is_rest(line: &[u8], from: usize) -> bool
     requires { Clear line.now }
     ensures { result ≡ scan State.Name (drop from line.now) }
@@ -171,40 +173,34 @@ fn pass_string(line: &[u8], from: usize) -> Place
 fn pass_name(line: &[u8], from: usize) -> usize
     ensures { (from ≤ result) × (scan State.ParameterName (drop result line.now) ≡ scan State.ParameterName (drop from line.now)) }
 {
-    let mut i = from;
-    while i < line.len() {
+    for i in from..line.len() {
         if !ascii::is_name_byte(line[i]) {
             return i;
         }
-        i += 1;
     }
-    i
+    from.max(line.len())
 }
 
 fn pass_unquoted(line: &[u8], from: usize) -> usize
     ensures { (from ≤ result) × (scan State.Unquoted (drop result line.now) ≡ scan State.Unquoted (drop from line.now)) }
 {
-    let mut i = from;
-    while i < line.len() {
+    for i in from..line.len() {
         if !is_unquoted(line[i]) {
             return i;
         }
-        i += 1;
     }
-    i
+    from.max(line.len())
 }
 
 fn pass_quoted(line: &[u8], from: usize) -> usize
     ensures { (from ≤ result) × (scan State.Quoted (drop result line.now) ≡ scan State.Quoted (drop from line.now)) }
 {
-    let mut i = from;
-    while i < line.len() {
+    for i in from..line.len() {
         if !is_quotable(line[i]) {
             return i;
         }
-        i += 1;
     }
-    i
+    from.max(line.len())
 }
 
 // Most bytes are letters: above the separators 127 alone is refused.
@@ -229,18 +225,7 @@ fn is_quotable(b: u8) -> bool
 fn is_ending(state: State) -> bool
     ensures { result ≡ is_ending state }
 {
-    match state {
-        State::Start => false,
-        State::Name => false,
-        State::ParameterStart => false,
-        State::ParameterName => false,
-        State::ValueStart => false,
-        State::Unquoted => false,
-        State::Quoted => false,
-        State::AfterQuoted => false,
-        State::Value => true,
-        State::Wrong => false,
-    }
+    matches!(state, State::Value)
 }
 
 // The state after one byte more.

@@ -1,5 +1,7 @@
 // Bytes cut at a separator: outside double quotes where `quoting` holds, else wherever it stands.
 // One search serves the parts of a line, of a rule and of a list of periods.
+// `quoting` stays an argument, which the definitions of specs/Splitting take: a const parameter would only move it between other brackets.
+// Searches take a slice and a place in it, as in `text`: `find` answers a place in the whole.
 ghost use Rattle.std.specs.Prelude.{◌≡◌, [], length, get_or, Bool, false};
 ghost use Rattle.line.specs.Splitting.{quoted_after, next_place, before, after, split_parts, quotes_off};
 
@@ -20,8 +22,7 @@ pub fn find(s: &[u8], from: usize, separator: u8, quoting: bool) -> usize
 fn skip_usual(s: &[u8], from: usize, separator: u8) -> usize
     ensures { (g : Bool) → next_place g separator s.now result ≡ next_place g separator s.now from }
 {
-    let mut i = from;
-    while i < s.len() {
+    for i in from..s.len() {
         let b = s[i];
         if b == separator {
             return i;
@@ -29,9 +30,8 @@ fn skip_usual(s: &[u8], from: usize, separator: u8) -> usize
         if b == 34 {
             return i;
         }
-        i += 1;
     }
-    i
+    from.max(s.len())
 }
 
 // The search byte by byte, with what it knows of quotes.
@@ -39,16 +39,14 @@ fn find_outside(s: &[u8], from: usize, separator: u8, quoting: bool) -> usize
     ensures { result ≡ next_place quoting separator s.now from }
 {
     let mut quoted = false;
-    let mut i = from;
-    while i < s.len() {
+    for i in from..s.len() {
         let b = s[i];
         if (b == separator) & !quoted {
             return i;
         }
         quoted = quoted_after(quoting, quoted, b);
-        i += 1;
     }
-    i
+    from.max(s.len())
 }
 
 fn quoted_after(quoting: bool, quoted: bool, b: u8) -> bool
@@ -73,6 +71,7 @@ pub fn after(s: &[u8], separator: u8, quoting: bool) -> &[u8]
     if e < s.len() { &s[e + 1..] } else { &s[..0] }
 }
 
+// A `while`, since each turn goes on behind the separator that it finds.
 pub fn part_count(s: &[u8], separator: u8, quoting: bool) -> usize
     ensures { result ≡ length (split_parts quoting separator false s.now) }
 {
@@ -91,14 +90,12 @@ pub fn nth_part(s: &[u8], separator: u8, quoting: bool, n: usize) -> &[u8]
 {
     let mut from = 0;
     let mut at = find(s, 0, separator, quoting);
-    let mut left = n;
-    while 0 < left {
+    for _ in 0..n {
         if s.len() <= at {
             return &s[..0];
         }
         from = at + 1;
         at = find(s, from, separator, quoting);
-        left -= 1;
     }
     &s[from..at]
 }

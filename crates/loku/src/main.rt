@@ -16,21 +16,17 @@
 
 mod verify;
 
-use cli::arguments::{Command, Offset};
-use console::args::{Plan, Planned};
-use console::file::Got;
-use console::{args, fault_line, file, out, query};
+use cli::arguments::{Command, command_of};
+use console::args::{offset_at, read_plan};
+use console::fault_line::show_fault;
+use console::file::file_at;
+use console::query::query_at;
+use console::room::Room;
+use console::stop::Stop;
+use console::{args, out};
 use engine::Answer;
 use std::io;
 use std::rt::Runtime;
-
-// The first n bytes.
-fn print_first(rt: &impl Print, bytes: &[u8], n: usize) -> io::Result<()> {
-    if n <= bytes.len() {
-        out::print(rt, &bytes[0..n])?;
-    }
-    Ok(())
-}
 
 // What was answered: a verdict, the first of these bytes, or a refusal with the line at fault.
 fn print_answer(
@@ -41,110 +37,69 @@ fn print_answer(
     work: &mut [u8],
 ) -> io::Result<()> {
     match a {
-        Answer::Verdict(yes) => {
-            if yes {
-                return out::print(rt, b"match\n");
-            }
-            out::print(rt, b"no match\n")
-        }
-        Answer::Length(n) => print_first(rt, bytes, n),
+        Answer::Verdict(true) => println!(rt; "match"),
+        Answer::Verdict(false) => println!(rt; "no match"),
+        Answer::Length(n) => rt.write_all(bytes.get(..n).unwrap_or(&[])),
         Answer::Refused(n, line) => {
             out::refused(rt, n, line)?;
-            fault_line::show_fault(rt, cal, work, line)
+            show_fault(rt, cal, work, line)
         }
     }
 }
 
-fn report_on(
-    rt: &impl Print,
-    p: Plan,
-    cal: &[u8],
-    n: usize,
-    work: &mut [u8],
-    out: &mut [u8],
-) -> io::Result<()> {
-    if n <= cal.len() {
-        let a = engine::report(&cal[0..n], p.start, p.end, p.offset, p.stamp, work, out);
-        print_answer(rt, a, out, &cal[0..n], work)?;
-    }
-    Ok(())
-}
-
-fn report(rt: &impl Runtime, cal: &mut [u8], work: &mut [u8], out: &mut [u8]) -> io::Result<()> {
+fn report(rt: &impl Runtime, room: &mut Room) -> Result<(), Stop> {
     if args::count(rt) != 7 {
-        return out::wrong(rt, b"report takes CALENDAR START END OFFSET STAMP");
+        return out::wrong(rt, "report takes CALENDAR START END OFFSET STAMP");
     }
-    let Planned::Of(p) = args::read_plan(rt, 3, 4, 5, 6)? else {
-        return Ok(());
-    };
-    let Got::Bytes(n) = file::file_at(rt, 2, cal)? else {
-        return Ok(());
-    };
-    report_on(rt, p, cal, n, work, out)
-}
-
-fn match_on(
-    rt: &impl Print,
-    offset: i64,
-    cal: &[u8],
-    n: usize,
-    query: &[u8],
-    k: usize,
-    work: &mut [u8],
-) -> io::Result<()> {
-    if n <= cal.len() {
-        if k <= query.len() {
-            let a = engine::matches(&cal[0..n], &query[0..k], offset, work);
-            print_answer(rt, a, query, &cal[0..n], work)?;
-        }
-    }
+    let p = read_plan(rt, 3)?;
+    let cal = file_at(rt, 2, &mut room.cal)?;
+    let a = engine::report(
+        cal,
+        p.start,
+        p.end,
+        p.offset,
+        p.stamp,
+        &mut room.work,
+        &mut room.out,
+    );
+    print_answer(rt, a, &room.out, cal, &mut room.work)?;
     Ok(())
 }
 
-fn match_query(
-    rt: &impl Runtime,
-    cal: &mut [u8],
-    query: &mut [u8],
-    work: &mut [u8],
-) -> io::Result<()> {
+fn match_query(rt: &impl Runtime, query: &mut [u8], room: &mut Room) -> Result<(), Stop> {
     if args::count(rt) != 5 {
-        return out::wrong(rt, b"match takes CALENDAR QUERY OFFSET");
+        return out::wrong(rt, "match takes CALENDAR QUERY OFFSET");
     }
-    let Offset::Of(offset) = args::offset_at(rt, 4)? else {
-        return Ok(());
-    };
-    let Got::Bytes(k) = query::query_at(rt, 3, work, query)? else {
-        return Ok(());
-    };
-    let Got::Bytes(n) = file::file_at(rt, 2, cal)? else {
-        return Ok(());
-    };
-    match_on(rt, offset, cal, n, query, k, work)
+    let offset = offset_at(rt, 4)?;
+    let query = query_at(rt, 3, &mut room.work, query)?;
+    let cal = file_at(rt, 2, &mut room.cal)?;
+    let a = engine::matches(cal, query, offset, &mut room.work);
+    print_answer(rt, a, query, cal, &mut room.work)?;
+    Ok(())
 }
 
-fn run(
-    rt: &impl Runtime,
-    cal: &mut [u8],
-    query: &mut [u8],
-    work: &mut [u8],
-    out: &mut [u8],
-) -> io::Result<()> {
+// Query buffer and room are two: a query in hex is read through the room's work buffer. With the runtime in one struct, each command would take them apart.
+fn run(rt: &impl Runtime, query: &mut [u8], room: &mut Room) -> Result<(), Stop> {
     let mut word = [0u8; 16];
-    let n = args::word_at(rt, 1, &mut word);
-    let command = cli::arguments::command_of(&word[..n]);
-    match command {
-        Command::Report => report(rt, cal, work, out),
-        Command::Verify => verify::run(rt, cal, work, out),
-        Command::Match => match_query(rt, cal, query, work),
-        Command::Batch => batch::batch::run(rt, cal, query, work, out),
-        Command::Other => out::wrong(rt, b"the first word is report, verify, match or batch"),
+    match command_of(args::word_at(rt, 1, &mut word)) {
+        Some(Command::Report) => report(rt, room),
+        Some(Command::Verify) => verify::run(rt, room),
+        Some(Command::Match) => match_query(rt, query, room),
+        Some(Command::Batch) => batch::batch::run(rt, query, room),
+        None => out::wrong(rt, "the first word is report, verify, match or batch"),
     }
 }
 
 fn main(rt: HostRuntime) -> io::Result<()> {
-    let mut cal = [0u8; 131072];
     let mut query = [0u8; 16384];
-    let mut work = [0u8; 131072];
-    let mut out = [0u8; 40000];
-    run(&rt, &mut cal, &mut query, &mut work, &mut out)
+    let mut room = Room {
+        cal: [0; 131072],
+        work: [0; 131072],
+        out: [0; 40000],
+    };
+    match run(&rt, &mut query, &mut room) {
+        Ok(()) => Ok(()),
+        Err(Stop::Said) => Ok(()),
+        Err(Stop::Io(error)) => Err(error),
+    }
 }

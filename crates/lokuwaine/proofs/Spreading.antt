@@ -1,9 +1,10 @@
 -- The arms of an answer, and a match call's promise spread over numbers.
 use Prim.Native.Nat.{ℕ}
-use mathlib.Core.Path.{◌≡◌, sym, ap, ◌∙◌, subst}
-use mathlib.Core.Bool.{Bool}
+use mathlib.Core.Path.{◌≡◌, refl, sym, ap, ◌∙◌, subst}
+use mathlib.Core.Bool.{Bool, true, false}
 use mathlib.Core.List.{List}
 use lib.IntN.{ℤ}
+use Rattle.std.specs.Int.{from_bool}
 use Rattle.engine.specs.Answers.{outcome_of}
 use Rattle.engine.specs.Matching.{MatchCall, Matched}
 use Rattle.engine.specs.Reporting.{ReportCall, Reported}
@@ -11,10 +12,16 @@ use Rattle.engine.specs.declared.Answer.{Answer}
 use Rattle.lokuwaine.specs.Spreading.{verdict_value, kind_of, value_of, line_in, spread_of, MatchSpread, ReportSpread}
 use Rattle.lokuwaine.specs.declared.Spread.{Spread}
 
+-- 1 for yes and 0 for no
+verdict_number : (b : Bool) → from_bool b ≡ verdict_value b
+unfolding verdict_value
+verdict_number true = refl
+verdict_number false = refl
+
 module _ {a : Answer} where
-  pub spread_verdict : {b : Bool} {v : ℕ} → a ≡ Answer.Verdict b → v ≡ verdict_value b → record { kind = 0; value = v; line = 0 } ≡ spread_of a
+  pub spread_verdict : {b : Bool} {v : ℕ} → a ≡ Answer.Verdict b → v ≡ from_bool b → record { kind = 0; value = v; line = 0 } ≡ spread_of a
   unfolding spread_of kind_of value_of line_in outcome_of
-  spread_verdict e q = ap (λ (n : ℕ). record { kind = 0; value = n; line = 0 }) q ∙ sym (ap spread_of e)
+  spread_verdict {b = b} e q = ap (λ (n : ℕ). record { kind = 0; value = n; line = 0 }) (q ∙ verdict_number b) ∙ sym (ap spread_of e)
 
   pub spread_length : {n : ℕ} → a ≡ Answer.Length n → record { kind = 1; value = n; line = 0 } ≡ spread_of a
   unfolding spread_of kind_of value_of line_in outcome_of

@@ -1,5 +1,5 @@
 // The two calls of `lokuwaine` as a static library exports them, for C and Rust.
-// Each hands its arguments on, and promises what the call does.
+// Each hands its arguments on, and promises what the call does. The arguments stand apart, and both crates have them so, for the C interface.
 #![tactic(auto)]
 
 ghost use Rattle.lokuwaine.specs.Spreading.{MatchSpread, ReportSpread};

@@ -2,10 +2,9 @@
 // The code that reads them is in the crate structure.
 #![tactic(auto)]
 
-// Is each line well formed and the nesting right, or which line is the first that is not?
-#[derive(Clone, Copy)]
-pub enum Structure {
-    Good,
+// What is wrong with lines or nesting.
+#[derive(Clone, Copy, PartialEq, Eq)]
+pub enum StructureError {
     // The first badly formed line.
     BadLine(usize),
     // Each line is well formed, and this one breaks the nesting.

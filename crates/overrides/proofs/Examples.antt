@@ -1,5 +1,6 @@
 -- The table of examples holds: a test for each claim, and what is so where it passes.
 -- All tests are computed at once.
+use Rattle.std.specs.Prelude.{None, Option, Some}
 use Prim.Native.Nat.{ℕ, zero, suc, ◌<◌}
 use mathlib.Core.Path.{◌≡◌, refl, sym, ap, subst, ◌∙◌}
 use mathlib.Core.Bool.{Bool, true, false, not, ◌&&◌}
@@ -18,7 +19,6 @@ use Rattle.time.specs.Days.{days_before_year, year_days, is_leap}
 use Rattle.periods.specs.BusyTypes.{is_busy}
 use Rattle.values.specs.TimeLists.{seconds_of, kind_number, same_kind}
 use Rattle.events.specs.declared.Event.{Event}
-use Rattle.events.specs.declared.EventRead.{EventRead}
 use Rattle.recurrence.specs.Instances.{clock_among, step_of, start_of, repeats, is_instance, occurs, default_length, length_by, is_zero_length, end_of}
 use Rattle.recurrence.specs.TimeRange.{ends_after, instance_in, EventIn}
 use Rattle.recurrence.proofs.Instances.{none_stands}
@@ -68,11 +68,11 @@ none_in_lem e gone a b (suc n) k h p =
     go false q here below = let d = eqb-false k n q in below (omega arith)
 
 -- an event of fewer than 32 instances, none of which is in range
-is_outside : List ℕ → ℕ → ℕ → EventRead → Bool
-is_outside gone a b EventRead.Broken = true
-is_outside gone a b (EventRead.Of e) = none_in e gone a b 31 && not (is_instance e 31)
+is_outside : List ℕ → ℕ → ℕ → Option Event → Bool
+is_outside gone a b None = true
+is_outside gone a b (Some e) = none_in e gone a b 31 && not (is_instance e 31)
 
-is_outside_lem : (gone : List ℕ) (a b : ℕ) (e : Event) → is_outside gone a b (EventRead.Of e) ≡ true → EventIn e gone a b → ⊥
+is_outside_lem : (gone : List ℕ) (a b : ℕ) (e : Event) → is_outside gone a b (Some e) ≡ true → EventIn e gone a b → ⊥
 unfolding is_outside
 is_outside_lem gone a b e h i = go (ltb i.number 31) refl
   where
@@ -86,13 +86,13 @@ all_outside : List VEvent → List VEvent → ℕ → ℕ → Bool
 all_outside all [] a b = true
 all_outside all (v ∷ vs) a b = is_outside (removed_from all v) a b v.event && all_outside all vs a b
 
-all_outside_lem : (all vs : List VEvent) (a b : ℕ) → all_outside all vs a b ≡ true → (v : VEvent) (e : Event) → Memᴰ v vs → v.event ≡ EventRead.Of e
+all_outside_lem : (all vs : List VEvent) (a b : ℕ) → all_outside all vs a b ≡ true → (v : VEvent) (e : Event) → Memᴰ v vs → v.event ≡ Some e
     → EventIn e (removed_from all v) a b → ⊥
 unfolding all_outside
 all_outside_lem all [] a b h v e i q = absurd (Memᴰ.not-nil i)
 all_outside_lem all (w ∷ vs) a b h v e (Memᴰ.head p) q =
     is_outside_lem (removed_from all v) a b e
-    (subst (λ (x : EventRead). is_outside (removed_from all v) a b x ≡ true) q
+    (subst (λ (x : Option Event). is_outside (removed_from all v) a b x ≡ true) q
     (subst (λ (x : VEvent). is_outside (removed_from all x) a b x.event ≡ true) (sym p) (and_left (is_outside (removed_from all w) a b w.event) _ h)))
 all_outside_lem all (w ∷ vs) a b h v e (Memᴰ.tail i) q =
     all_outside_lem all vs a b (and_right (is_outside (removed_from all w) a b w.event) _ h) v e i q

@@ -1,5 +1,6 @@
 -- The tests of refusal 10 say what the rules for the reader say: `alone_iff`, `beside_iff` and `keeps_iff`.
 -- What an override that keeps them does to its master.
+use Rattle.std.specs.Prelude.{None, Option, Some}
 use Prim.Native.Nat.{ℕ, ◌≤◌}
 use mathlib.Core.Path.{◌≡◌, refl, sym, ap, ◌∙◌}
 use mathlib.Core.Bool.{Bool, true, false, not, ◌&&◌, ◌||◌}
@@ -14,10 +15,10 @@ use Rattle.seconds.proofs.Seconds.{among_iff}
 use Rattle.time.specs.declared.date_time.Kind.{Kind}
 use Rattle.values.specs.declared.times.Time.{Time}
 use Rattle.values.specs.TimeLists.{seconds_of, kind_number, same_kind}
-use Rattle.events.specs.Events.{kind_number as event_kind_number}
+use Rattle.time.specs.contracts.date_time.Kind.{the_type}
+use denote.Enum.Bare.{sameb}
 use Rattle.events.specs.declared.Event.{Event}
 use Rattle.events.specs.declared.Repeat.{Repeat}
-use Rattle.events.specs.declared.EventRead.{EventRead}
 use Rattle.overrides.specs.Lists.{some, is_empty, two_or_more}
 use Rattle.overrides.specs.VEvents.{VEvent, is_master, is_override, shares_uid, MasterFound, nowhere, found, master_of, Master, Override, SharesUid, FirstMaster}
 use Rattle.overrides.specs.Instances.{names_instance, removed_from, moved, Replaces}
@@ -45,12 +46,18 @@ pub same_kind_iff : (a b : Kind) → (same_kind a b ≡ true) ↔ (a ≡ b)
 unfolding same_kind
 same_kind_iff a b = (λ h. kind_is a b (eqb-true _ _ h), λ e. eq-eqb _ _ (ap kind_number e))
 
--- kinds have the same numbers in values and in events
-pub kind_number_lem : (k : Kind) → event_kind_number k ≡ kind_number k
-unfolding event_kind_number kind_number
-kind_number_lem Kind.Utc = refl
-kind_number_lem Kind.Floating = refl
-kind_number_lem Kind.Date = refl
+-- kinds are equal where their numbers are
+pub kinds_equal : (a b : Kind) → sameb the_type a b ≡ same_kind a b
+unfolding same_kind kind_number
+kinds_equal Kind.Utc Kind.Utc = refl
+kinds_equal Kind.Utc Kind.Floating = refl
+kinds_equal Kind.Utc Kind.Date = refl
+kinds_equal Kind.Floating Kind.Utc = refl
+kinds_equal Kind.Floating Kind.Floating = refl
+kinds_equal Kind.Floating Kind.Date = refl
+kinds_equal Kind.Date Kind.Utc = refl
+kinds_equal Kind.Date Kind.Floating = refl
+kinds_equal Kind.Date Kind.Date = refl
 
 other_kind_iff : (e : Event) (k : Kind) → (other_kind e k ≡ false) ↔ (k ≡ e.kind)
 unfolding other_kind
@@ -62,6 +69,13 @@ no_rule_iff Repeat.Once = (λ h. refl, λ h. refl)
 no_rule_iff Repeat.Forever = (λ h. clash refl h, λ h. ap has_rule h)
 no_rule_iff (Repeat.Count n) = (λ h. clash refl h, λ h. ap has_rule h)
 no_rule_iff (Repeat.Until t) = (λ h. clash refl h, λ h. ap has_rule h)
+
+pub rule_given : (r : Repeat) → (r ≡ Repeat.Once → ⊥) → has_rule r ≡ true
+unfolding has_rule
+rule_given Repeat.Once h = absurd (h refl)
+rule_given Repeat.Forever h = refl
+rule_given (Repeat.Count n) h = refl
+rule_given (Repeat.Until t) h = refl
 
 -- ---- by itself
 
@@ -89,10 +103,10 @@ override_alone_iff v e o = (
 when_override : (v : VEvent) (t : Bool) → (is_override v && t) ≡ false → Override v → t ≡ false
 when_override v t h o = not_so t (λ q. clash (and_both ((override_iff v).1 o) q) h)
 
-event_keeps : (v : VEvent) (x : EventRead) → v.event ≡ x → two_or_more v.uids ≡ false → event_breaks v x ≡ false → KeepsAlone v
+event_keeps : (v : VEvent) (x : Option Event) → v.event ≡ x → two_or_more v.uids ≡ false → event_breaks v x ≡ false → KeepsAlone v
 unfolding event_breaks
-event_keeps v EventRead.Broken q u h = clash refl h
-event_keeps v (EventRead.Of e) q u h =
+event_keeps v None q u h = clash refl h
+event_keeps v (Some e) q u h =
     record {
       its_event = e;
       is_event_holds = q;
@@ -101,7 +115,7 @@ event_keeps v (EventRead.Of e) q u h =
       as_override = λ o. (override_alone_iff v e o).0 (when_override v _ (or_right (some (λ t. other_kind e t.kind) v.exceptions) _ h) o);
     }
 
-keeps_event : (v : VEvent) (k : KeepsAlone v) → event_breaks v (EventRead.Of k.its_event) ≡ false
+keeps_event : (v : VEvent) (k : KeepsAlone v) → event_breaks v (Some k.its_event) ≡ false
 unfolding event_breaks
 keeps_event v k =
     or_neither ((none_iff (λ t. other_kind k.its_event t.kind) v.exceptions).1 (λ t m. (other_kind_iff k.its_event t.kind).1 (k.exceptions_kind t m)))
@@ -120,7 +134,7 @@ alone_iff v = (
 
 -- ---- against the master
 
-fits_iff : (m : VEvent) (e : Event) (t : Time) → (misnames m (EventRead.Of e) t.kind t.second ≡ false) ↔ FitsMaster m e t
+fits_iff : (m : VEvent) (e : Event) (t : Time) → (misnames m (Some e) t.kind t.second ≡ false) ↔ FitsMaster m e t
 unfolding misnames
 fits_iff m e t = (
   λ h.
@@ -141,14 +155,14 @@ fits_alone : (m : VEvent) (t : Time) → misplaced t.kind t.second (found m) ≡
 unfolding misplaced
 fits_alone m t h k =
     let a : not (breaks_alone m) ≡ true = ap not ((alone_iff m).1 k) in
-    (fits_iff m k.its_event t).0 (ap (λ (x : EventRead). misnames m x t.kind t.second) (sym k.is_event_holds) ∙ not_so _ (λ q. clash (and_both a q) h))
+    (fits_iff m k.its_event t).0 (ap (λ (x : Option Event). misnames m x t.kind t.second) (sym k.is_event_holds) ∙ not_so _ (λ q. clash (and_both a q) h))
 
 alone_fits : (m : VEvent) (t : Time) → ((k : KeepsAlone m) → FitsMaster m k.its_event t) → misplaced t.kind t.second (found m) ≡ false
 unfolding misplaced
 alone_fits m t f =
     not_so _ (λ q.
     let k = (alone_iff m).0 (not-true _ (and_left (not (breaks_alone m)) _ q)) in
-    clash (and_right (not (breaks_alone m)) _ q) (ap (λ (x : EventRead). misnames m x t.kind t.second) k.is_event_holds ∙ (fits_iff m k.its_event t).1 (f k)))
+    clash (and_right (not (breaks_alone m)) _ q) (ap (λ (x : Option Event). misnames m x t.kind t.second) k.is_event_holds ∙ (fits_iff m k.its_event t).1 (f k)))
 
 placed_by : (all : List VEvent) (u : List ℕ) (t : Time) (x : MasterFound) → master_of u all ≡ x → misplaced t.kind t.second x ≡ false → HasMaster all u t
 unfolding misplaced

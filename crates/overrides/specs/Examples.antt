@@ -1,6 +1,6 @@
 -- Small files of VEVENTs and what R-1 and R-3 make of each: the line of refusal 10, or the instances that are left.
 -- Days are those of March 2024, and the offset is 0.
-use Rattle.std.specs.Prelude.{ℕ, zero, suc, ◌+◌, ◌-◌, ◌*◌, ◌≡◌, true, cond}
+use Rattle.std.specs.Prelude.{ℕ, zero, suc, ◌+◌, ◌-◌, ◌*◌, ◌≡◌, true, cond, None, Option, Some}
 use Prim.Native.String.{String}
 use mathlib.Core.List.{List, [], ◌∷◌, ◌++◌, Memᴰ, map}
 use Rattle.ascii.specs.Words.{ascii}
@@ -12,7 +12,6 @@ use Rattle.values.specs.declared.times.Time.{Time}
 use Rattle.events.specs.declared.Ending.{Ending}
 use Rattle.events.specs.declared.Repeat.{Repeat}
 use Rattle.events.specs.declared.Event.{Event}
-use Rattle.events.specs.declared.EventRead.{EventRead}
 use Rattle.recurrence.specs.Instances.{start_of, occurs}
 use Rattle.recurrence.specs.TimeRange.{EventIn}
 use Rattle.overrides.specs.VEvents.{VEvent}
@@ -27,7 +26,7 @@ pub record Written : Type 0 where
   pub uids : List String
   pub recurrence_ids : List Time
   pub exceptions : List Time
-  pub event : EventRead
+  pub event : Option Event
 
 -- one behind the other, the first at line n
 unfoldable pub placed : ℕ → List Written → List VEvent
@@ -54,9 +53,9 @@ starts_from e gone k zero = []
 starts_from e gone k (suc n) = cond (occurs e gone k) ((start_of e k - epoch) ∷ []) [] ++ starts_from e gone (k + 1) n
 
 -- of busy time, the first 31 instances
-unfoldable pub starts_of : List ℕ → EventRead → List ℕ
-starts_of gone EventRead.Broken = []
-starts_of gone (EventRead.Of e) = cond (is_busy e.busy) (starts_from e gone 0 31) []
+unfoldable pub starts_of : List ℕ → Option Event → List ℕ
+starts_of gone None = []
+starts_of gone (Some e) = cond (is_busy e.busy) (starts_from e gone 0 31) []
 
 unfoldable pub starts_in : List VEvent → List VEvent → List ℕ
 starts_in all [] = []
@@ -74,7 +73,7 @@ abbrev pub Holds : Claim → Type 0
 Holds (refused n ws) = broken_line (file_of ws) ≡ broken_at n
 Holds (starts ss ws) = (broken_line (file_of ws) ≡ all_keep) × (starts_in (file_of ws) (file_of ws) ≡ ss)
 Holds (outside a b ws) =
-    (v : VEvent) (e : Event) → Memᴰ v (file_of ws) → v.event ≡ EventRead.Of e → EventIn e (removed_from (file_of ws) v) a b → ⊥
+    (v : VEvent) (e : Event) → Memᴰ v (file_of ws) → v.event ≡ Some e → EventIn e (removed_from (file_of ws) v) a b → ⊥
 
 abbrev pub All : List Claim → Type 0
 All [] = Unit {0}
@@ -105,8 +104,8 @@ unfoldable pub mornings : List ℕ → List ℕ
 mornings [] = []
 mornings (d ∷ ds) = at d 8 ∷ mornings ds
 
-unfoldable pub event_at : Kind → ℕ → Ending → Repeat → BusyType → EventRead
-event_at k s x r b = EventRead.Of (record {
+unfoldable pub event_at : Kind → ℕ → Ending → Repeat → BusyType → Option Event
+event_at k s x r b = Some (record {
   kind = k;
   start = s;
   ending = x;
@@ -117,18 +116,18 @@ event_at k s x r b = EventRead.Of (record {
 })
 
 -- DTSTART on day 11 at 08:00 and nothing else
-unfoldable pub bare : EventRead
+unfoldable pub bare : Option Event
 bare = event_at Kind.Utc (at 11 8) Ending.None Repeat.Once BusyType.Busy
 
 -- an hour from here
-unfoldable pub hour : ℕ → Repeat → BusyType → EventRead
+unfoldable pub hour : ℕ → Repeat → BusyType → Option Event
 hour s r b = event_at Kind.Utc s (Ending.Lasts (record { days = 0; seconds = 3_600; timed = true })) r b
 
 -- an hour from 08:00 on day 11; the same on five days, by COUNT=5
-unfoldable pub once : EventRead
+unfoldable pub once : Option Event
 once = hour (at 11 8) Repeat.Once BusyType.Busy
 
-unfoldable pub five : EventRead
+unfoldable pub five : Option Event
 five = hour (at 11 8) (Repeat.Count 5) BusyType.Busy
 
 -- ---- VEVENTs
@@ -147,7 +146,7 @@ two_uids u = record { lines = 5; uids = "u" ∷ u ∷ []; recurrence_ids = []; e
 
 -- the same with DTEND beside DURATION
 unfoldable pub broken : Written
-broken = record { lines = 5; uids = "u" ∷ []; recurrence_ids = []; exceptions = []; event = EventRead.Broken }
+broken = record { lines = 5; uids = "u" ∷ []; recurrence_ids = []; exceptions = []; event = None }
 
 -- DATE on day 11, on three days
 unfoldable pub whole_days : Written
@@ -180,7 +179,7 @@ unfoldable pub later : Written
 later = moved_to "u" (utc 12) (at 12 10)
 
 -- how many lines, UIDs, RECURRENCE-IDs, EXDATEs, and the event
-unfoldable pub override_with : ℕ → List String → List Time → List Time → EventRead → Written
+unfoldable pub override_with : ℕ → List String → List Time → List Time → Option Event → Written
 override_with n us ts xs e = record { lines = n; uids = us; recurrence_ids = ts; exceptions = xs; event = e }
 
 -- ---- the table
@@ -200,7 +199,7 @@ table =
     ∷ refused 8 (master "u" ∷ override_with 4 ("u" ∷ []) (utc 12 ∷ utc 13 ∷ []) [] bare ∷ [])
     ∷ refused 8 (master "u" ∷ override_with 4 ("u" ∷ []) (utc 12 ∷ []) [] five ∷ [])
     ∷ refused 8 (master "u" ∷ override_with 4 ("u" ∷ []) (utc 12 ∷ []) (utc 13 ∷ []) bare ∷ [])
-    ∷ refused 8 (master "u" ∷ override_with 5 ("u" ∷ []) (utc 12 ∷ []) [] EventRead.Broken ∷ [])
+    ∷ refused 8 (master "u" ∷ override_with 5 ("u" ∷ []) (utc 12 ∷ []) [] None ∷ [])
     -- against its master the override offends, before or behind it: there is none; another kind; excluded; no instance
     ∷ refused 2 (later ∷ [])
     ∷ refused 8 (master "v" ∷ later ∷ [])

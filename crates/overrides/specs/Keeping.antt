@@ -1,12 +1,11 @@
 -- Refusal 10 of VEVENTs for the reader (requests R-1 and R-3): a field for each rule.
 -- That the tests of Rules say the same is in proofs/Keeping.antt.
-use Rattle.std.specs.Prelude.{ℕ, ◌≤◌, ◌≡◌, length}
+use Rattle.std.specs.Prelude.{ℕ, ◌≤◌, ◌≡◌, length, Some}
 use mathlib.Core.List.{List, [], ◌∷◌, ◌++◌, Memᴰ}
 use Rattle.values.specs.declared.times.Time.{Time}
 use Rattle.values.specs.TimeLists.{seconds_of}
 use Rattle.events.specs.declared.Event.{Event}
 use Rattle.events.specs.declared.Repeat.{Repeat}
-use Rattle.events.specs.declared.EventRead.{EventRead}
 use Rattle.overrides.specs.VEvents.{VEvent, Master, Override, SharesUid, FirstMaster}
 use Rattle.overrides.specs.Instances.{NamesInstance}
 
@@ -23,7 +22,7 @@ pub record OverrideAlone (v : VEvent) (e : Event) : Type 0 where
 pub record KeepsAlone (v : VEvent) : Type 0 where
   -- it keeps the rules of document 01, and so is an event
   pub its_event : Event
-  pub is_event_holds : v.event ≡ EventRead.Of its_event
+  pub is_event_holds : v.event ≡ Some its_event
   pub few_uids : length v.uids ≤ 1
   pub exceptions_kind : (t : Time) → Memᴰ t v.exceptions → t.kind ≡ its_event.kind
   pub as_override : Override v → OverrideAlone v its_event

@@ -1,12 +1,11 @@
 -- Refusal 10 of VEVENTs (requests R-1 and R-3): which rules one breaks by itself, and which beside the others of its file.
 -- Of two that clash the later breaks the rule, and of an override and its master the override. Keeping has the rules for the reader.
-use Rattle.std.specs.Prelude.{ℕ, Bool, true, false, cond, not, ◌&&◌, ◌||◌, List, [], ◌∷◌, ◌++◌}
+use Rattle.std.specs.Prelude.{ℕ, Bool, true, false, cond, not, ◌&&◌, ◌||◌, List, [], ◌∷◌, ◌++◌, None, Option, Some}
 use Rattle.seconds.specs.Seconds.{among}
 use Rattle.time.specs.declared.date_time.Kind.{Kind}
 use Rattle.values.specs.TimeLists.{seconds_of, same_kind}
 use Rattle.events.specs.declared.Event.{Event}
 use Rattle.events.specs.declared.Repeat.{Repeat}
-use Rattle.events.specs.declared.EventRead.{EventRead}
 use Rattle.overrides.specs.Lists.{some, is_empty, two_or_more}
 use Rattle.overrides.specs.VEvents.{VEvent, is_master, is_override, shares_uid, MasterFound, nowhere, found, master_of}
 use Rattle.overrides.specs.Instances.{names_instance}
@@ -29,9 +28,9 @@ unfoldable pub override_breaks : VEvent → Event → Bool
 override_breaks v e = is_empty v.uids || two_or_more v.recurrence_ids || not (is_empty v.exceptions) || has_rule e.repeat
 
 -- by its event: the rules of document 01, and the kinds of exceptions
-unfoldable pub event_breaks : VEvent → EventRead → Bool
-event_breaks v EventRead.Broken = true
-event_breaks v (EventRead.Of e) = some (λ t. other_kind e t.kind) v.exceptions || is_override v && override_breaks v e
+unfoldable pub event_breaks : VEvent → Option Event → Bool
+event_breaks v None = true
+event_breaks v (Some e) = some (λ t. other_kind e t.kind) v.exceptions || is_override v && override_breaks v e
 
 -- any VEVENT: a second UID too
 unfoldable pub breaks_alone : VEvent → Bool
@@ -48,9 +47,9 @@ unfoldable pub overrides_clash : VEvent → VEvent → Bool
 overrides_clash v w = shares_uid v w && some (λ t. among t.second (seconds_of w.recurrence_ids)) v.recurrence_ids
 
 -- a RECURRENCE-ID of kind k at second s does not fit the event of the master m: its kind is another, no instance starts there, or it is excluded
-unfoldable pub misnames : VEvent → EventRead → Kind → ℕ → Bool
-misnames m EventRead.Broken k s = false
-misnames m (EventRead.Of e) k s = other_kind e k || not (names_instance e s) || among s (seconds_of m.exceptions)
+unfoldable pub misnames : VEvent → Option Event → Kind → ℕ → Bool
+misnames m None k s = false
+misnames m (Some e) k s = other_kind e k || not (names_instance e s) || among s (seconds_of m.exceptions)
 
 -- a RECURRENCE-ID must have a master; one that breaks a rule by itself is not asked further
 unfoldable pub misplaced : Kind → ℕ → MasterFound → Bool

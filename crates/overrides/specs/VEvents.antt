@@ -1,10 +1,10 @@
 -- VEVENTs (request R-3): what is read of one, which of them are masters and which overrides,
 -- and how a UID ties an override to its master.
-use Rattle.std.specs.Prelude.{ℕ, ◌≡◌, Bool, cond, not, ◌&&◌}
+use Rattle.std.specs.Prelude.{ℕ, ◌≡◌, Bool, cond, not, ◌&&◌, Option}
+use Rattle.events.specs.declared.Event.{Event}
 use mathlib.Core.List.{List, [], ◌∷◌, ◌++◌, Memᴰ}
 use Rattle.ascii.specs.Names.{same_bytes}
 use Rattle.values.specs.declared.times.Time.{Time}
-use Rattle.events.specs.declared.EventRead.{EventRead}
 use Rattle.overrides.specs.Lists.{some, is_empty}
 
 -- what the lines directly in a VEVENT give
@@ -18,7 +18,7 @@ pub record VEvent : Type 0 where
   -- all times of every EXDATE
   pub exceptions : List Time
   -- its event, where it keeps the rules of document 01
-  pub event : EventRead
+  pub event : Option Event
 
 -- without RECURRENCE-ID it is a master, whether it repeats or not
 unfoldable pub is_master : VEvent → Bool

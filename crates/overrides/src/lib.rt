@@ -9,7 +9,7 @@ ghost use Rattle.events.specs.Sizes.{EventSmall};
 ghost use Rattle.overrides.specs.Instances.{names_instance};
 ghost use Rattle.overrides.specs.Rules.{has_rule};
 
-use events::{Event, Repeat, rules};
+use events::{Event, Repeat};
 use recurrence::instance;
 use time::date_time::Kind;
 
@@ -17,19 +17,14 @@ use time::date_time::Kind;
 pub fn same_kind(a: Kind, b: Kind) -> bool
     ensures { result ≡ same_kind a b }
 {
-    rules::kind_number(a) == rules::kind_number(b)
+    a == b
 }
 
 // Is there an RRULE?
 pub fn has_rule(r: Repeat) -> bool
     ensures { result ≡ has_rule r }
 {
-    match r {
-        Repeat::Once => false,
-        Repeat::Forever => true,
-        Repeat::Count(_) => true,
-        Repeat::Until(_) => true,
-    }
+    !matches!(r, Repeat::Once)
 }
 
 // Does an instance start at s, whether it is taken away or not? One division finds the only number that it can have.
@@ -38,10 +33,9 @@ pub fn names_instance(e: Event, s: u64) -> bool
     requires s_le_last_second { s ≤ last_second }
     ensures { result ≡ names_instance e s }
 {
-    let start = e.start;
-    if s < start {
+    if s < e.start {
         return false;
     }
-    let k = (s - start) / instance::step_of(e);
+    let k = (s - e.start) / instance::step_of(e);
     instance::is_instance(e, k) & (instance::start_of(e, k) == s)
 }

@@ -11,8 +11,7 @@ use borrow.Author.Tests.{ltb-true, ltb-false}
 use Rattle.ascii.proofs.Bools.{and_left, and_right, and_both}
 use Rattle.time.specs.Limits.{last_second}
 use Rattle.periods.specs.declared.BusyType.{BusyType}
-use Rattle.periods.specs.BusyTypes.{report_place, BusyPeriod}
-use Rattle.periods.proofs.BusyTypes.{busy_place}
+use Rattle.periods.specs.BusyTypes.{report_place, is_busy, BusyPeriod}
 use Rattle.events.specs.declared.Event.{Event}
 use Rattle.recurrence.specs.Instances.{utc_clock_of, start_of, end_of, occurs, instances_at_most}
 use Rattle.recurrence.specs.TimeRange.{instance_in}
@@ -26,49 +25,47 @@ use Rattle.pieces.proofs.Columns.{stored_none, stored_full, stored_piece, stored
 
 -- ---- one period
 
-module _ {place from to : ℕ} (busy : BusyType) (start end a b : ℕ) (e : place ≡ report_place busy) (f : from ≡ max a start) (t : to ≡ min b end) where
-  tested : (ltb place 3 && ltb from to) ≡ is_piece a b (busy_period busy start end)
+module _ {busy_time : Bool} {from to : ℕ} (busy : BusyType) (start end a b : ℕ) (e : busy_time ≡ is_busy busy) (f : from ≡ max a start) (t : to ≡ min b end) where
+  tested : (busy_time && ltb from to) ≡ is_piece a b (busy_period busy start end)
   unfolding is_piece clipped
   tested =
-      ap (λ (i : ℕ). ltb i 3 && ltb from to) e
-      ∙ ap (λ (i : ℕ). ltb (report_place busy) 3 && ltb i to) f
-      ∙ ap (λ (i : ℕ). ltb (report_place busy) 3 && ltb (max a start) i) t
-      ∙ ap (λ (y : Bool). y && ltb (max a start) (min b end)) (busy_place busy)
+      ap (λ (y : Bool). y && ltb from to) e
+      ∙ ap (λ (i : ℕ). is_busy busy && ltb i to) f
+      ∙ ap (λ (i : ℕ). is_busy busy && ltb (max a start) i) t
 
-  clipped_numbers : (o : List ℕ) (i : ℕ) → sets o i (from ∷ to ∷ place ∷ []) ≡ sets o i (max a start ∷ min b end ∷ report_place busy ∷ [])
+  clipped_numbers : (o : List ℕ) (i : ℕ) → sets o i (from ∷ to ∷ report_place busy ∷ []) ≡ sets o i (max a start ∷ min b end ∷ report_place busy ∷ [])
   clipped_numbers o i =
-      ap (λ (x : ℕ). sets o i (x ∷ to ∷ place ∷ [])) f
-      ∙ ap (λ (x : ℕ). sets o i (max a start ∷ x ∷ place ∷ [])) t
-      ∙ ap (λ (x : ℕ). sets o i (max a start ∷ min b end ∷ x ∷ [])) e
+      ap (λ (x : ℕ). sets o i (x ∷ to ∷ report_place busy ∷ [])) f
+      ∙ ap (λ (x : ℕ). sets o i (max a start ∷ x ∷ report_place busy ∷ [])) t
 
   module _ {o : List ℕ} {n : ℕ} where
-    pub piece_stored : {o' : List ℕ} → (ltb n 513 && ltb place 3 && ltb from to) ≡ true → o' ≡ sets o (3 * n) (from ∷ to ∷ place ∷ [])
+    pub piece_stored : {o' : List ℕ} → (ltb n 513 && busy_time && ltb from to) ≡ true → o' ≡ sets o (3 * n) (from ∷ to ∷ report_place busy ∷ [])
         → Stored o n (piece_of a b (busy_period busy start end)) o' (n + 1)
     unfolding clipped
     piece_stored {o'} h q =
-        let m = and_left (ltb n 513 && ltb place 3) _ h in
-        let k = and_both (and_right (ltb n 513) _ m) (and_right (ltb n 513 && ltb place 3) _ h) in
+        let m = and_left (ltb n 513 && busy_time) _ h in
+        let k = and_both (and_right (ltb n 513) _ m) (and_right (ltb n 513 && busy_time) _ h) in
         stored_as
         (stored_piece {o = o} {o' = o'} {n = n} {r = n + 1}
         (record { busy = busy; period = clipped a b (busy_period busy start end).period })
         (ltb-true n 513 (and_left (ltb n 513) _ m)) (q ∙ clipped_numbers o (3 * n)) refl)
         (sym (is_piece_holds a b (busy_period busy start end) (sym tested ∙ k)))
 
-    pub piece_left : (ltb n 513 && ltb place 3 && ltb from to) ≡ false → Stored o n (piece_of a b (busy_period busy start end)) o n
+    pub piece_left : (ltb n 513 && busy_time && ltb from to) ≡ false → Stored o n (piece_of a b (busy_period busy start end)) o n
     piece_left h = go (ltb n 513) refl h
       where
-        go : (y : Bool) → ltb n 513 ≡ y → (y && ltb place 3 && ltb from to) ≡ false → Stored o n (piece_of a b (busy_period busy start end)) o n
+        go : (y : Bool) → ltb n 513 ≡ y → (y && busy_time && ltb from to) ≡ false → Stored o n (piece_of a b (busy_period busy start end)) o n
         go true q k = stored_as (stored_none o n) (sym (is_none a b (busy_period busy start end) (sym tested ∙ k)))
         go false q k = stored_full o n _ (ltb-false n 513 q)
 
 -- the numbers of a piece are small
-pub piece_small : {to : ℕ} (place from n b end : ℕ) → to ≡ min b end → b ≤ last_second → (ltb n 513 && ltb place 3 && ltb from to) ≡ true
-    → (n < 513) × (from ≤ last_second) × (to ≤ last_second) × (place ≤ 3)
-piece_small {to} place from n b end t l h =
-    let m = and_left (ltb n 513 && ltb place 3) _ h in
-    let r = ltb-true from to (and_right (ltb n 513 && ltb place 3) _ h) in
+pub piece_small : {to : ℕ} (busy_time : Bool) (from n b end : ℕ) → to ≡ min b end → b ≤ last_second → (ltb n 513 && busy_time && ltb from to) ≡ true
+    → (n < 513) × (from ≤ last_second) × (to ≤ last_second)
+piece_small {to} busy_time from n b end t l h =
+    let m = and_left (ltb n 513 && busy_time) _ h in
+    let r = ltb-true from to (and_right (ltb n 513 && busy_time) _ h) in
     let s : to ≤ last_second = omega (arith) in
-    (ltb-true n 513 (and_left (ltb n 513) _ m), omega arith, s, omega (arith, ltb-true place 3 (and_right (ltb n 513) _ m)))
+    (ltb-true n 513 (and_left (ltb n 513) _ m), omega arith, s)
 
 -- ---- one instance
 

@@ -15,8 +15,8 @@ use Rattle.periods.specs.declared.Period.{Period}
 use Rattle.periods.specs.declared.BusyType.{BusyType}
 use Rattle.periods.specs.Periods.{period, second_in}
 use Rattle.periods.proofs.Periods.{second_in_ends, second_in_true}
-use Rattle.periods.specs.BusyTypes.{report_place, is_busy, same_busy, BusyPeriod}
-use Rattle.periods.proofs.BusyTypes.{same_busy_iff, busy_place}
+use Rattle.periods.specs.BusyTypes.{is_busy, same_busy, BusyPeriod}
+use Rattle.periods.proofs.BusyTypes.{same_busy_iff}
 use Rattle.events.specs.Events.{Entry, event}
 use Rattle.events.specs.Sizes.{EventsSmall}
 use Rattle.events.specs.declared.Event.{Event}
@@ -260,14 +260,14 @@ pub no_pieces : (a b : ℕ) (e : Event) (gone : List ℕ) → is_zero_length e �
 unfolding busy_pieces busy_periods gathered stated_periods instance_periods
 no_pieces a b e gone h = ap (pieces_of a b) (append-nil (event_periods e gone)) ∙ empty_event e gone h a b
 
--- by the test that the code makes of its place in a report and of its length
-pub no_event_pieces : (e : Event) {p : ℕ} {z : Bool} → p ≡ report_place e.busy → z ≡ is_zero_length e → (ltb p 3 && not z) ≡ false
+-- by the test that the code makes of its type and of its length
+pub no_event_pieces : (e : Event) {p z : Bool} → p ≡ is_busy e.busy → z ≡ is_zero_length e → (p && not z) ≡ false
     → (gone : List ℕ) (a b : ℕ) → pieces_of a b (event_periods e gone) ≡ []
-no_event_pieces e {p} {z} q l h = go (ltb p 3) refl h
+no_event_pieces e {p} {z} q l h = go p refl h
   where
-    go : (t : Bool) → ltb p 3 ≡ t → (t && not z) ≡ false → (gone : List ℕ) (a b : ℕ) → pieces_of a b (event_periods e gone) ≡ []
+    go : (t : Bool) → p ≡ t → (t && not z) ≡ false → (gone : List ℕ) (a b : ℕ) → pieces_of a b (event_periods e gone) ≡ []
     go true u v gone = empty_event e gone (sym l ∙ not-false z v)
-    go false u v gone = free_event e gone (sym (busy_place e.busy) ∙ ap (λ (i : ℕ). ltb i 3) (sym q) ∙ u)
+    go false u v gone = free_event e gone (sym q ∙ u)
 
 -- ---- for the reader: which pieces there are
 

@@ -1,8 +1,11 @@
 // Storing the busy pieces of one period and of one event, from a up to, but not including, b; 513 pieces are enough.
 // A piece is three numbers of a column: its start, its end, and the place of its type in a report.
+// The range is two numbers: `store_period`, which docs/TRACE.md names, does not ask a < b, so a type of both would ask more of its callers.
+// The column is lent with its count (no heap), so the bound of the count stays in the contracts.
 ghost use Rattle.std.specs.Prelude.{◌≡◌, false, List, [], ◌∷◌, ℕ, ◌*◌, ◌≤◌, ◌<◌, min, max, length};
 ghost use Rattle.std.proofs.lemmas.List.Edits.{sets};
 ghost use Rattle.time.specs.Limits.{last_second};
+ghost use Rattle.periods.specs.BusyTypes.{report_place};
 ghost use Rattle.seconds.specs.Seconds.{Ordered};
 ghost use Rattle.events.specs.Sizes.{EventSmall};
 ghost use Rattle.pieces.specs.BusyPeriods.{instance_period, event_periods, busy_period};
@@ -13,31 +16,18 @@ use events::{Event, rules};
 use periods::BusyType;
 use recurrence::{instance, time_range};
 
-fn greater(a: u64, s: u64) -> u64
-    ensures { result ≡ max a s }
-{
-    if a < s { s } else { a }
-}
-
-fn lesser(b: u64, t: u64) -> u64
-    ensures { result ≡ min b t }
-{
-    if t < b { t } else { b }
-}
-
-// Three numbers behind n pieces.
-fn put_piece(column: &mut [u32], n: usize, from: u64, to: u64, place: usize)
+// Three numbers behind n pieces. No slice of structs: `Stored` and `Room` say what the column's numbers are (docs/CONTRACTS.md).
+fn put_piece(column: &mut [u32], n: usize, from: u64, to: u64, busy: BusyType)
     requires room { Room column.old }
     requires n_bound { n < 513 }
     requires from_le_last_second { from ≤ last_second }
     requires to_le_last_second { to ≤ last_second }
-    requires place_bound { place ≤ 3 }
-    ensures { column.new ≡ sets column.old (3 * n) (from ∷ to ∷ place ∷ []) }
+    ensures { column.new ≡ sets column.old (3 * n) (from ∷ to ∷ report_place busy ∷ []) }
 {
     let at = 3 * n;
     column[at] = from as u32;
     column[at + 1] = to as u32;
-    column[at + 2] = place as u32;
+    column[at + 2] = periods::report_place(busy) as u32;
 }
 
 // The piece of a period, where it is busy time and has a second in the range.
@@ -55,11 +45,10 @@ pub fn store_period(
     requires b_le_last_second { b ≤ last_second }
     ensures { Stored column.old n (piece_of a b (busy_period busy start end)) column.new result }
 {
-    let place = periods::report_place(busy);
-    let from = greater(a, start);
-    let to = lesser(b, end);
-    if (n < 513) & (place < 3) & (from < to) {
-        put_piece(column, n, from, to, place);
+    let from = a.max(start);
+    let to = b.min(end);
+    if (n < 513) & busy.is_busy() & (from < to) {
+        put_piece(column, n, from, to, busy);
         n + 1
     } else {
         n
@@ -117,6 +106,7 @@ fn store_instances(
     requires b_le_last_second { b ≤ last_second }
     ensures { Stored column.old first (pieces_of a b (event_periods e gone.now)) column.new result }
 {
+    // A `while`: it ends where no room is left or by what the event says of start k.
     let mut n = first;
     let mut k = time_range::first_candidate(e, a);
     while (n < 513) & time_range::starts_before(e, b, k) {
@@ -131,8 +121,7 @@ fn may_have_pieces(e: Event) -> bool
     requires { EventSmall e }
     ensures { result ≡ false → (gone : List ℕ) (a b : ℕ) → pieces_of a b (event_periods e gone) ≡ [] }
 {
-    let busy = e.busy;
-    (periods::report_place(busy) < 3) & !instance::is_zero_length(e)
+    e.busy.is_busy() & !instance::is_zero_length(e)
 }
 
 // The pieces of an event, where these starts are taken away. Where it can have none, none of its instances is looked at.

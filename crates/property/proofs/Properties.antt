@@ -1,12 +1,14 @@
 -- What a line says: which property a name is by its length, the value that is read,
 -- what stands on a line without parameters, and how large what a line says can be.
+use Rattle.std.specs.Prelude.{Err, None, Ok, Option, Result, Some}
 use Prim.Native.Nat.{ℕ, ◌≤◌, ◌<◌, ◌+◌, ◌-◌}
+use Rattle.values.specs.declared.rule.ValueError.{ValueError}
+use Rattle.std.specs.Bool.{then_some}
+use Rattle.std.specs.Option.{IsSomeAnd, MatchOption, ok_or}
+use Rattle.std.specs.Result.{IsOkAnd, MatchResult}
 use mathlib.Core.Path.{◌≡◌, refl, sym, ap, ◌∙◌}
 use mathlib.Core.Bool.{Bool, true, false, cond, ◌||◌, true≢false}
 use mathlib.Core.List.{List, [], ◌∷◌, ◌++◌}
-use mathlib.Core.Logic.{◌⊎◌, ⊎_elim}
-use types.Run.{OneOf}
-use denote.Enum.Declared.{tag_of}
 use native.Mathlib.Omega.{arith}
 use lib.Dec.{eqb}
 use lib.ListN.{length, take, drop, get_or, length-map}
@@ -18,7 +20,6 @@ use Rattle.ascii.proofs.Names.{same_name_iff, same_name_length}
 use Rattle.time.specs.Duration.{read_duration}
 use Rattle.time.specs.Limits.{last_second}
 use Rattle.time.specs.declared.duration.Duration.{Duration}
-use Rattle.time.specs.declared.duration.DurationRead.{DurationRead}
 use Rattle.periods.specs.declared.BusyType.{BusyType}
 use Rattle.line.specs.Splitting.{next_place}
 use Rattle.line.specs.Reading.{head_of, is_named, values_of, parameter_of, first_of, name_of, line_of, value_of, has_parameter, has_twice, has_list, parameters_named, some_list}
@@ -30,20 +31,18 @@ use Rattle.values.specs.Times.{form_of, time_of}
 use Rattle.values.specs.Rule.{rule_of}
 use Rattle.values.specs.Period.{period_items, all_periods}
 use Rattle.values.specs.declared.times.Time.{Time}
-use Rattle.values.specs.declared.times.TimeRead.{TimeRead}
 use Rattle.values.specs.declared.rule.Rule.{Rule}
-use Rattle.values.specs.declared.rule.RuleRead.{RuleRead}
 use Rattle.values.specs.declared.times.Form.{Form}
 use Rattle.values.proofs.TimesLaws.{read_time_small, utc_only_same}
 use Rattle.values.proofs.RuleLaws.{rule_of_small}
 use Rattle.values.proofs.PeriodLaws.{read_duration_small}
 use Rattle.property.specs.declared.Scope.{Scope}
 use Rattle.property.specs.declared.Property.{Property}
-use Rattle.property.specs.Facts.{SpanFact, Fact, Reading, unread, fault, of, unsupported, bad, span, repeats, identity, periods}
+use Rattle.property.specs.Facts.{SpanFact, Fact, Reading, reading_of, time_reading, unread, fault, of, unsupported, bad, span, repeats, identity, periods}
 use Rattle.property.specs.Facts.{lasts, recurrence_id, exceptions}
-use Rattle.property.specs.Properties.{PropertyWord, picked, words_in, property_of, value_as, before_items, with_items, property_value_of, is_start, time_in, time_fact}
+use Rattle.property.specs.Properties.{PropertyWord, picked, words_in, property_of, value_as, before_items, with_items, property_value_of, time_in, time_fact}
 use Rattle.property.specs.Properties.{exceptions_by, items_good, unless_zoned, unless_ranged, duration_by, rule_value, busy_of, type_value, gives_periods, PropertyValueSmall, busy_named}
-use Rattle.property.specs.contracts.Property.{the_type}
+use Rattle.property.specs.declared.PropertyValue.{PropertyValue}
 
 -- ---- which property a name is, by its length: only the words that are as long can be meant
 
@@ -63,9 +62,9 @@ length_picked m (e ∷ es) = go (eqb (length m) (length e.word)) refl (length_pi
   where
     go : (t : Bool) → eqb (length m) (length e.word) ≡ t → picked m es ≡ picked m (of_length (length m) es)
         → picked m (e ∷ es) ≡ picked m (kept_if t e (of_length (length m) es))
-    go true q h = ap (λ (p : Property). cond (same_name m e.word) e.means p) h
+    go true q h = ap (λ (p : Option Property). cond (same_name m e.word) (Some e.means) p) h
     go false q h =
-        ap (λ (t : Bool). cond t e.means (picked m es)) (same_name_length m e.word (eqb-false _ _ q)) ∙ h
+        ap (λ (t : Bool). cond t (Some e.means) (picked m es)) (same_name_length m e.word (eqb-false _ _ q)) ∙ h
 
 -- the law: the words of n bytes decide of a name of n bytes
 pub by_length : (s : Scope) (m : List ℕ) (n : ℕ) → length m ≡ n → property_of s m ≡ picked m (of_length n (words_in s))
@@ -81,52 +80,37 @@ words_of_length {s} {m} n h = record { decide = by_length s m n h }
 
 -- the first of them is tried, and t says whether it is the name
 module _ {s : Scope} {m : List ℕ} {e : PropertyWord} {es : List PropertyWord} {t : Bool} (q : t ≡ same_name m e.word) (w : WordsLeft s m (e ∷ es)) where
-  decided : cond t e.means (picked m es) ≡ property_of s m
-  decided = ap (λ (b : Bool). cond b e.means (picked m es)) q ∙ sym w.decide
+  decided : cond t (Some e.means) (picked m es) ≡ property_of s m
+  decided = ap (λ (b : Bool). cond b (Some e.means) (picked m es)) q ∙ sym w.decide
 
-  pub word_found : t ≡ true → e.means ≡ property_of s m
-  word_found h = ap (λ (b : Bool). cond b e.means (picked m es)) (sym h) ∙ decided
+  pub word_found : t ≡ true → Some e.means ≡ property_of s m
+  word_found h = ap (λ (b : Bool). cond b (Some e.means) (picked m es)) (sym h) ∙ decided
 
   pub word_other : t ≡ false → WordsLeft s m es
-  word_other h = record { decide = sym (ap (λ (b : Bool). cond b e.means (picked m es)) (sym h) ∙ decided) }
+  word_other h = record { decide = sym (ap (λ (b : Bool). cond b (Some e.means) (picked m es)) (sym h) ∙ decided) }
 
 -- the last word is the name, or none is
-pub word_last : {s : Scope} {m : List ℕ} {e : PropertyWord} {t : Bool} {r : Property} → t ≡ same_name m e.word → WordsLeft s m (e ∷ [])
-    → r ≡ cond t e.means Property.Unread → r ≡ property_of s m
-word_last q w h = h ∙ decided q w
+pub word_last : {s : Scope} {m : List ℕ} {e : PropertyWord} {t : Bool} {r : Option Property} → t ≡ same_name m e.word → WordsLeft s m (e ∷ [])
+    → r ≡ then_some t e.means → r ≡ property_of s m
+word_last {t = t} q w h = h ∙ go t _ ∙ decided q w
+  where
+    go : (b : Bool) (p : Property) → then_some b p ≡ cond b (Some p) None
+    go true p = refl
+    go false p = refl
 
 -- no word of a VEVENT is as long as that
 pub event_unread : (m : List ℕ) (n : ℕ) → length m ≡ n → (n ≡ 3 → ⊥) → (n ≡ 5 → ⊥) → (n ≡ 6 → ⊥) → (n ≡ 7 → ⊥) → (n ≡ 8 → ⊥) → (n ≡ 13 → ⊥)
-    → Property.Unread ≡ property_of Scope.Event m
+    → None ≡ property_of Scope.Event m
 event_unread m n h u a b c d e =
     sym
     (by_length Scope.Event m n h
     ∙ ap (picked m) (let z : of_length n (words_in Scope.Event) ≡ [] = rw (ne_eqb n 3 u, ne_eqb n 5 a, ne_eqb n 6 b, ne_eqb n 7 c, ne_eqb n 8 d, ne_eqb n 13 e) in z))
 
-pub free_busy_unread : (m : List ℕ) (n : ℕ) → length m ≡ n → (n ≡ 5 → ⊥) → (n ≡ 7 → ⊥) → (n ≡ 8 → ⊥) → Property.Unread ≡ property_of Scope.FreeBusy m
+pub free_busy_unread : (m : List ℕ) (n : ℕ) → length m ≡ n → (n ≡ 5 → ⊥) → (n ≡ 7 → ⊥) → (n ≡ 8 → ⊥) → None ≡ property_of Scope.FreeBusy m
 free_busy_unread m n h a b c =
     sym
     (by_length Scope.FreeBusy m n h
     ∙ ap (picked m) (let z : of_length n (words_in Scope.FreeBusy) ≡ [] = rw (ne_eqb n 5 a, ne_eqb n 7 b, ne_eqb n 8 c) in z))
-
-neither : {A : Type 0} (n : ℕ) → 2 ≤ n → (n ≡ 0) ⊎ (n ≡ 1) → A
-neither n h k = ⊎_elim (λ e. absurd (omega (arith, h, e))) (λ e. absurd (omega (arith, h, e))) k
-
--- a property that is DTSTART or DTEND, told by its number
-pub start_or_end : (p : Property) → OneOf (0 ∷ 1 ∷ []) (tag_of the_type p) → cond (is_start p) Property.Start Property.End ≡ p
-unfolding is_start
-start_or_end Property.Start h = refl
-start_or_end Property.End h = refl
-start_or_end Property.Duration h = neither 2 (omega arith) h
-start_or_end Property.Rule h = neither 3 (omega arith) h
-start_or_end Property.Status h = neither 4 (omega arith) h
-start_or_end Property.Transparency h = neither 5 (omega arith) h
-start_or_end Property.Uid h = neither 6 (omega arith) h
-start_or_end Property.RecurrenceId h = neither 7 (omega arith) h
-start_or_end Property.Exceptions h = neither 8 (omega arith) h
-start_or_end Property.Periods h = neither 9 (omega arith) h
-start_or_end Property.Unsupported h = neither 10 (omega arith) h
-start_or_end Property.Unread h = neither 11 (omega arith) h
 
 -- ---- a line without parameters: its value stands behind the colon, its time is a DATE-TIME, it has neither TZID nor RANGE, and its periods are busy
 
@@ -183,48 +167,61 @@ module _ (t : List ℕ) (x : ContentLine) (e : x.parameters ≡ parameter_of t �
         (ap (λ (y : BusyType). of (periods y)) (q ∙ ap busy_named (p ∙ first_only (values_of t))))
 
 -- a name that is not read
-pub unread_line : (c : Context) (s : Scope) (l : List ℕ) → property_of s (name_of l) ≡ Property.Unread → unread ≡ before_items c s (line_of l)
+pub unread_line : (c : Context) (s : Scope) (l : List ℕ) → property_of s (name_of l) ≡ None → unread ≡ before_items c s (line_of l)
 unfolding before_items value_as line_of
 unread_line c s l h = rw h
 
--- ---- a time, with TZID and without it
+-- ---- a time that is a line's value
 
--- DTSTART or DTEND
-abbrev pub timed : Bool → TimeRead → Reading
-timed first r = cond first (time_fact (λ t. span (SpanFact.start t)) r) (time_fact (λ t. span (SpanFact.end t)) r)
+-- of a time that may be there
+pub time_or_bad : (f : Time → Fact) (r : Option Time) {q : Result Time ValueError} → q ≡ ok_or r ValueError.Bad → time_reading f q ≡ time_fact f r
+unfolding time_reading time_fact
+time_or_bad f r h = ap (time_reading f) h ∙ go r
+  where
+    go : (o : Option Time) → time_reading f (ok_or o ValueError.Bad) ≡ time_fact f o
+    go (Some t) = refl
+    go None = refl
 
--- where it cannot be read, the line is bad, whichever it is
-pub both_bad : (start : Bool) → fault bad ≡ timed start TimeRead.Bad
-unfolding time_fact
-both_bad true = refl
-both_bad false = refl
+-- the line says what its time does
+pub time_said : (g : Time → PropertyValue) (f : Time → Fact) (r : Result Time ValueError) (q : Result PropertyValue ValueError)
+    → ((t : Time) → reading_of (Ok (g t)) ≡ of (f t))
+    → MatchResult r (λ t. IsOkAnd q (λ y. y ≡ g t)) (λ e. q ≡ Err e) → reading_of q ≡ time_reading f r
+unfolding reading_of time_reading
+time_said g f (Ok t) (Ok y) h e = ap (λ (v : PropertyValue). reading_of (Ok v)) e ∙ h t
+time_said g f (Ok t) (Err d) h e = elim e [ ]
+time_said g f (Err ValueError.Unsupported) q h e = rw e
+time_said g f (Err ValueError.Bad) q h e = rw e
 
-module _ (l : List ℕ) (start : Bool) (c : Context) (s : Scope) (t : Bool) (e : t ≡ has_parameter (ascii "TZID") (line_of l)) where
-  pub zoned : t ≡ true → fault unsupported ≡ value_as (cond start Property.Start Property.End) c s (line_of l)
-  unfolding value_as unless_zoned
-  zoned h = go start
-    where
-      go : (b : Bool) → fault unsupported ≡ value_as (cond b Property.Start Property.End) c s (line_of l)
-      go true = rw (sym e ∙ h)
-      go false = rw (sym e ∙ h)
+-- ---- so with a duration, a rule and a form
 
-  pub unzoned : t ≡ false → {q : Reading} {r : TimeRead} → r ≡ time_in s (time_of c (line_of l)) → q ≡ timed start r
-      → q ≡ value_as (cond start Property.Start Property.End) c s (line_of l)
-  unfolding value_as unless_zoned
-  unzoned h g f = f ∙ ap (λ (y : TimeRead). timed start y) g ∙ go start
-    where
-      go : (b : Bool) → timed b (time_in s (time_of c (line_of l)))
-          ≡ value_as (cond b Property.Start Property.End) c s (line_of l)
-      go true = rw (sym e ∙ h)
-      go false = rw (sym e ∙ h)
+pub duration_said : (r : Option Duration) (q : Option PropertyValue) {w : Result PropertyValue ValueError}
+    → MatchOption r (q ≡ None) (λ d. IsSomeAnd q (λ y. y ≡ PropertyValue.Lasts d)) → w ≡ ok_or q ValueError.Bad → reading_of w ≡ duration_by r
+unfolding reading_of duration_by
+duration_said (Some d) (Some y) h e = rw (e, h)
+duration_said (Some d) None h e = elim h [ ]
+duration_said None q h e = rw (e, h)
+
+pub rule_said : (r : Result Rule ValueError) (q : Result PropertyValue ValueError)
+    → MatchResult r (λ x. IsOkAnd q (λ y. y ≡ PropertyValue.Repeats x)) (λ e. q ≡ Err e) → reading_of q ≡ rule_value r
+unfolding reading_of rule_value
+rule_said (Ok x) (Ok y) h = rw h
+rule_said (Ok x) (Err d) h = elim h [ ]
+rule_said (Err ValueError.Unsupported) q h = rw h
+rule_said (Err ValueError.Bad) q h = rw h
+
+pub form_said : (f : Form) → (f ≡ Form.Wrong → ⊥) → of (identity (exceptions f)) ≡ exceptions_by f
+unfolding exceptions_by
+form_said Form.DateTime h = refl
+form_said Form.Date h = refl
+form_said Form.Wrong h = absurd (h refl)
 
 -- ---- a claim about what a line says holds where it holds of what each reading can come to
 
 module _ (P : Reading → Type 0) where
-  pub time_keeps : P (fault bad) → (f : Time → Fact) (r : TimeRead) → ((t : Time) → r ≡ TimeRead.Of t → P (of (f t))) → P (time_fact f r)
+  pub time_keeps : P (fault bad) → (f : Time → Fact) (r : Option Time) → ((t : Time) → r ≡ Some t → P (of (f t))) → P (time_fact f r)
   unfolding time_fact
-  time_keeps b f (TimeRead.Of t) h = h t refl
-  time_keeps b f TimeRead.Bad h = b
+  time_keeps b f (Some t) h = h t refl
+  time_keeps b f None h = b
 
   pub exceptions_keep : P (fault bad) → (f : Form) → P (of (identity (exceptions f))) → P (exceptions_by f)
   unfolding exceptions_by
@@ -232,16 +229,16 @@ module _ (P : Reading → Type 0) where
   exceptions_keep b Form.Date h = h
   exceptions_keep b Form.Wrong h = b
 
-  pub duration_keeps : P (fault bad) → (r : DurationRead) → ((d : Duration) → r ≡ DurationRead.Of d → P (of (span (lasts d)))) → P (duration_by r)
+  pub duration_keeps : P (fault bad) → (r : Option Duration) → ((d : Duration) → r ≡ Some d → P (of (span (lasts d)))) → P (duration_by r)
   unfolding duration_by
-  duration_keeps b (DurationRead.Of d) h = h d refl
-  duration_keeps b DurationRead.Bad h = b
+  duration_keeps b (Some d) h = h d refl
+  duration_keeps b None h = b
 
-  pub rule_keeps : P (fault unsupported) → P (fault bad) → (q : RuleRead) → ((r : Rule) → q ≡ RuleRead.Of r → P (of (repeats r))) → P (rule_value q)
+  pub rule_keeps : P (fault unsupported) → P (fault bad) → (q : Result Rule ValueError) → ((r : Rule) → q ≡ Ok r → P (of (repeats r))) → P (rule_value q)
   unfolding rule_value
-  rule_keeps u b (RuleRead.Of r) h = h r refl
-  rule_keeps u b RuleRead.Unsupported h = u
-  rule_keeps u b RuleRead.Bad h = b
+  rule_keeps u b (Ok r) h = h r refl
+  rule_keeps u b (Err ValueError.Unsupported) h = u
+  rule_keeps u b (Err ValueError.Bad) h = b
 
   either_keeps : (t : Bool) (a b : Reading) → P a → P b → P (cond t a b)
   either_keeps true a b h k = h
@@ -268,40 +265,40 @@ module _ (P : Reading → Type 0) where
 -- ---- periods
 
 -- only FREEBUSY gives periods
-abbrev is_periods : Property → Bool
-is_periods Property.Start = false
-is_periods Property.End = false
-is_periods Property.Duration = false
-is_periods Property.Rule = false
-is_periods Property.Status = false
-is_periods Property.Transparency = false
-is_periods Property.Uid = false
-is_periods Property.RecurrenceId = false
-is_periods Property.Exceptions = false
-is_periods Property.Periods = true
-is_periods Property.Unsupported = false
-is_periods Property.Unread = false
+abbrev is_periods : Option Property → Bool
+is_periods (Some Property.Start) = false
+is_periods (Some Property.End) = false
+is_periods (Some Property.Duration) = false
+is_periods (Some Property.Rule) = false
+is_periods (Some Property.Status) = false
+is_periods (Some Property.Transparency) = false
+is_periods (Some Property.Uid) = false
+is_periods (Some Property.RecurrenceId) = false
+is_periods (Some Property.Exceptions) = false
+is_periods (Some Property.Periods) = true
+is_periods (Some Property.Unsupported) = false
+is_periods None = false
 
 abbrev GivesNone : Reading → Type 0
 GivesNone v = gives_periods v ≡ false
 
-none_as : (p : Property) (c : Context) (s : Scope) (x : ContentLine) → is_periods p ≡ false → GivesNone (value_as p c s x)
+none_as : (p : Option Property) (c : Context) (s : Scope) (x : ContentLine) → is_periods p ≡ false → GivesNone (value_as p c s x)
 unfolding value_as gives_periods
-none_as Property.Start c s x h = zoned_keeps GivesNone refl x _ (time_keeps GivesNone refl (λ t. span (SpanFact.start t)) (time_in s (time_of c x)) (λ t e. refl))
-none_as Property.End c s x h = zoned_keeps GivesNone refl x _ (time_keeps GivesNone refl (λ t. span (SpanFact.end t)) (time_in s (time_of c x)) (λ t e. refl))
-none_as Property.Duration c s x h = duration_keeps GivesNone refl (read_duration x.value) (λ d e. refl)
-none_as Property.Rule c s x h = rule_keeps GivesNone refl refl (rule_of c x.value) (λ r e. refl)
-none_as Property.Status c s x h = refl
-none_as Property.Transparency c s x h = refl
-none_as Property.Uid c s x h = refl
-none_as Property.RecurrenceId c s x h =
+none_as (Some Property.Start) c s x h = zoned_keeps GivesNone refl x _ (time_keeps GivesNone refl (λ t. span (SpanFact.start t)) (time_in s (time_of c x)) (λ t e. refl))
+none_as (Some Property.End) c s x h = zoned_keeps GivesNone refl x _ (time_keeps GivesNone refl (λ t. span (SpanFact.end t)) (time_in s (time_of c x)) (λ t e. refl))
+none_as (Some Property.Duration) c s x h = duration_keeps GivesNone refl (read_duration x.value) (λ d e. refl)
+none_as (Some Property.Rule) c s x h = rule_keeps GivesNone refl refl (rule_of c x.value) (λ r e. refl)
+none_as (Some Property.Status) c s x h = refl
+none_as (Some Property.Transparency) c s x h = refl
+none_as (Some Property.Uid) c s x h = refl
+none_as (Some Property.RecurrenceId) c s x h =
     ranged_keeps GivesNone refl x _ (zoned_keeps GivesNone refl x _ (time_keeps GivesNone refl (λ t. identity (recurrence_id t)) (time_of c x) (λ t e. refl)))
-none_as Property.Exceptions c s x h = zoned_keeps GivesNone refl x _ (exceptions_keep GivesNone refl (form_of x) refl)
-none_as Property.Periods c s x h = absurd (true≢false h)
-none_as Property.Unsupported c s x h = refl
-none_as Property.Unread c s x h = refl
+none_as (Some Property.Exceptions) c s x h = zoned_keeps GivesNone refl x _ (exceptions_keep GivesNone refl (form_of x) refl)
+none_as (Some Property.Periods) c s x h = absurd (true≢false h)
+none_as (Some Property.Unsupported) c s x h = refl
+none_as None c s x h = refl
 
-no_periods : (p : Property) (c : Context) (s : Scope) (x : ContentLine) (v : List ℕ) → is_periods p ≡ false → GivesNone (with_items c v (value_as p c s x))
+no_periods : (p : Option Property) (c : Context) (s : Scope) (x : ContentLine) (v : List ℕ) → is_periods p ≡ false → GivesNone (with_items c v (value_as p c s x))
 unfolding gives_periods
 no_periods p c s x v h = items_keep GivesNone refl c v (value_as p c s x) (none_as p c s x h)
 
@@ -310,7 +307,7 @@ same_length : (m w : List ℕ) → same_name m w ≡ true → length m ≡ lengt
 same_length m w h = sym (length-map m upper) ∙ ap length ((same_name_iff m w).0 h) ∙ length-map w upper
 
 module _ (c : Context) (l : List ℕ) where
-  free_busy_named : same_name (name_of l) (ascii "FREEBUSY") ≡ true → property_of Scope.FreeBusy (name_of l) ≡ Property.Periods
+  free_busy_named : same_name (name_of l) (ascii "FREEBUSY") ≡ true → property_of Scope.FreeBusy (name_of l) ≡ Some Property.Periods
   free_busy_named h = by_length Scope.FreeBusy (name_of l) 8 (same_length (name_of l) (ascii "FREEBUSY") h) ∙ rw h
 
   module _ (t : Bool) (e : t ≡ (has_twice (ascii "FBTYPE") (line_of l) || has_list (ascii "FBTYPE") (line_of l))) (h : same_name (name_of l) (ascii "FREEBUSY") ≡ true) where
@@ -331,23 +328,23 @@ module _ (c : Context) (l : List ℕ) where
   other_name h = go (same_name (name_of l) (ascii "DTSTART")) (same_name (name_of l) (ascii "DTEND")) (same_name (name_of l) (ascii "FREEBUSY")) h
     where
       go : (x y z : Bool) → z ≡ false
-          → false ≡ gives_periods (with_items c (value_of l) (value_as (cond x Property.Start (cond y Property.End (cond z Property.Periods Property.Unread))) c Scope.FreeBusy (line_of l)))
-      go true y z k = sym (no_periods Property.Start c Scope.FreeBusy (line_of l) (value_of l) refl)
-      go false true z k = sym (no_periods Property.End c Scope.FreeBusy (line_of l) (value_of l) refl)
+          → false ≡ gives_periods (with_items c (value_of l) (value_as (cond x (Some Property.Start) (cond y (Some Property.End) (cond z (Some Property.Periods) None))) c Scope.FreeBusy (line_of l)))
+      go true y z k = sym (no_periods (Some Property.Start) c Scope.FreeBusy (line_of l) (value_of l) refl)
+      go false true z k = sym (no_periods (Some Property.End) c Scope.FreeBusy (line_of l) (value_of l) refl)
       go false false true k = absurd (true≢false k)
-      go false false false k = sym (no_periods Property.Unread c Scope.FreeBusy (line_of l) (value_of l) refl)
+      go false false false k = sym (no_periods None c Scope.FreeBusy (line_of l) (value_of l) refl)
 
 -- so a line directly in a VEVENT gives none
 -- no word of a table that has no such word means it
 abbrev none_means : List PropertyWord → Type 0
 none_means [] = Unit {0}
-none_means (e ∷ es) = (is_periods e.means ≡ false) × none_means es
+none_means (e ∷ es) = (is_periods (Some e.means) ≡ false) × none_means es
 
 picked_none : (m : List ℕ) (es : List PropertyWord) → none_means es → is_periods (picked m es) ≡ false
 picked_none m [] h = refl
 picked_none m (e ∷ es) h = go (same_name m e.word) (picked_none m es h.1)
   where
-    go : (t : Bool) → is_periods (picked m es) ≡ false → is_periods (cond t e.means (picked m es)) ≡ false
+    go : (t : Bool) → is_periods (picked m es) ≡ false → is_periods (cond t (Some e.means) (picked m es)) ≡ false
     go true k = h.0
     go false k = k
 
@@ -360,35 +357,35 @@ event_periods_lem c x =
 -- ---- how large what a line says can be
 
 -- a time is the one that the line gives, in each component
-time_in_same : (s : Scope) (r : TimeRead) (t : Time) → time_in s r ≡ TimeRead.Of t → r ≡ TimeRead.Of t
+time_in_same : (s : Scope) (r : Option Time) (t : Time) → time_in s r ≡ Some t → r ≡ Some t
 unfolding time_in
 time_in_same Scope.Event r t e = e
 time_in_same Scope.FreeBusy r t e = utc_only_same r t e
 time_in_same Scope.Other r t e = e
 
-time_of_small : (c : Context) (x : ContentLine) (t : Time) → time_of c x ≡ TimeRead.Of t → t.second ≤ last_second
+time_of_small : (c : Context) (x : ContentLine) (t : Time) → time_of c x ≡ Some t → t.second ≤ last_second
 unfolding time_of
 time_of_small c x t e = read_time_small c (form_of x) x.value t e
 
-time_in_small : (c : Context) (s : Scope) (x : ContentLine) (t : Time) → time_in s (time_of c x) ≡ TimeRead.Of t → t.second ≤ last_second
+time_in_small : (c : Context) (s : Scope) (x : ContentLine) (t : Time) → time_in s (time_of c x) ≡ Some t → t.second ≤ last_second
 time_in_small c s x t e = time_of_small c x t (time_in_same s (time_of c x) t e)
 
-value_as_small : (p : Property) (c : Context) (s : Scope) (x : ContentLine) → PropertyValueSmall (value_as p c s x)
+value_as_small : (p : Option Property) (c : Context) (s : Scope) (x : ContentLine) → PropertyValueSmall (value_as p c s x)
 unfolding value_as
-value_as_small Property.Start c s x =
+value_as_small (Some Property.Start) c s x =
     zoned_keeps PropertyValueSmall tt x _ (time_keeps PropertyValueSmall tt (λ t. span (SpanFact.start t)) (time_in s (time_of c x)) (λ t. time_in_small c s x t))
-value_as_small Property.End c s x = zoned_keeps PropertyValueSmall tt x _ (time_keeps PropertyValueSmall tt (λ t. span (SpanFact.end t)) (time_in s (time_of c x)) (λ t. time_in_small c s x t))
-value_as_small Property.Duration c s x = duration_keeps PropertyValueSmall tt (read_duration x.value) (λ d. read_duration_small x.value d)
-value_as_small Property.Rule c s x = rule_keeps PropertyValueSmall tt tt (rule_of c x.value) (λ r. rule_of_small c x.value r)
-value_as_small Property.Status c s x = tt
-value_as_small Property.Transparency c s x = tt
-value_as_small Property.Uid c s x = tt
-value_as_small Property.RecurrenceId c s x =
+value_as_small (Some Property.End) c s x = zoned_keeps PropertyValueSmall tt x _ (time_keeps PropertyValueSmall tt (λ t. span (SpanFact.end t)) (time_in s (time_of c x)) (λ t. time_in_small c s x t))
+value_as_small (Some Property.Duration) c s x = duration_keeps PropertyValueSmall tt (read_duration x.value) (λ d. read_duration_small x.value d)
+value_as_small (Some Property.Rule) c s x = rule_keeps PropertyValueSmall tt tt (rule_of c x.value) (λ r. rule_of_small c x.value r)
+value_as_small (Some Property.Status) c s x = tt
+value_as_small (Some Property.Transparency) c s x = tt
+value_as_small (Some Property.Uid) c s x = tt
+value_as_small (Some Property.RecurrenceId) c s x =
     ranged_keeps PropertyValueSmall tt x _ (zoned_keeps PropertyValueSmall tt x _ (time_keeps PropertyValueSmall tt (λ t. identity (recurrence_id t)) (time_of c x) (λ t. time_of_small c x t)))
-value_as_small Property.Exceptions c s x = zoned_keeps PropertyValueSmall tt x _ (exceptions_keep PropertyValueSmall tt (form_of x) tt)
-value_as_small Property.Periods c s x = type_keeps PropertyValueSmall tt x tt
-value_as_small Property.Unsupported c s x = tt
-value_as_small Property.Unread c s x = tt
+value_as_small (Some Property.Exceptions) c s x = zoned_keeps PropertyValueSmall tt x _ (exceptions_keep PropertyValueSmall tt (form_of x) tt)
+value_as_small (Some Property.Periods) c s x = type_keeps PropertyValueSmall tt x tt
+value_as_small (Some Property.Unsupported) c s x = tt
+value_as_small None c s x = tt
 
 -- what a line says is small: times are within the limits, durations and rules as their readers leave them
 pub property_value_of_small : (c : Context) (s : Scope) (x : ContentLine) → PropertyValueSmall (property_value_of c s x)

@@ -1,13 +1,14 @@
 -- What one line says, in the words of the definitions: no rule reads it, or it has a fault, or it states a fact of its component.
 -- The code's `PropertyValue` says the same in one flat enum; only contracts of the code that reads a line name it, by `reading_of`.
-use Rattle.std.specs.Prelude.{Bool}
+use Rattle.std.specs.Prelude.{Bool, Err, Ok, Result}
+use Rattle.values.specs.declared.rule.ValueError.{ValueError}
+use Rattle.property.specs.declared.PropertyValue.{PropertyValue}
 use Rattle.time.specs.declared.duration.Duration.{Duration}
 use Rattle.periods.specs.declared.BusyType.{BusyType}
 use Rattle.values.specs.declared.times.Form.{Form}
 use Rattle.values.specs.declared.times.Time.{Time}
 use Rattle.values.specs.declared.rule.Rule.{Rule}
 use Rattle.property.specs.declared.Status.{Status}
-use Rattle.property.specs.declared.PropertyValue.{PropertyValue}
 
 -- when a component takes place: DTSTART, DTEND, DURATION
 pub data SpanFact : Type 0 where
@@ -45,17 +46,23 @@ pub data Reading : Type 0 where
   of : Fact → Reading
 
 -- what the code answers, so said
-unfoldable pub reading_of : PropertyValue → Reading
-reading_of PropertyValue.Nothing = unread
-reading_of PropertyValue.Unsupported = fault unsupported
-reading_of PropertyValue.Bad = fault bad
-reading_of (PropertyValue.Start t) = of (span (start t))
-reading_of (PropertyValue.End t) = of (span (end t))
-reading_of (PropertyValue.Lasts d) = of (span (lasts d))
-reading_of (PropertyValue.Repeats r) = of (repeats r)
-reading_of (PropertyValue.HasStatus s) = of (busy (status s))
-reading_of (PropertyValue.Transparent b) = of (busy (transparent b))
-reading_of PropertyValue.Uid = of (identity uid)
-reading_of (PropertyValue.RecurrenceId t) = of (identity (recurrence_id t))
-reading_of (PropertyValue.HasExceptions f) = of (identity (exceptions f))
-reading_of (PropertyValue.HasPeriods b) = of (periods b)
+unfoldable pub reading_of : Result PropertyValue ValueError → Reading
+reading_of (Ok PropertyValue.Nothing) = unread
+reading_of (Err ValueError.Unsupported) = fault unsupported
+reading_of (Err ValueError.Bad) = fault bad
+reading_of (Ok (PropertyValue.Start t)) = of (span (start t))
+reading_of (Ok (PropertyValue.End t)) = of (span (end t))
+reading_of (Ok (PropertyValue.Lasts d)) = of (span (lasts d))
+reading_of (Ok (PropertyValue.Repeats r)) = of (repeats r)
+reading_of (Ok (PropertyValue.HasStatus s)) = of (busy (status s))
+reading_of (Ok (PropertyValue.Transparent b)) = of (busy (transparent b))
+reading_of (Ok PropertyValue.Uid) = of (identity uid)
+reading_of (Ok (PropertyValue.RecurrenceId t)) = of (identity (recurrence_id t))
+reading_of (Ok (PropertyValue.HasExceptions f)) = of (identity (exceptions f))
+reading_of (Ok (PropertyValue.HasPeriods b)) = of (periods b)
+
+-- and what it answers of a time, where this is the fact that the time states
+unfoldable pub time_reading : (Time → Fact) → Result Time ValueError → Reading
+time_reading f (Ok t) = of (f t)
+time_reading f (Err ValueError.Unsupported) = fault unsupported
+time_reading f (Err ValueError.Bad) = fault bad

@@ -1,11 +1,13 @@
 -- What a line says (document 01, Values), by the component that it stands directly in.
 -- Here, and nowhere else, it is decided which properties are read.
-use Rattle.std.specs.Prelude.{ℕ, ◌≤◌, Bool, true, false, cond, ◌||◌, List, [], ◌∷◌}
+use Rattle.std.specs.Prelude.{ℕ, ◌≤◌, Bool, true, false, cond, ◌||◌, List, [], ◌∷◌, Err, None, Ok, Option, Result, Some}
+use Rattle.values.specs.declared.rule.ValueError.{ValueError}
+use Rattle.values.specs.declared.rule.Rule.{Rule}
+use Rattle.time.specs.declared.duration.Duration.{Duration}
 use Rattle.ascii.specs.Names.{same_name}
 use Rattle.ascii.specs.Words.{ascii}
 use Rattle.time.specs.Duration.{read_duration}
 use Rattle.time.specs.Limits.{last_second}
-use Rattle.time.specs.declared.duration.DurationRead.{DurationRead}
 use Rattle.line.specs.Grammar.{ContentLine}
 use Rattle.line.specs.Reading.{has_parameter, has_twice, has_list, first_value}
 use Rattle.values.specs.Times.{form_of, time_of, utc_only}
@@ -15,8 +17,6 @@ use Rattle.values.specs.Period.{period_items, all_periods, DurationSmall}
 use Rattle.values.specs.declared.times.Context.{Context}
 use Rattle.values.specs.declared.times.Form.{Form}
 use Rattle.values.specs.declared.times.Time.{Time}
-use Rattle.values.specs.declared.times.TimeRead.{TimeRead}
-use Rattle.values.specs.declared.rule.RuleRead.{RuleRead}
 use Rattle.property.specs.declared.Scope.{Scope}
 use Rattle.property.specs.declared.Property.{Property}
 use Rattle.property.specs.declared.Status.{Status}
@@ -52,23 +52,23 @@ words_in Scope.FreeBusy =
 words_in Scope.Other = []
 
 -- the property of the first word that is the name; of no word, none is read
-abbrev pub picked : List ℕ → List PropertyWord → Property
-picked n [] = Property.Unread
-picked n (e ∷ es) = cond (same_name n e.word) e.means (picked n es)
+abbrev pub picked : List ℕ → List PropertyWord → Option Property
+picked n [] = None
+picked n (e ∷ es) = cond (same_name n e.word) (Some e.means) (picked n es)
 
-unfoldable pub property_of : Scope → List ℕ → Property
+unfoldable pub property_of : Scope → List ℕ → Option Property
 property_of s n = picked n (words_in s)
 
 -- in VFREEBUSY a time is UTC
-unfoldable pub time_in : Scope → TimeRead → TimeRead
+unfoldable pub time_in : Scope → Option Time → Option Time
 time_in Scope.Event r = r
 time_in Scope.FreeBusy r = utc_only r
 time_in Scope.Other r = r
 
 -- the fact that a time states
-unfoldable pub time_fact : (Time → Fact) → TimeRead → Reading
-time_fact f (TimeRead.Of t) = of (f t)
-time_fact f TimeRead.Bad = fault bad
+unfoldable pub time_fact : (Time → Fact) → Option Time → Reading
+time_fact f (Some t) = of (f t)
+time_fact f None = fault bad
 
 -- the times of EXDATE are of this form
 unfoldable pub exceptions_by : Form → Reading
@@ -84,14 +84,14 @@ unless_zoned x s = cond (has_parameter (ascii "TZID") x) (fault unsupported) s
 unfoldable pub unless_ranged : ContentLine → Reading → Reading
 unless_ranged x s = cond (has_parameter (ascii "RANGE") x) (fault unsupported) s
 
-unfoldable pub duration_by : DurationRead → Reading
-duration_by (DurationRead.Of d) = of (span (lasts d))
-duration_by DurationRead.Bad = fault bad
+unfoldable pub duration_by : Option Duration → Reading
+duration_by (Some d) = of (span (lasts d))
+duration_by None = fault bad
 
-unfoldable pub rule_value : RuleRead → Reading
-rule_value (RuleRead.Of r) = of (repeats r)
-rule_value RuleRead.Unsupported = fault unsupported
-rule_value RuleRead.Bad = fault bad
+unfoldable pub rule_value : Result Rule ValueError → Reading
+rule_value (Ok r) = of (repeats r)
+rule_value (Err ValueError.Unsupported) = fault unsupported
+rule_value (Err ValueError.Bad) = fault bad
 
 -- STATUS has no bad value
 unfoldable pub status_named : List ℕ → Status
@@ -112,35 +112,20 @@ busy_of x = busy_named (first_value (ascii "FBTYPE") x)
 unfoldable pub type_value : ContentLine → Reading
 type_value x = cond (has_twice (ascii "FBTYPE") x || has_list (ascii "FBTYPE") x) (fault bad) (of (periods (busy_of x)))
 
--- what a line says as a property, the items of its list not looked at; UID may have any value
-unfoldable pub value_as : Property → Context → Scope → ContentLine → Reading
-value_as Property.Start c s x = unless_zoned x (time_fact (λ t. span (start t)) (time_in s (time_of c x)))
-value_as Property.End c s x = unless_zoned x (time_fact (λ t. span (end t)) (time_in s (time_of c x)))
-value_as Property.Duration c s x = duration_by (read_duration x.value)
-value_as Property.Rule c s x = rule_value (rule_of c x.value)
-value_as Property.Status c s x = of (busy (status (status_named x.value)))
-value_as Property.Transparency c s x = of (busy (transparent (same_name x.value (ascii "TRANSPARENT"))))
-value_as Property.Uid c s x = of (identity uid)
-value_as Property.RecurrenceId c s x = unless_ranged x (unless_zoned x (time_fact (λ t. identity (recurrence_id t)) (time_of c x)))
-value_as Property.Exceptions c s x = unless_zoned x (exceptions_by (form_of x))
-value_as Property.Periods c s x = type_value x
-value_as Property.Unsupported c s x = fault unsupported
-value_as Property.Unread c s x = unread
-
--- is it DTSTART?
-unfoldable pub is_start : Property → Bool
-is_start Property.Start = true
-is_start Property.End = false
-is_start Property.Duration = false
-is_start Property.Rule = false
-is_start Property.Status = false
-is_start Property.Transparency = false
-is_start Property.Uid = false
-is_start Property.RecurrenceId = false
-is_start Property.Exceptions = false
-is_start Property.Periods = false
-is_start Property.Unsupported = false
-is_start Property.Unread = false
+-- what a line says as a property, the items of its list not looked at; UID may have any value. As none nothing is read
+unfoldable pub value_as : Option Property → Context → Scope → ContentLine → Reading
+value_as (Some Property.Start) c s x = unless_zoned x (time_fact (λ t. span (start t)) (time_in s (time_of c x)))
+value_as (Some Property.End) c s x = unless_zoned x (time_fact (λ t. span (end t)) (time_in s (time_of c x)))
+value_as (Some Property.Duration) c s x = duration_by (read_duration x.value)
+value_as (Some Property.Rule) c s x = rule_value (rule_of c x.value)
+value_as (Some Property.Status) c s x = of (busy (status (status_named x.value)))
+value_as (Some Property.Transparency) c s x = of (busy (transparent (same_name x.value (ascii "TRANSPARENT"))))
+value_as (Some Property.Uid) c s x = of (identity uid)
+value_as (Some Property.RecurrenceId) c s x = unless_ranged x (unless_zoned x (time_fact (λ t. identity (recurrence_id t)) (time_of c x)))
+value_as (Some Property.Exceptions) c s x = unless_zoned x (exceptions_by (form_of x))
+value_as (Some Property.Periods) c s x = type_value x
+value_as (Some Property.Unsupported) c s x = fault unsupported
+value_as None c s x = unread
 
 -- what a line says, the items of its list not looked at
 unfoldable pub before_items : Context → Scope → ContentLine → Reading

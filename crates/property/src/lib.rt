@@ -2,21 +2,21 @@
 // Which properties are read, and in which component, is decided here alone.
 #![tactic(auto)]
 
-ghost use Rattle.std.specs.Prelude.{◌≡◌, cond, true, ◌||◌, [], ◌∷◌, length};
+ghost use Rattle.std.specs.Prelude.{◌≡◌, true, ◌||◌, [], ◌∷◌, length, Some};
 ghost use Rattle.ascii.specs.Words.{ascii};
 ghost use Rattle.line.specs.Grammar.{ContentLine};
-ghost use Rattle.line.specs.Reading.{name_of, value_of, line_of, parameter_of, Plain, has_parameter, has_twice, has_list};
+ghost use Rattle.line.specs.Reading.{name_of, value_of, line_of, parameter_of, has_parameter, has_twice, has_list};
 ghost use Rattle.values.specs.Times.{form_of, time_of, ContextGood};
-ghost use Rattle.property.specs.Properties.{property_of, time_in, time_fact, exceptions_by, is_start, duration_by, rule_value, status_named};
-ghost use Rattle.property.specs.Facts.{SpanFact, IdentityFact, Fact, reading_of};
+ghost use Rattle.property.specs.Properties.{property_of, time_in, time_fact, unless_zoned, unless_ranged, exceptions_by, status_named};
+ghost use Rattle.property.specs.Facts.{Fact, reading_of, time_reading};
 ghost use Rattle.property.specs.Properties.{busy_named, busy_of, type_value, value_as, before_items, property_value_of, gives_periods};
 
 use line::split;
 use periods::BusyType;
 use time::duration;
-use time::duration::{Duration, DurationRead};
-use values::rule::{Rule, RuleRead};
-use values::times::{Context, Form, Time, TimeRead};
+use time::duration::Duration;
+use values::rule::{Rule, ValueError};
+use values::times::{Context, Form, Time};
 use values::{period, rule, times};
 
 // The component that a line stands directly in.
@@ -42,7 +42,6 @@ pub enum Property {
     Periods,
     // Read nowhere, but refused directly in a VEVENT.
     Unsupported,
-    Unread,
 }
 
 #[derive(Clone, Copy)]
@@ -52,15 +51,11 @@ pub enum Status {
     Other,
 }
 
-// What a line says.
+// What a line says. Nothing is a case of it: callers match it flat, and Result<Option<..>> would nest each of their matches once more.
 #[derive(Clone, Copy)]
 pub enum PropertyValue {
     // No rule reads it.
     Nothing,
-    // Refusal 8.
-    Unsupported,
-    // Refusal 9.
-    Bad,
     Start(Time),
     End(Time),
     Lasts(Duration),
@@ -77,87 +72,77 @@ pub enum PropertyValue {
     HasPeriods(BusyType),
 }
 
-// The property where the test holds.
-fn property_if(test: bool, found: Property) -> Property
-    ensures { result ≡ cond test found Property.Unread }
-{
-    if test { found } else { Property::Unread }
-}
-
-// In a VEVENT, the words of five bytes.
-fn event_of_five(name: &[u8]) -> Property
+// In a VEVENT, the words of five bytes. A TryFrom<&[u8]> would not do: what a name is depends on the component.
+fn event_of_five(name: &[u8]) -> Option<Property>
     requires { length name.now ≡ 5 }
     ensures { result ≡ property_of Scope.Event name.now }
 {
     if ascii::same_name(name, b"DTEND") {
-        return Property::End;
+        return Some(Property::End);
     }
     if ascii::same_name(name, b"RRULE") {
-        return Property::Rule;
+        return Some(Property::Rule);
     }
-    property_if(ascii::same_name(name, b"RDATE"), Property::Unsupported)
+    ascii::same_name(name, b"RDATE").then_some(Property::Unsupported)
 }
 
 // Those of six bytes.
-fn event_of_six(name: &[u8]) -> Property
+fn event_of_six(name: &[u8]) -> Option<Property>
     requires { length name.now ≡ 6 }
     ensures { result ≡ property_of Scope.Event name.now }
 {
     if ascii::same_name(name, b"STATUS") {
-        return Property::Status;
+        return Some(Property::Status);
     }
     if ascii::same_name(name, b"TRANSP") {
-        return Property::Transparency;
+        return Some(Property::Transparency);
     }
     if ascii::same_name(name, b"EXDATE") {
-        return Property::Exceptions;
+        return Some(Property::Exceptions);
     }
-    property_if(ascii::same_name(name, b"EXRULE"), Property::Unsupported)
+    ascii::same_name(name, b"EXRULE").then_some(Property::Unsupported)
 }
 
 // In a VEVENT: only the words as long as the name are tried, and most names are as long as none.
-fn event_property(name: &[u8]) -> Property
+fn event_property(name: &[u8]) -> Option<Property>
     ensures { result ≡ property_of Scope.Event name.now }
 {
     match name.len() {
-        3 => property_if(ascii::same_name(name, b"UID"), Property::Uid),
+        3 => ascii::same_name(name, b"UID").then_some(Property::Uid),
         5 => event_of_five(name),
         6 => event_of_six(name),
-        7 => property_if(ascii::same_name(name, b"DTSTART"), Property::Start),
-        8 => property_if(ascii::same_name(name, b"DURATION"), Property::Duration),
-        13 => property_if(
-            ascii::same_name(name, b"RECURRENCE-ID"),
-            Property::RecurrenceId,
-        ),
-        _ => Property::Unread,
+        7 => ascii::same_name(name, b"DTSTART").then_some(Property::Start),
+        8 => ascii::same_name(name, b"DURATION").then_some(Property::Duration),
+        13 => ascii::same_name(name, b"RECURRENCE-ID").then_some(Property::RecurrenceId),
+        _ => None,
     }
 }
 
 // In a VFREEBUSY, the same way.
-fn free_busy_property(name: &[u8]) -> Property
+fn free_busy_property(name: &[u8]) -> Option<Property>
     ensures { result ≡ property_of Scope.FreeBusy name.now }
 {
     match name.len() {
-        5 => property_if(ascii::same_name(name, b"DTEND"), Property::End),
-        7 => property_if(ascii::same_name(name, b"DTSTART"), Property::Start),
-        8 => property_if(ascii::same_name(name, b"FREEBUSY"), Property::Periods),
-        _ => Property::Unread,
+        5 => ascii::same_name(name, b"DTEND").then_some(Property::End),
+        7 => ascii::same_name(name, b"DTSTART").then_some(Property::Start),
+        8 => ascii::same_name(name, b"FREEBUSY").then_some(Property::Periods),
+        _ => None,
     }
 }
 
 // The property that a name is, directly in the component.
-fn property_of(scope: Scope, name: &[u8]) -> Property
+fn property_of(scope: Scope, name: &[u8]) -> Option<Property>
     ensures { result ≡ property_of scope name.now }
 {
     match scope {
         Scope::Event => event_property(name),
         Scope::FreeBusy => free_busy_property(name),
-        Scope::Other => Property::Unread,
+        Scope::Other => None,
     }
 }
 
 // In VFREEBUSY a time is UTC.
-fn time_in(scope: Scope, r: TimeRead) -> TimeRead
+fn time_in(scope: Scope, r: Option<Time>) -> Option<Time>
     ensures { result ≡ time_in scope r }
 {
     match scope {
@@ -167,171 +152,111 @@ fn time_in(scope: Scope, r: TimeRead) -> TimeRead
     }
 }
 
-// Has the line TZID? One that is plain has no parameter at all.
-fn is_zoned(line: &[u8], plain: bool) -> bool
-    requires { plain ≡ true → (line_of line.now).parameters ≡ [] }
-    ensures { result ≡ has_parameter (ascii "TZID") (line_of line.now) }
-{
-    if plain {
-        return false;
-    }
-    line::read::has_parameter(line, b"TZID")
-}
-
-// Has the line RANGE? One that is plain has no parameter at all.
-fn is_ranged(line: &[u8], plain: bool) -> bool
-    requires { plain ≡ true → (line_of line.now).parameters ≡ [] }
-    ensures { result ≡ has_parameter (ascii "RANGE") (line_of line.now) }
-{
-    if plain {
-        return false;
-    }
-    line::read::has_parameter(line, b"RANGE")
-}
-
-// The form that the line asks for.
-fn form_in(line: &[u8], plain: bool) -> Form
-    requires { plain ≡ true → (line_of line.now).parameters ≡ [] }
-    ensures { result ≡ form_of (line_of line.now) }
-{
-    if plain {
-        return Form::DateTime;
-    }
-    times::form_of(line)
-}
-
-// The time that the line, whose value is v, gives.
-fn time_on(c: Context, line: &[u8], v: &[u8], plain: bool) -> TimeRead
-    requires context_good { ContextGood c }
-    requires v_value { v.now ≡ value_of line.now }
-    requires line_value { plain ≡ true → (line_of line.now).parameters ≡ [] }
-    ensures { result ≡ time_of c (line_of line.now) }
-{
-    times::read_time(c, form_in(line, plain), v)
-}
-
-// The time as that of DTSTART or of DTEND.
-fn timed(start: bool, r: TimeRead) -> PropertyValue
-    ensures { reading_of result ≡ cond start (time_fact (λ t. Fact.span (SpanFact.start t)) r) (time_fact (λ t. Fact.span (SpanFact.end t)) r) }
-{
-    match r {
-        TimeRead::Of(t) => {
-            if start {
-                PropertyValue::Start(t)
-            } else {
-                PropertyValue::End(t)
-            }
-        }
-        TimeRead::Bad => PropertyValue::Bad,
-    }
-}
-
-// DTSTART or DTEND. With TZID the line is unsupported, whatever else is on it.
-fn time_value(
-    start: bool,
-    c: Context,
-    scope: Scope,
-    line: &[u8],
-    v: &[u8],
+// A line with its value; where it is plain, it has no parameter at all, and none is looked for.
+#[derive(Clone, Copy)]
+struct Line<'a> {
+    text: &'a [u8],
+    value: &'a [u8],
     plain: bool,
-) -> PropertyValue
-    requires context_good { ContextGood c }
-    requires v_value { v.now ≡ value_of line.now }
-    requires line_value { plain ≡ true → (line_of line.now).parameters ≡ [] }
-    ensures { reading_of result ≡ value_as (cond start Property.Start Property.End) c scope (line_of line.now) }
-{
-    if is_zoned(line, plain) {
-        return PropertyValue::Unsupported;
-    }
-    timed(start, time_in(scope, time_on(c, line, v, plain)))
+    ghost value_is: { value.now ≡ value_of text.now },
+    ghost no_parameters: { plain ≡ true → (line_of text.now).parameters ≡ [] },
 }
 
-fn recurrence_by(r: TimeRead) -> PropertyValue
-    ensures { reading_of result ≡ time_fact (λ t. Fact.identity (IdentityFact.recurrence_id t)) r }
-{
-    match r {
-        TimeRead::Of(t) => PropertyValue::RecurrenceId(t),
-        TimeRead::Bad => PropertyValue::Bad,
+impl<'a> Line<'a> {
+    // The line whose name is n bytes long: behind its name, where it is plain, its value is.
+    fn new(text: &'a [u8], n: usize) -> Line<'a>
+        requires { n ≡ length (name_of text.now) }
+        ensures { result.text.now ≡ text.now }
+    {
+        let plain = line::read::is_plain(text, n);
+        let value = if plain {
+            &text[n + 1..]
+        } else {
+            line::read::value(text)
+        };
+        Line { text, value, plain }
+    }
+
+    fn has(self, name: &[u8]) -> bool
+        ensures { result ≡ has_parameter name.now (line_of self.entry.text.now) }
+    {
+        if self.plain {
+            return false;
+        }
+        line::read::has_parameter(self.text, name)
+    }
+
+    fn is_zoned(self) -> bool
+        ensures { result ≡ has_parameter (ascii "TZID") (line_of self.entry.text.now) }
+    {
+        self.has(b"TZID")
+    }
+
+    // The form that it asks for.
+    fn form(self) -> Form
+        ensures { result ≡ form_of (line_of self.entry.text.now) }
+    {
+        if self.plain {
+            return Form::DateTime;
+        }
+        times::form_of(self.text)
+    }
+
+    // The time that it gives.
+    fn time(self, c: Context) -> Option<Time>
+        requires { ContextGood c }
+        ensures { result ≡ time_of c (line_of self.entry.text.now) }
+    {
+        times::read_time(c, self.form(), self.value)
     }
 }
 
-// RECURRENCE-ID. With RANGE or TZID the line is unsupported, whatever else is on it.
-fn recurrence_value(c: Context, line: &[u8], v: &[u8], plain: bool) -> PropertyValue
-    requires context_good { ContextGood c }
-    requires v_value { v.now ≡ value_of line.now }
-    requires line_value { plain ≡ true → (line_of line.now).parameters ≡ [] }
-    ensures { (s : Scope) → reading_of result ≡ value_as Property.RecurrenceId c s (line_of line.now) }
+// The time of DTSTART or DTEND. With TZID the line is unsupported, whatever else is on it.
+fn time_value(c: Context, scope: Scope, line: Line) -> Result<Time, ValueError>
+    requires { ContextGood c }
+    ensures { (f : Time → Fact) → time_reading f result ≡ unless_zoned (line_of line.entry.text.now) (time_fact f (time_in scope (time_of c (line_of line.entry.text.now)))) }
 {
-    if is_ranged(line, plain) {
-        return PropertyValue::Unsupported;
+    if line.is_zoned() {
+        return Err(ValueError::Unsupported);
     }
-    if is_zoned(line, plain) {
-        return PropertyValue::Unsupported;
+    time_in(scope, line.time(c)).ok_or(ValueError::Bad)
+}
+
+// That of RECURRENCE-ID. With RANGE or TZID the line is unsupported, whatever else is on it.
+fn recurrence_value(c: Context, line: Line) -> Result<Time, ValueError>
+    requires { ContextGood c }
+    ensures { (f : Time → Fact) → time_reading f result ≡ unless_ranged (line_of line.entry.text.now) (unless_zoned (line_of line.entry.text.now) (time_fact f (time_of c (line_of line.entry.text.now)))) }
+{
+    if line.has(b"RANGE") {
+        return Err(ValueError::Unsupported);
     }
-    recurrence_by(time_on(c, line, v, plain))
+    if line.is_zoned() {
+        return Err(ValueError::Unsupported);
+    }
+    line.time(c).ok_or(ValueError::Bad)
 }
 
 // EXDATE with times of the form.
-fn exceptions_by(form: Form) -> PropertyValue
+fn exceptions_by(form: Form) -> Result<PropertyValue, ValueError>
     ensures { reading_of result ≡ exceptions_by form }
 {
     match form {
-        Form::DateTime => PropertyValue::HasExceptions(Form::DateTime),
-        Form::Date => PropertyValue::HasExceptions(Form::Date),
-        Form::Wrong => PropertyValue::Bad,
+        Form::Wrong => Err(ValueError::Bad),
+        f => Ok(PropertyValue::HasExceptions(f)),
     }
 }
 
 // EXDATE: the form of its times, and they are left to the caller. With TZID the line is unsupported.
-fn exceptions_value(line: &[u8], plain: bool) -> PropertyValue
-    requires { plain ≡ true → (line_of line.now).parameters ≡ [] }
-    ensures { (c : Context) (s : Scope) → reading_of result ≡ value_as Property.Exceptions c s (line_of line.now) }
+fn exceptions_value(line: Line) -> Result<PropertyValue, ValueError>
+    ensures { (c : Context) (s : Scope) → reading_of result ≡ value_as (Some Property.Exceptions) c s (line_of line.entry.text.now) }
 {
-    if is_zoned(line, plain) {
-        return PropertyValue::Unsupported;
+    if line.is_zoned() {
+        return Err(ValueError::Unsupported);
     }
-    exceptions_by(form_in(line, plain))
+    exceptions_by(line.form())
 }
 
-fn is_start(property: Property) -> bool
-    ensures { result ≡ is_start property }
-{
-    match property {
-        Property::Start => true,
-        Property::End => false,
-        Property::Duration => false,
-        Property::Rule => false,
-        Property::Status => false,
-        Property::Transparency => false,
-        Property::Uid => false,
-        Property::RecurrenceId => false,
-        Property::Exceptions => false,
-        Property::Periods => false,
-        Property::Unsupported => false,
-        Property::Unread => false,
-    }
-}
-
-fn duration_by(r: DurationRead) -> PropertyValue
-    ensures { reading_of result ≡ duration_by r }
-{
-    match r {
-        DurationRead::Of(d) => PropertyValue::Lasts(d),
-        DurationRead::Bad => PropertyValue::Bad,
-    }
-}
-
-fn rule_value(r: RuleRead) -> PropertyValue
-    ensures { reading_of result ≡ rule_value r }
-{
-    match r {
-        RuleRead::Of(x) => PropertyValue::Repeats(x),
-        RuleRead::Unsupported => PropertyValue::Unsupported,
-        RuleRead::Bad => PropertyValue::Bad,
-    }
-}
-
-// The status that a word names, ASCII case disregarded.
+// The status that a word names, ASCII case disregarded. No From<&[u8]>, and busy_named neither: BusyType is of crate periods, which knows no words.
 fn status_named(v: &[u8]) -> Status
     ensures { result ≡ status_named v.now }
 {
@@ -372,43 +297,40 @@ fn type_is_bad(line: &[u8]) -> bool
     ensures { result ≡ (has_twice (ascii "FBTYPE") (line_of line.now) || has_list (ascii "FBTYPE") (line_of line.now)) }
 {
     let u = line::read::usage_of(line, b"FBTYPE");
-    let times = u.times;
-    let listed = u.listed;
-    (1 < times) | listed
+    (1 < u.times) | u.listed
 }
 
 // The type of a line whose one parameter is p.
-fn type_by(p: &[u8]) -> PropertyValue
+fn type_by(p: &[u8]) -> Result<PropertyValue, ValueError>
     ensures { (x : ContentLine) → x.parameters ≡ parameter_of p.now ∷ [] → reading_of result ≡ type_value x }
 {
     if !line::read::is_named(p, b"FBTYPE") {
-        return PropertyValue::HasPeriods(BusyType::Busy);
+        return Ok(PropertyValue::HasPeriods(BusyType::Busy));
     }
     if 1 < line::read::value_count(p) {
-        return PropertyValue::Bad;
+        return Err(ValueError::Bad);
     }
-    PropertyValue::HasPeriods(busy_named(line::read::parameter_value(p, 0)))
+    Ok(PropertyValue::HasPeriods(busy_named(line::read::parameter_value(p, 0))))
 }
 
 // The type of a line, whatever its parameters are.
-fn type_among(line: &[u8]) -> PropertyValue
+fn type_among(line: &[u8]) -> Result<PropertyValue, ValueError>
     ensures { reading_of result ≡ type_value (line_of line.now) }
 {
     if type_is_bad(line) {
-        return PropertyValue::Bad;
+        return Err(ValueError::Bad);
     }
-    PropertyValue::HasPeriods(busy_of(line))
+    Ok(PropertyValue::HasPeriods(busy_of(line)))
 }
 
 // FREEBUSY: its type, and the periods are left to the caller. Most lines have one parameter, and then one look at it is enough.
-fn type_value(line: &[u8], plain: bool) -> PropertyValue
-    requires { plain ≡ true → (line_of line.now).parameters ≡ [] }
-    ensures { reading_of result ≡ type_value (line_of line.now) }
+fn type_value(line: Line) -> Result<PropertyValue, ValueError>
+    ensures { reading_of result ≡ type_value (line_of line.entry.text.now) }
 {
-    if plain {
-        return PropertyValue::HasPeriods(BusyType::Busy);
+    if line.plain {
+        return Ok(PropertyValue::HasPeriods(BusyType::Busy));
     }
-    let h = line::read::head(line);
+    let h = line::read::head(line.text);
     let at = split::find(h, 0, 59, true);
     if at < h.len() {
         let from = at + 1;
@@ -417,65 +339,56 @@ fn type_value(line: &[u8], plain: bool) -> PropertyValue
             return type_by(&h[from..e]);
         }
     }
-    type_among(line)
+    type_among(line.text)
 }
 
-// What a line says as the property. Its value is v, and the items of a list are left to the caller.
-// The last arm is DTSTART and DTEND, together, so that a time is read in one place.
+// What a line says as the property; the items of a list are left to the caller.
+// There is no table of readers, since each answers its own type.
 fn value_as(
     property: Property,
     c: Context,
     scope: Scope,
-    line: &[u8],
-    v: &[u8],
-    plain: bool,
-) -> PropertyValue
-    requires context_good { ContextGood c }
-    requires v_value { v.now ≡ value_of line.now }
-    requires line_value { plain ≡ true → (line_of line.now).parameters ≡ [] }
-    ensures { reading_of result ≡ value_as property c scope (line_of line.now) }
+    line: Line,
+) -> Result<PropertyValue, ValueError>
+    requires { ContextGood c }
+    ensures { reading_of result ≡ value_as (Some property) c scope (line_of line.entry.text.now) }
 {
     match property {
-        Property::Unread => PropertyValue::Nothing,
-        Property::Unsupported => PropertyValue::Unsupported,
-        Property::Duration => duration_by(duration::read_duration(v)),
-        Property::Rule => rule_value(rule::rule_of(c, v)),
-        Property::Status => PropertyValue::HasStatus(status_named(v)),
-        Property::Transparency => PropertyValue::Transparent(ascii::same_name(v, b"TRANSPARENT")),
-        Property::Uid => PropertyValue::Uid,
-        Property::RecurrenceId => recurrence_value(c, line, v, plain),
-        Property::Exceptions => exceptions_value(line, plain),
-        Property::Periods => type_value(line, plain),
-        _ => time_value(is_start(property), c, scope, line, v, plain),
+        Property::Start => time_value(c, scope, line).map(PropertyValue::Start),
+        Property::End => time_value(c, scope, line).map(PropertyValue::End),
+        Property::Duration => duration::read_duration(line.value)
+            .map(PropertyValue::Lasts)
+            .ok_or(ValueError::Bad),
+        Property::Rule => rule::rule_of(c, line.value).map(PropertyValue::Repeats),
+        Property::Status => Ok(PropertyValue::HasStatus(status_named(line.value))),
+        Property::Transparency => Ok(PropertyValue::Transparent(ascii::same_name(
+            line.value,
+            b"TRANSPARENT",
+        ))),
+        Property::Uid => Ok(PropertyValue::Uid),
+        Property::RecurrenceId => recurrence_value(c, line).map(PropertyValue::RecurrenceId),
+        Property::Exceptions => exceptions_value(line),
+        Property::Periods => type_value(line),
+        Property::Unsupported => Err(ValueError::Unsupported),
     }
-}
-
-// The value of a line, whose name is n bytes long: behind its name, where it is plain.
-fn value_in(line: &[u8], n: usize, plain: bool) -> &[u8]
-    requires { plain ≡ true → Plain line.now n }
-    ensures { result.now ≡ value_of line.now }
-{
-    if plain {
-        return &line[n + 1..];
-    }
-    line::read::value(line)
 }
 
 // What a line, whose name is n bytes long, says directly in the component; the items of a list are left to the caller.
 // Where no rule reads it, its value is not looked for.
-pub fn property_value(c: Context, scope: Scope, line: &[u8], n: usize) -> PropertyValue
+pub fn property_value(
+    c: Context,
+    scope: Scope,
+    line: &[u8],
+    n: usize,
+) -> Result<PropertyValue, ValueError>
     requires context_good { ContextGood c }
     requires n_value { n ≡ length (name_of line.now) }
     ensures { reading_of result ≡ before_items c scope (line_of line.now) }
 {
-    let property = property_of(scope, &line[..n]);
-    match property {
-        Property::Unread => PropertyValue::Nothing,
-        _ => {
-            let plain = line::read::is_plain(line, n);
-            value_as(property, c, scope, line, value_in(line, n, plain), plain)
-        }
-    }
+    let Some(property) = property_of(scope, &line[..n]) else {
+        return Ok(PropertyValue::Nothing);
+    };
+    value_as(property, c, scope, Line::new(line, n))
 }
 
 // Does the line, whose name is n bytes long, give periods directly in a VFREEBUSY?

@@ -1,10 +1,11 @@
 // A record's text against a value.
 // Without a text any value holds up; the collation is the record's own.
+// Collation, flag and the 0 for no text stay numbers, as the record keeps them (`query`):
+// docs/TRACE.md names `collation_of` and `text_passes`, and these and `text_or` have definitions that take the numbers.
 ghost use Rattle.std.specs.Prelude.{◌≡◌, ◌≤◌};
-ghost use Rattle.query.specs.Fits.{Fits};
 ghost use Rattle.property_tests.specs.PropertyTests.{collation_of, text_or, text_passes};
 
-use query::{Sections, fields};
+use query::Query;
 use text::Collation;
 
 // The collation of a record.
@@ -19,15 +20,14 @@ fn collation_of(n: usize) -> Collation
 }
 
 // The bytes of a record's text, looked up once and handed on; none, where there is no text.
-pub fn text_or<'a>(query: &'a [u8], q: Sections, text: usize) -> &'a [u8]
-    requires fits { Fits query.now q }
-    requires text_le_count { text ≤ q.texts.count }
-    ensures { result.now ≡ text_or query.now q text }
+pub fn text_or<'a>(q: &Query<'a>, text: usize) -> &'a [u8]
+    requires { text ≤ q.now.sections.texts.count }
+    ensures { result.now ≡ text_or q.now.bytes.now q.now.sections text }
 {
     if text == 0 {
-        return &query[..0];
+        return &q.bytes[..0];
     }
-    fields::text_of(query, q, text - 1)
+    q.text_of(text - 1)
 }
 
 // Does a value hold up against text number n, whose bytes these are? Without one any value does.

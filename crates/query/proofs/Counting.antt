@@ -1,7 +1,18 @@
 -- Tests of every number below a bound, and of some number below it: what a loop over them keeps, and what they say.
 use Prim.Native.Nat.{ℕ, zero, suc, ◌+◌, ◌≤◌, ◌<◌}
-use mathlib.Core.Path.{◌≡◌, refl, sym, subst, ◌∙◌}
-use mathlib.Core.Bool.{Bool, true, false}
+use mathlib.Core.Path.{◌≡◌, refl, sym, ap, subst, ◌∙◌}
+use mathlib.Core.Bool.{Bool, true, false, ◌&&◌, ◌||◌}
+use denote.Param.Members.{Mut}
+use Rattle.std.proofs.Common.{add-zero, zero-add, add-one}
+use Rattle.std.proofs.Math.Bool.{and-true, or-false, and_assoc, or_assoc}
+use Rattle.std.proofs.Math.Nat.{sub-zero}
+use Rattle.std.proofs.iter.Yields.{nat_range_steps}
+use Rattle.std.proofs.lemmas.Iterator.{YieldsList-from_range}
+use Rattle.std.proofs.lemmas.Iterator.Search.{all_from_yields_List, any_from_yields_List}
+use Rattle.std.specs.declared.ops.Range.{Range}
+use Rattle.std.specs.Fn.{Called}
+use Rattle.std.specs.Iterator.{ChecksAll, ChecksAny}
+use Rattle.std.specs.List.{list_all, list_any, range_with_len}
 use native.Mathlib.Omega.{arith}
 use lib.Dec.{ltb}
 use borrow.Author.Tests.{ltb-true, ltb-false}
@@ -74,3 +85,39 @@ module _ {f : ℕ → Bool} {n k : ℕ} where
 
   pub none_end : SoFar false f n k → n ≤ k → false ≡ some_below n f
   none_end w h = sym (none_all f n (λ i l. w.each i (omega arith)))
+
+-- ---- what `all` and `any` over the numbers below n answer
+
+module _ (f : ℕ → Bool) where
+  every_on : (a n : ℕ) → every_below (a + n) f ≡ (every_below a f && list_all f (range_with_len a n))
+  unfolding every_below
+  every_on a zero = rw add-zero (sym (and-true (every_below a f)))
+  every_on a (suc n) =
+      ap (λ m. every_below m f) (let e : a + suc n ≡ (a + 1) + n = omega arith in e)
+      ∙ every_on (a + 1) n
+      ∙ rw add-one (and_assoc (every_below a f) (f a) _)
+
+  some_on : (a n : ℕ) → some_below (a + n) f ≡ (some_below a f || list_any f (range_with_len a n))
+  unfolding some_below
+  some_on a zero = rw add-zero (sym (or-false (some_below a f)))
+  some_on a (suc n) =
+      ap (λ m. some_below m f) (let e : a + suc n ≡ (a + 1) + n = omega arith in e)
+      ∙ some_on (a + 1) n
+      ∙ rw add-one (or_assoc (some_below a f) (f a) _)
+
+-- g is the test that is called, and each call gives what f does
+module _ {F : Type 0} {g : Mut F (ℕ × Unit {0}) Bool} {s u : Range ℕ} {h : F} {r : Bool} (f : ℕ → Bool) (n : ℕ) (e : s ≡ record { start = 0; end = n })
+    (gives : (x : ℕ) (b : Bool) (q : F) → Called g h (x, tt) b q → (q ≡ h) × (b ≡ f x)) where
+  pub all_below : ChecksAll nat_range_steps g s h r u → r ≡ every_below n f
+  unfolding every_below
+  all_below ran =
+      all_from_yields_List f _ _ _ ran (YieldsList-from_range 0 n n e (sub-zero n)) gives
+      ∙ sym (every_on f 0 n)
+      ∙ ap (λ m. every_below m f) (zero-add n)
+
+  pub any_below : ChecksAny nat_range_steps g s h r u → r ≡ some_below n f
+  unfolding some_below
+  any_below ran =
+      any_from_yields_List f _ _ _ ran (YieldsList-from_range 0 n n e (sub-zero n)) gives
+      ∙ sym (some_on f 0 n)
+      ∙ ap (λ m. some_below m f) (zero-add n)

@@ -7,7 +7,7 @@ use native.Mathlib.Omega.{arith}
 use lib.ListN.{length, take, drop}
 use Rattle.query.specs.Fits.{Fits}
 use Rattle.query.specs.Sections.{byte_at}
-use Rattle.query.specs.Records.{number4, number8, text_place, text_from, text_of, component_at, property_at, parameter_at}
+use Rattle.query.specs.Records.{text_place, text_from, text_of, component_at, property_at, parameter_at}
 use Rattle.query.specs.declared.Sections.{Sections}
 use Rattle.query.specs.declared.ComponentRecord.{ComponentRecord}
 use Rattle.query.specs.declared.PropertyRecord.{PropertyRecord}
@@ -15,20 +15,6 @@ use Rattle.query.specs.declared.ParameterRecord.{ParameterRecord}
 use Rattle.query.proofs.Counting.{below_suc}
 
 module _ (s : List ℕ) where
-  -- four bytes are a number, and two such numbers are one of eight bytes
-  pub number4_is : {a b c d : ℕ} (at : ℕ) → a ≡ byte_at s at → b ≡ byte_at s (at + 1) → c ≡ byte_at s (at + 2) → d ≡ byte_at s (at + 3)
-      → ((a * 256 + b) * 256 + c) * 256 + d ≡ number4 s at
-  unfolding number4
-  number4_is at p q r t = omega arith
-
-  pub number8_is : {h l : ℕ} (at : ℕ) → h ≡ number4 s at → l ≡ number4 s (at + 4) → h * 4294967296 + l ≡ number8 s at
-  unfolding number4 number8
-  number8_is at p q =
-      let a : at + 4 + 1 ≡ at + 5 = omega arith in
-      let b : at + 4 + 2 ≡ at + 6 = omega arith in
-      let c : at + 4 + 3 ≡ at + 7 = omega arith in
-      omega (arith, ap (byte_at s) a, ap (byte_at s) b, ap (byte_at s) c)
-
   -- the place of the next text
   pub place_suc : (n at : ℕ) → text_place s (suc n) at ≡ text_place s n at + 1 + byte_at s (text_place s n at)
   unfolding text_place

@@ -1,4 +1,5 @@
 -- Laws of places: a byte past the end, and each way out of a section.
+use Rattle.std.specs.Prelude.{None, Option, Some}
 use Prim.Native.Nat.{ℕ, zero, suc, ◌+◌, ◌*◌, ◌-◌, ◌≤◌, ◌<◌}
 use mathlib.Core.Path.{◌≡◌, refl, sym, ap, ◌∙◌}
 use mathlib.Core.Bool.{Bool, true, false, ◌&&◌}
@@ -11,9 +12,7 @@ use borrow.Author.Tests.{ltb-true, leb-true, leb-false, lt-ltb, le-ltb, le-leb, 
 use Rattle.ascii.proofs.Bools.{and_left, and_right}
 use Rattle.query.specs.Layout.{Reached}
 use Rattle.query.specs.Sections.{byte_at, count_fits, place_within, behind_records, behind_text, behind_texts, behind_text_section, section_at, sections_of}
-use Rattle.query.specs.declared.PlaceRead.{PlaceRead}
 use Rattle.query.specs.declared.Section.{Section}
-use Rattle.query.specs.declared.SectionsRead.{SectionsRead}
 
 -- past the end a byte reads as 0
 pub byte_past : (s : List ℕ) (i : ℕ) → length s ≤ i → byte_at s i ≡ 0
@@ -24,26 +23,26 @@ byte_past (a ∷ s) (suc i) h = byte_past s i (omega arith)
 
 module _ (s : List ℕ) where
   -- a place that the bytes reach, and one that they do not
-  pub place_within_reached : (p : ℕ) → p ≤ length s → place_within s p ≡ PlaceRead.At p
+  pub place_within_reached : (p : ℕ) → p ≤ length s → place_within s p ≡ Some p
   unfolding place_within
   place_within_reached p h = rw (le-leb p (length s) h)
 
-  pub place_within_short : (p : ℕ) → length s < p → place_within s p ≡ PlaceRead.Bad
+  pub place_within_short : (p : ℕ) → length s < p → place_within s p ≡ None
   unfolding place_within
   place_within_short p h = rw (lt-leb p (length s) h)
 
   -- n texts: one is behind, or it does not fit
-  pub texts_next : (n at p : ℕ) → 0 < n → behind_text s at ≡ PlaceRead.At p → behind_texts s (n - 1) p ≡ behind_texts s n at
+  pub texts_next : (n at p : ℕ) → 0 < n → behind_text s at ≡ Some p → behind_texts s (n - 1) p ≡ behind_texts s n at
   unfolding behind_texts
   texts_next zero at p h e = absurd (omega arith)
   texts_next (suc n) at p h e = let k : suc n - 1 ≡ n = omega arith in rw (k, e)
 
-  pub texts_stop : (n at : ℕ) → 0 < n → behind_text s at ≡ PlaceRead.Bad → behind_texts s n at ≡ PlaceRead.Bad
+  pub texts_stop : (n at : ℕ) → 0 < n → behind_text s at ≡ None → behind_texts s n at ≡ None
   unfolding behind_texts
   texts_stop zero at h e = absurd (omega arith)
   texts_stop (suc n) at h e = rw e
 
-  pub texts_none : (n at : ℕ) → n ≤ 0 → behind_texts s n at ≡ PlaceRead.At at
+  pub texts_none : (n at : ℕ) → n ≤ 0 → behind_texts s n at ≡ Some at
   unfolding behind_texts
   texts_none zero at h = refl
   texts_none (suc n) at h = absurd (omega arith)
@@ -68,32 +67,32 @@ product_fits n w h k = let j : n ≤ 255 = omega arith in mul-le-mul j k
 
 -- a section of records, by its count
 module _ (s : List ℕ) (at least most width : ℕ) where
-  pub behind_yes : {n : ℕ} {r : PlaceRead} → count_fits s at least most ≡ true → n ≡ byte_at s at → r ≡ place_within s (at + 1 + n * width)
+  pub behind_yes : {n : ℕ} {r : Option ℕ} → count_fits s at least most ≡ true → n ≡ byte_at s at → r ≡ place_within s (at + 1 + n * width)
       → r ≡ behind_records s at least most width
   unfolding behind_records
   behind_yes e k h = rw e (h ∙ ap (λ (m : ℕ). place_within s (at + 1 + m * width)) k)
 
-  pub behind_no : count_fits s at least most ≡ false → behind_records s at least most width ≡ PlaceRead.Bad
+  pub behind_no : count_fits s at least most ≡ false → behind_records s at least most width ≡ None
   unfolding behind_records
   behind_no e = rw e
 
 -- one text, by its length byte
 module _ (s : List ℕ) (at : ℕ) where
-  pub text_yes : {n : ℕ} {r : PlaceRead} → at < length s → n ≡ byte_at s at → r ≡ place_within s (at + 1 + n) → r ≡ behind_text s at
+  pub text_yes : {n : ℕ} {r : Option ℕ} → at < length s → n ≡ byte_at s at → r ≡ place_within s (at + 1 + n) → r ≡ behind_text s at
   unfolding behind_text
   text_yes e k h = rw (lt-ltb at (length s) e) (h ∙ ap (λ (m : ℕ). place_within s (at + 1 + m)) k)
 
-  pub text_no : length s ≤ at → behind_text s at ≡ PlaceRead.Bad
+  pub text_no : length s ≤ at → behind_text s at ≡ None
   unfolding behind_text
   text_no e = rw (le-ltb at (length s) e)
 
   -- the section of texts, by its count
-  pub text_section_yes : {n : ℕ} {r : PlaceRead} → count_fits s at 0 32 ≡ true → n ≡ byte_at s at → r ≡ behind_texts s n (at + 1)
+  pub text_section_yes : {n : ℕ} {r : Option ℕ} → count_fits s at 0 32 ≡ true → n ≡ byte_at s at → r ≡ behind_texts s n (at + 1)
       → r ≡ behind_text_section s at
   unfolding behind_text_section
   text_section_yes e k h = rw e (h ∙ ap (λ (m : ℕ). behind_texts s m (at + 1)) k)
 
-  pub text_section_no : count_fits s at 0 32 ≡ false → behind_text_section s at ≡ PlaceRead.Bad
+  pub text_section_no : count_fits s at 0 32 ≡ false → behind_text_section s at ≡ None
   unfolding behind_text_section
   text_section_no e = rw e
 
@@ -102,23 +101,23 @@ abbrev pub section : ℕ → ℕ → Section
 section n p = record { count = n; at = p }
 
 -- a place and no place are apart
-pub no_place : {A : Type 0} {r : PlaceRead} {p : ℕ} → r ≡ PlaceRead.At p → r ≡ PlaceRead.Bad → A
+pub no_place : {A : Type 0} {r : Option ℕ} {p : ℕ} → r ≡ Some p → r ≡ None → A
 no_place e k = let z : ◌≡◌ {A = ℕ} 0 1 = cc in absurd (omega arith)
 
 -- a place that was answered is reached
-pub reached : (s : List ℕ) (x p : ℕ) → place_within s x ≡ PlaceRead.At p → Reached s x p
+pub reached : (s : List ℕ) (x p : ℕ) → place_within s x ≡ Some p → Reached s x p
 reached s x p e = go (leb x (length s)) refl
   where
     go : (t : Bool) → leb x (length s) ≡ t → Reached s x p
     go true k =
         let h : x ≤ length s = leb-true x (length s) k in
-        let j : PlaceRead.At p ≡ PlaceRead.At x = sym e ∙ place_within_reached s x h in
+        let j : Some p ≡ Some x = sym e ∙ place_within_reached s x h in
         record { is = cc; inside = h }
     go false k = no_place e (place_within_short s x (leb-false x (length s) k))
 
 -- a section that fits: its count, and the place behind it
 module _ (s : List ℕ) (at : ℕ) {p : ℕ} where
-  module _ (least most width : ℕ) (e : behind_records s at least most width ≡ PlaceRead.At p) where
+  module _ (least most width : ℕ) (e : behind_records s at least most width ≡ Some p) where
     pub records_count : count_fits s at least most ≡ true
     records_count = go (count_fits s at least most) refl
       where
@@ -132,7 +131,7 @@ module _ (s : List ℕ) (at : ℕ) {p : ℕ} where
     pub records_inside : at < length s
     records_inside = count_inside s at least most records_count
 
-  module _ (e : behind_text_section s at ≡ PlaceRead.At p) where
+  module _ (e : behind_text_section s at ≡ Some p) where
     pub texts_count : count_fits s at 0 32 ≡ true
     texts_count = go (count_fits s at 0 32) refl
       where
@@ -140,7 +139,7 @@ module _ (s : List ℕ) (at : ℕ) {p : ℕ} where
         go true k = k
         go false k = no_place e (text_section_no s at k)
 
-    pub texts_end : behind_texts s (byte_at s at) (at + 1) ≡ PlaceRead.At p
+    pub texts_end : behind_texts s (byte_at s at) (at + 1) ≡ Some p
     texts_end = text_section_yes s at texts_count refl refl ∙ e
 
     pub texts_inside : at < length s
@@ -148,35 +147,35 @@ module _ (s : List ℕ) (at : ℕ) {p : ℕ} where
 
 -- the five sections, one behind the other, and each way not to be there
 module _ (s : List ℕ) where
-  pub no_first : behind_records s 0 0 8 16 ≡ PlaceRead.Bad → sections_of s ≡ SectionsRead.Bad
+  pub no_first : behind_records s 0 0 8 16 ≡ None → sections_of s ≡ None
   unfolding sections_of
   no_first e = rw e
 
-  module _ {t : ℕ} (one : behind_records s 0 0 8 16 ≡ PlaceRead.At t) where
-    pub no_second : behind_text_section s t ≡ PlaceRead.Bad → sections_of s ≡ SectionsRead.Bad
+  module _ {t : ℕ} (one : behind_records s 0 0 8 16 ≡ Some t) where
+    pub no_second : behind_text_section s t ≡ None → sections_of s ≡ None
     unfolding sections_of
     no_second e = rw (one, e)
 
-    module _ {c : ℕ} (two : behind_text_section s t ≡ PlaceRead.At c) where
-      pub no_third : behind_records s c 1 16 4 ≡ PlaceRead.Bad → sections_of s ≡ SectionsRead.Bad
+    module _ {c : ℕ} (two : behind_text_section s t ≡ Some c) where
+      pub no_third : behind_records s c 1 16 4 ≡ None → sections_of s ≡ None
       unfolding sections_of
       no_third e = rw (one, two, e)
 
-      module _ {p : ℕ} (three : behind_records s c 1 16 4 ≡ PlaceRead.At p) where
-        pub no_fourth : behind_records s p 0 32 6 ≡ PlaceRead.Bad → sections_of s ≡ SectionsRead.Bad
+      module _ {p : ℕ} (three : behind_records s c 1 16 4 ≡ Some p) where
+        pub no_fourth : behind_records s p 0 32 6 ≡ None → sections_of s ≡ None
         unfolding sections_of
         no_fourth e = rw (one, two, three, e)
 
-        module _ {q : ℕ} (four : behind_records s p 0 32 6 ≡ PlaceRead.At q) where
-          pub no_fifth : behind_records s q 0 32 5 ≡ PlaceRead.Bad → sections_of s ≡ SectionsRead.Bad
+        module _ {q : ℕ} (four : behind_records s p 0 32 6 ≡ Some q) where
+          pub no_fifth : behind_records s q 0 32 5 ≡ None → sections_of s ≡ None
           unfolding sections_of
           no_fifth e = rw (one, two, three, four, e)
 
-          pub all_five : {e : ℕ} {r1 r2 r3 r4 r5 : Section} → behind_records s q 0 32 5 ≡ PlaceRead.At e → r1 ≡ section_at s 0
+          pub all_five : {e : ℕ} {r1 r2 r3 r4 r5 : Section} → behind_records s q 0 32 5 ≡ Some e → r1 ≡ section_at s 0
               → r2 ≡ section_at s t
               → r3 ≡ section_at s c
               → r4 ≡ section_at s p
               → r5 ≡ section_at s q
-              → SectionsRead.Of (record { ranges = r1; texts = r2; components = r3; properties = r4; parameters = r5; end = e }) ≡ sections_of s
+              → Some (record { ranges = r1; texts = r2; components = r3; properties = r4; parameters = r5; end = e }) ≡ sections_of s
           unfolding sections_of
           all_five five e1 e2 e3 e4 e5 = rw (one, two, three, four, five, e1, e2, e3, e4, e5)

@@ -1,18 +1,13 @@
--- What the readers of single records ask of sections, and what a read byte or number is.
+-- What the readers of single records ask of sections, and what a read byte is.
 use Rattle.std.specs.Prelude.{ℕ, ◌+◌, ◌*◌, ◌≤◌, ◌<◌, ◌≡◌, List, length}
 use Rattle.query.specs.Sections.{byte_at}
-use Rattle.query.specs.Records.{number4, text_place}
+use Rattle.query.specs.Records.{text_place}
 use Rattle.query.specs.declared.Sections.{Sections}
 
 -- the byte at a place, as a number
 pub record ByteOf (s : List ℕ) (i r : ℕ) : Type 0 where
   pub is : r ≡ byte_at s i
   pub small : r < 256
-
--- the four bytes at a place, as a number
-pub record NumberOf (s : List ℕ) (i r : ℕ) : Type 0 where
-  pub is : r ≡ number4 s i
-  pub small : r < 4294967296
 
 -- the sections lie inside the bytes, and each has no more records than it may have
 pub record Fits (s : List ℕ) (q : Sections) : Type 0 where

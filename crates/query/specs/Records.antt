@@ -6,10 +6,6 @@ use Rattle.query.specs.declared.ComponentRecord.{ComponentRecord}
 use Rattle.query.specs.declared.PropertyRecord.{PropertyRecord}
 use Rattle.query.specs.declared.ParameterRecord.{ParameterRecord}
 
--- four bytes, high byte first
-unfoldable pub number4 : List ℕ → ℕ → ℕ
-number4 s at = ((byte_at s at * 256 + byte_at s (at + 1)) * 256 + byte_at s (at + 2)) * 256 + byte_at s (at + 3)
-
 -- eight bytes, high byte first
 unfoldable pub number8 : List ℕ → ℕ → ℕ
 number8 s at =

@@ -2,6 +2,8 @@
 // Each function equals one definition of specs/.
 #![tactic(auto)]
 
+ghost use Rattle.query.specs.Fits.{Fits};
+
 pub mod fields;
 pub mod place;
 
@@ -23,18 +25,16 @@ pub struct Sections {
     pub end: usize,
 }
 
+// A query as its readers take it: its bytes, and its sections, which lie inside them.
 #[derive(Clone, Copy)]
-pub enum SectionsRead {
-    Of(Sections),
-    Bad,
+pub struct Query<'a> {
+    pub bytes: &'a [u8],
+    pub sections: Sections,
+    pub ghost fits: { Fits bytes.now sections },
 }
 
-// A place behind a section or a text, or that it does not fit.
-#[derive(Clone, Copy)]
-pub enum PlaceRead {
-    At(usize),
-    Bad,
-}
+// The records below keep each number as it stands, flags and 0 for none too:
+// `query_check` asks after whether it is one that may stand there.
 
 // A component record.
 #[derive(Clone, Copy)]

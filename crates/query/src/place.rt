@@ -5,7 +5,7 @@ ghost use Rattle.query.specs.Fits.{ByteOf};
 ghost use Rattle.query.specs.Sections.{count_fits, place_within, behind_records, behind_text, behind_texts, behind_text_section};
 ghost use Rattle.query.specs.Sections.{section_at, sections_of};
 
-use crate::{PlaceRead, Section, Sections, SectionsRead};
+use crate::{Section, Sections};
 
 // The byte at a place; 0 past the end.
 pub fn byte_at(s: &[u8], i: usize) -> usize
@@ -23,68 +23,59 @@ fn count_fits(s: &[u8], at: usize, least: usize, most: usize) -> bool
 }
 
 // The place n bytes on, where the bytes reach so far.
-fn place_within(s: &[u8], at: usize, n: usize) -> PlaceRead
+fn place_within(s: &[u8], at: usize, n: usize) -> Option<usize>
     requires { at ≤ length s.now }
     ensures { result ≡ place_within s.now (at + n) }
 {
     if n <= s.len() - at {
-        PlaceRead::At(at + n)
+        Some(at + n)
     } else {
-        PlaceRead::Bad
+        None
     }
 }
 
 // The place behind a section of records of one width.
-fn behind_records(s: &[u8], at: usize, least: usize, most: usize, width: usize) -> PlaceRead
+fn behind_records(s: &[u8], at: usize, least: usize, most: usize, width: usize) -> Option<usize>
     requires { width ≤ 16 }
     ensures { result ≡ behind_records s.now at least most width }
 {
     if count_fits(s, at, least, most) {
         place_within(s, at + 1, byte_at(s, at) * width)
     } else {
-        PlaceRead::Bad
+        None
     }
 }
 
 // The place behind one text.
-fn behind_text(s: &[u8], at: usize) -> PlaceRead
+fn behind_text(s: &[u8], at: usize) -> Option<usize>
     ensures { result ≡ behind_text s.now at }
 {
     if at < s.len() {
         place_within(s, at + 1, byte_at(s, at))
     } else {
-        PlaceRead::Bad
+        None
     }
 }
 
 // The place behind n texts.
-fn behind_texts(s: &[u8], n: usize, at: usize) -> PlaceRead
+fn behind_texts(s: &[u8], n: usize, at: usize) -> Option<usize>
     ensures { result ≡ behind_texts s.now n at }
 {
-    let mut left = n;
     let mut from = at;
-    while 0 < left {
-        match behind_text(s, from) {
-            PlaceRead::At(p) => {
-                from = p;
-                left -= 1;
-            }
-            PlaceRead::Bad => {
-                return PlaceRead::Bad;
-            }
-        }
+    for _ in 0..n {
+        from = behind_text(s, from)?;
     }
-    PlaceRead::At(from)
+    Some(from)
 }
 
 // The place behind the section of texts.
-fn behind_text_section(s: &[u8], at: usize) -> PlaceRead
+fn behind_text_section(s: &[u8], at: usize) -> Option<usize>
     ensures { result ≡ behind_text_section s.now at }
 {
     if count_fits(s, at, 0, 32) {
         behind_texts(s, byte_at(s, at), at + 1)
     } else {
-        PlaceRead::Bad
+        None
     }
 }
 
@@ -100,25 +91,15 @@ fn section_at(s: &[u8], at: usize) -> Section
 }
 
 // The five sections, one behind the other.
-pub fn sections_of(s: &[u8]) -> SectionsRead
+pub fn sections_of(s: &[u8]) -> Option<Sections>
     ensures { result ≡ sections_of s.now }
 {
-    let PlaceRead::At(t) = behind_records(s, 0, 0, 8, 16) else {
-        return SectionsRead::Bad;
-    };
-    let PlaceRead::At(c) = behind_text_section(s, t) else {
-        return SectionsRead::Bad;
-    };
-    let PlaceRead::At(p) = behind_records(s, c, 1, 16, 4) else {
-        return SectionsRead::Bad;
-    };
-    let PlaceRead::At(q) = behind_records(s, p, 0, 32, 6) else {
-        return SectionsRead::Bad;
-    };
-    let PlaceRead::At(e) = behind_records(s, q, 0, 32, 5) else {
-        return SectionsRead::Bad;
-    };
-    SectionsRead::Of(Sections {
+    let t = behind_records(s, 0, 0, 8, 16)?;
+    let c = behind_text_section(s, t)?;
+    let p = behind_records(s, c, 1, 16, 4)?;
+    let q = behind_records(s, p, 0, 32, 6)?;
+    let e = behind_records(s, q, 0, 32, 5)?;
+    Some(Sections {
         ranges: section_at(s, 0),
         texts: section_at(s, t),
         components: section_at(s, c),

@@ -1,5 +1,6 @@
 -- The theorems for the reader: `query_good` holds of exactly the queries that are well formed sentence by sentence, and
 -- `range_misplaced` fails of exactly those whose ranges all stand where they may.
+use Rattle.std.specs.Prelude.{None, Option, Some}
 use Prim.Native.Nat.{ℕ, zero, suc, ◌<◌}
 use mathlib.Core.Path.{◌≡◌, refl, sym, ap, ◌∙◌}
 use mathlib.Core.Bool.{Bool, true, false, not, ◌&&◌, ◌||◌}
@@ -12,13 +13,13 @@ use borrow.Author.Tests.{ltb-true, ltb-false, le-ltb, leb-true, eqb-true, lt-ltb
 use Rattle.time.specs.Limits.{last_second, range_good}
 use Rattle.ascii.specs.Names.{is_name, same_name}
 use Rattle.ascii.specs.Words.{ascii}
-use Rattle.ascii.proofs.Bools.{and_left, and_right, and_both, or_left, or_right, or_neither, clash, not_so}
+use Rattle.std.proofs.lemmas.Bool.{or_cases}
+use Rattle.ascii.proofs.Bools.{and_left, and_right, and_both, or_left, or_right, or_neither, or_by_left, or_by_right, clash, not_so}
 use Rattle.ascii.proofs.Names.{same_name_iff}
 use Rattle.query.specs.Records.{range_start, range_end, text_of, component_at, property_at, parameter_at}
 use Rattle.query.specs.Sections.{sections_of}
 use Rattle.query.specs.Counting.{implies}
 use Rattle.query.specs.declared.Sections.{Sections}
-use Rattle.query.specs.declared.SectionsRead.{SectionsRead}
 use Rattle.query.specs.declared.ComponentRecord.{ComponentRecord}
 use Rattle.query.specs.declared.PropertyRecord.{PropertyRecord}
 use Rattle.query.specs.declared.ParameterRecord.{ParameterRecord}
@@ -290,9 +291,9 @@ module _ (s : List ℕ) (q : Sections) where
       (every_all (parameter_holds s q) _ (λ i h. parameter_tests (parameter_at s q i) (g.parameters_good_holds i h)))
 
 module _ (s : List ℕ) where
-  whole_query_says : (r : SectionsRead) → sections_of s ≡ r → query_good s ≡ true → WellFormedQuery s
-  whole_query_says SectionsRead.Bad e g = clash g (query_none s e)
-  whole_query_says (SectionsRead.Of q) e g =
+  whole_query_says : (r : Option Sections) → sections_of s ≡ r → query_good s ≡ true → WellFormedQuery s
+  whole_query_says None e g = clash g (query_none s e)
+  whole_query_says (Some q) e g =
       let all : (leb (length s) 4096 && (eqb q.end (length s) && records_good s q)) ≡ true = query_of s e refl ∙ g in
       let rest = and_right (leb (length s) 4096) (eqb q.end (length s) && records_good s q) all in
       record {
@@ -313,18 +314,6 @@ module _ (s : List ℕ) where
   query_good_iff = (whole_query_says (sections_of s) refl, whole_query_tests)
 
 -- one of two tests that together hold
-either : (a b : Bool) → (a || b) ≡ true → (a ≡ true) ⊎ (b ≡ true)
-either true b e = inl refl
-either false b e = inr e
-
-or_first : (a b : Bool) → a ≡ true → (a || b) ≡ true
-or_first true b e = refl
-or_first false b e = clash e refl
-
-or_second : (a b : Bool) → b ≡ true → (a || b) ≡ true
-or_second true b e = refl
-or_second false b e = e
-
 module _ (s : List ℕ) (q : Sections) where
   module _ (r : ComponentRecord) where
     event : Bool
@@ -338,7 +327,7 @@ module _ (s : List ℕ) (q : Sections) where
     unfolding component_misplaced Spells event block
     off_says e h =
         let k : not (event || block) ≡ false = sym (ap (λ (t : Bool). t && not (event || block)) (lt-ltb 0 r.range h)) ∙ e in
-        ⊎_elim (λ a. inl ((same_name_iff _ _).0 a)) (λ b. inr ((same_name_iff _ _).0 b)) (either event block (not-false _ k))
+        ⊎_elim (λ a. inl ((same_name_iff _ _).0 a)) (λ b. inr ((same_name_iff _ _).0 b)) (or_cases event block (not-false _ k))
 
     off_tests : (0 < r.range → Spells (text_of s q r.name) (ascii "VEVENT") ⊎ Spells (text_of s q r.name) (ascii "VFREEBUSY"))
         → component_misplaced s q r ≡ false
@@ -347,7 +336,7 @@ module _ (s : List ℕ) (q : Sections) where
         not_so (component_misplaced s q r)
         (λ e.
         let named : (event || block) ≡ true
-        = ⊎_elim (λ a. or_first event block ((same_name_iff _ _).1 a)) (λ b. or_second event block ((same_name_iff _ _).1 b))
+        = ⊎_elim (λ a. or_by_left block ((same_name_iff _ _).1 a)) (λ b. or_by_right event ((same_name_iff _ _).1 b))
         (f (ltb-true 0 r.range (and_left (ltb 0 r.range) (not (event || block)) e)))
         in
         clash named (not-true (event || block) (and_right (ltb 0 r.range) (not (event || block)) e)))

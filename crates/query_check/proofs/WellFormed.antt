@@ -1,6 +1,8 @@
 -- Laws of the tests: of one record, from the parts that were computed to the test,
 -- and of the query as a whole, when it is refused and by which number.
+use Rattle.std.specs.Prelude.{Err, None, Ok, Option, Some}
 use Prim.Native.Nat.{ℕ, zero, suc, ◌≤◌, ◌<◌}
+use Rattle.query_check.specs.declared.QueryError.{QueryError}
 use mathlib.Core.Bool.{Bool, ◌&&◌, true, false, not, ◌||◌, and-false}
 use mathlib.Core.List.{List}
 use mathlib.Core.Path.{◌≡◌, refl, ap, ◌∙◌, subst}
@@ -14,19 +16,15 @@ use Rattle.ascii.proofs.Bools.{and_left, and_right, clash}
 use Rattle.query.specs.Records.{component_at, property_at, parameter_at, text_of}
 use Rattle.query.specs.declared.Sections.{Sections}
 use Rattle.query.specs.declared.ComponentRecord.{ComponentRecord}
-use Rattle.query.specs.declared.PropertyRecord.{PropertyRecord}
-use Rattle.query.specs.declared.ParameterRecord.{ParameterRecord}
 use Rattle.query.specs.Fits.{Fits}
 use Rattle.query.specs.Sections.{sections_of}
-use Rattle.query.specs.declared.SectionsRead.{SectionsRead}
 use Rattle.query.proofs.Counting.{every_at}
 use Rattle.query.proofs.LayoutLaws.{sections_fit}
-use Rattle.query_check.specs.declared.QueryRead.{QueryRead}
 use Rattle.query_check.specs.WellFormed.{component_good, property_good, parameter_good, component_misplaced, name_good, has_child_component, has_property, parent_good}
 use Rattle.query_check.specs.WellFormed.{ranges_good, components_good, properties_good, parameters_good, records_good, sections_good, query_good, range_misplaced, placed}
 use Rattle.query_check.specs.WellFormed.{query_read, ReadSays}
 
--- ---- the tests that the loops over a section make of one record
+-- ---- the tests that are made of one record of a section
 
 module _ (s : List ℕ) (q : Sections) where
   abbrev pub child_of : ℕ → ℕ → Bool
@@ -52,17 +50,6 @@ module _ (s : List ℕ) (q : Sections) where
 
   abbrev pub property_off : ℕ → Bool
   property_off = λ k. ltb 0 (property_at s q k).range
-
--- the tests of a record that was read
-module _ (s : List ℕ) (q : Sections) (k i : ℕ) where
-  pub child_of_holds : {r : ComponentRecord} → r ≡ component_at s q k → (ltb 0 k && eqb r.parent i) ≡ child_of s q i k
-  child_of_holds e = ap (λ (r : ComponentRecord). ltb 0 k && eqb r.parent i) e
-
-  pub property_of_holds : {r : PropertyRecord} → r ≡ property_at s q k → eqb r.component i ≡ property_of s q i k
-  property_of_holds e = ap (λ (r : PropertyRecord). eqb r.component i) e
-
-  pub parameter_of_holds : {r : ParameterRecord} → r ≡ parameter_at s q k → eqb r.property i ≡ parameter_of s q i k
-  parameter_of_holds e = ap (λ (r : ParameterRecord). eqb r.property i) e
 
 -- ---- one record
 
@@ -134,38 +121,38 @@ module _ (s : List ℕ) (q : Sections) where
 
 module _ (s : List ℕ) where
   -- a query with its sections, and one without
-  pub query_of : {q : Sections} {r : Bool} → sections_of s ≡ SectionsRead.Of q → r ≡ records_good s q
+  pub query_of : {q : Sections} {r : Bool} → sections_of s ≡ Some q → r ≡ records_good s q
       → (leb (length s) 4096 && (eqb q.end (length s) && r)) ≡ query_good s
   unfolding query_good sections_good
   query_of e k = rw (e, k)
 
-  pub query_none : sections_of s ≡ SectionsRead.Bad → query_good s ≡ false
+  pub query_none : sections_of s ≡ None → query_good s ≡ false
   unfolding query_good sections_good
   query_none e = rw e (and-false (leb (length s) 4096))
 
   -- every record of a good query is good
-  pub query_records : (q : Sections) → sections_of s ≡ SectionsRead.Of q → query_good s ≡ true → records_good s q ≡ true
+  pub query_records : (q : Sections) → sections_of s ≡ Some q → query_good s ≡ true → records_good s q ≡ true
   query_records q e g =
       and_right (eqb q.end (length s)) (records_good s q) (and_right (leb (length s) 4096) _ (query_of e refl ∙ g))
 
   -- the three answers
-  pub read_bad : query_good s ≡ false → query_read s ≡ QueryRead.Bad
+  pub read_bad : query_good s ≡ false → query_read s ≡ Err QueryError.Bad
   unfolding query_read
   read_bad g = rw g
 
-  module _ (q : Sections) (e : sections_of s ≡ SectionsRead.Of q) (g : query_good s ≡ true) where
-    pub read_misplaced : range_misplaced s q ≡ true → query_read s ≡ QueryRead.Misplaced
+  module _ (q : Sections) (e : sections_of s ≡ Some q) (g : query_good s ≡ true) where
+    pub read_misplaced : range_misplaced s q ≡ true → query_read s ≡ Err QueryError.Misplaced
     unfolding query_read placed
     read_misplaced m = rw (g, e, m)
 
-    pub read_of : range_misplaced s q ≡ false → query_read s ≡ QueryRead.Of q
+    pub read_of : range_misplaced s q ≡ false → query_read s ≡ Ok q
     unfolding query_read placed
     read_of m = rw (g, e, m)
 
   -- and what each says: 4 exactly where the query is not good, 5 where it is good and a range is misplaced
-  placed_says : (r : SectionsRead) → sections_of s ≡ r → query_good s ≡ true → ReadSays s (query_read s)
-  placed_says SectionsRead.Bad e g = clash g (query_none e)
-  placed_says (SectionsRead.Of q) e g = go (range_misplaced s q) refl
+  placed_says : (r : Option Sections) → sections_of s ≡ r → query_good s ≡ true → ReadSays s (query_read s)
+  placed_says None e g = clash g (query_none e)
+  placed_says (Some q) e g = go (range_misplaced s q) refl
     where
       go : (m : Bool) → range_misplaced s q ≡ m → ReadSays s (query_read s)
       go true m = rw (read_misplaced q e g m) (g, q, e, m)
@@ -179,9 +166,9 @@ module _ (s : List ℕ) where
       go false g = rw (read_bad g) g
 
   -- the sections of a query that is answered with them lie inside it
-  pub read_fits : (q : Sections) → query_read s ≡ QueryRead.Of q → Fits s q
-  read_fits q e = let h : ReadSays s (QueryRead.Of q) = subst (ReadSays s) e read_says in sections_fit s q h.1
+  pub read_fits : (q : Sections) → query_read s ≡ Ok q → Fits s q
+  read_fits q e = let h : ReadSays s (Ok q) = subst (ReadSays s) e read_says in sections_fit s q h.1
 
   -- and its records are good
-  pub read_records : (q : Sections) → query_read s ≡ QueryRead.Of q → records_good s q ≡ true
-  read_records q e = let h : ReadSays s (QueryRead.Of q) = subst (ReadSays s) e read_says in query_records q h.1 h.0
+  pub read_records : (q : Sections) → query_read s ≡ Ok q → records_good s q ≡ true
+  read_records q e = let h : ReadSays s (Ok q) = subst (ReadSays s) e read_says in query_records q h.1 h.0

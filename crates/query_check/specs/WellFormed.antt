@@ -1,6 +1,7 @@
 -- Is a query well formed (refusal 4), and does it ask for a time range where none can be (refusal 5)?
 -- (document 01, The query paper.) Every record counts, used or not.
-use Rattle.std.specs.Prelude.{ℕ, zero, suc, ◌≡◌, Bool, true, false, cond, not, ◌&&◌, ◌||◌, List, eqb, ltb, leb, length}
+use Rattle.std.specs.Prelude.{ℕ, zero, suc, ◌≡◌, Bool, true, false, cond, not, ◌&&◌, ◌||◌, List, eqb, ltb, leb, length, Err, None, Ok, Option, Result, Some}
+use Rattle.query_check.specs.declared.QueryError.{QueryError}
 use Rattle.time.specs.Limits.{range_good}
 use Rattle.ascii.specs.Names.{is_name, same_name}
 use Rattle.ascii.specs.Words.{ascii}
@@ -9,11 +10,9 @@ use Rattle.query.specs.Sections.{sections_of}
 use Rattle.query.specs.Records.{range_start, range_end, text_of, component_at, property_at, parameter_at}
 use Rattle.query.specs.declared.Section.{Section}
 use Rattle.query.specs.declared.Sections.{Sections}
-use Rattle.query.specs.declared.SectionsRead.{SectionsRead}
 use Rattle.query.specs.declared.ComponentRecord.{ComponentRecord}
 use Rattle.query.specs.declared.PropertyRecord.{PropertyRecord}
 use Rattle.query.specs.declared.ParameterRecord.{ParameterRecord}
-use Rattle.query_check.specs.declared.QueryRead.{QueryRead}
 
 -- a range: start before end, both within the limits
 unfoldable pub range_record_good : List ℕ → Sections → ℕ → Bool
@@ -84,9 +83,9 @@ records_good s q = ranges_good s q && components_good s q && properties_good s q
 abbrev pub nothing_follows : List ℕ → Sections → Bool
 nothing_follows s q = eqb q.end (length s)
 
-unfoldable pub sections_good : List ℕ → SectionsRead → Bool
-sections_good s (SectionsRead.Of q) = nothing_follows s q && records_good s q
-sections_good s SectionsRead.Bad = false
+unfoldable pub sections_good : List ℕ → Option Sections → Bool
+sections_good s (Some q) = nothing_follows s q && records_good s q
+sections_good s None = false
 
 -- refusal 4 is given where this fails: at most 4,096 bytes, and all as above
 unfoldable pub query_good : List ℕ → Bool
@@ -110,21 +109,21 @@ unfoldable pub range_misplaced : List ℕ → Sections → Bool
 range_misplaced s q = components_misplaced s q || properties_misplaced s q
 
 -- refusal 4 goes before refusal 5; a query with neither has its sections
-unfoldable pub placed : List ℕ → SectionsRead → QueryRead
-placed s (SectionsRead.Of q) = cond (range_misplaced s q) QueryRead.Misplaced (QueryRead.Of q)
-placed s SectionsRead.Bad = QueryRead.Bad
+unfoldable pub placed : List ℕ → Option Sections → Result Sections QueryError
+placed s (Some q) = cond (range_misplaced s q) (Err QueryError.Misplaced) (Ok q)
+placed s None = Err QueryError.Bad
 
-unfoldable pub query_read : List ℕ → QueryRead
-query_read s = cond (query_good s) (placed s (sections_of s)) QueryRead.Bad
+unfoldable pub query_read : List ℕ → Result Sections QueryError
+query_read s = cond (query_good s) (placed s (sections_of s)) (Err QueryError.Bad)
 
 -- what each answer says of the query
-abbrev pub ReadSays : List ℕ → QueryRead → Type 0
-ReadSays s (QueryRead.Of q) = (query_good s ≡ true) × (sections_of s ≡ SectionsRead.Of q) × (range_misplaced s q ≡ false)
-ReadSays s QueryRead.Bad = query_good s ≡ false
-ReadSays s QueryRead.Misplaced = (query_good s ≡ true) × (q : Sections) × (sections_of s ≡ SectionsRead.Of q) × (range_misplaced s q ≡ true)
+abbrev pub ReadSays : List ℕ → Result Sections QueryError → Type 0
+ReadSays s (Ok q) = (query_good s ≡ true) × (sections_of s ≡ Some q) × (range_misplaced s q ≡ false)
+ReadSays s (Err QueryError.Bad) = query_good s ≡ false
+ReadSays s (Err QueryError.Misplaced) = (query_good s ≡ true) × (q : Sections) × (sections_of s ≡ Some q) × (range_misplaced s q ≡ true)
 
 -- the refusal's number; 0 for none
-abbrev pub refusal_number : QueryRead → ℕ
-refusal_number (QueryRead.Of q) = 0
-refusal_number QueryRead.Bad = 4
-refusal_number QueryRead.Misplaced = 5
+abbrev pub refusal_number : Result Sections QueryError → ℕ
+refusal_number (Ok q) = 0
+refusal_number (Err QueryError.Bad) = 4
+refusal_number (Err QueryError.Misplaced) = 5

@@ -1,6 +1,8 @@
 -- A report's bytes, read as a calendar, are one block with exactly the periods that they were written from:
 -- what each line of the block says, the periods of a busy type, and the theorem.
+use Rattle.std.specs.Prelude.{None, Ok, Option, Result, Some}
 use Prim.Native.Nat.{ℕ, suc, ◌+◌, ◌≤◌, ◌<◌}
+use Rattle.calendar.specs.declared.LineError.{LineError}
 use mathlib.Core.Path.{◌≡◌, refl, ap, ◌∙◌}
 use mathlib.Core.Bool.{cond, Bool, true, false}
 use mathlib.Core.List.{List, [], ◌∷◌, ◌++◌, map, append-nil}
@@ -21,10 +23,8 @@ use Rattle.line.specs.Reading.{parameters_named, some_list, pooled, values_named
 use Rattle.delimiters.specs.Innermost.{is_event, is_free_busy}
 use Rattle.values.specs.Period.{period_items, all_periods, good_periods}
 use Rattle.values.specs.Times.{utc_of, at_second, time_by, read_time, form_of, time_of, utc_only}
-use Rattle.values.specs.declared.period.PeriodRead.{PeriodRead}
 use Rattle.values.specs.declared.times.Context.{Context}
 use Rattle.values.specs.declared.times.Time.{Time}
-use Rattle.values.specs.declared.times.TimeRead.{TimeRead}
 use Rattle.values.proofs.PeriodLaws.{period_items_written}
 use Rattle.property.specs.Properties.{property_of, time_in, time_fact, unless_zoned, busy_named, busy_of, type_value, value_as, property_value_of, before_items, items_good, with_items}
 use Rattle.property.specs.declared.Scope.{Scope}
@@ -33,16 +33,12 @@ use Rattle.nesting.specs.WellNested.{numbered_from}
 use Rattle.nesting.specs.Components.{properties_in}
 use Rattle.report.specs.Bytes.{Report, period_text, GoodPeriods, Writable, report_bytes}
 use Rattle.report.specs.Bytes as Report
-use Rattle.events.specs.ComponentProperties.{with_property, with_span, with_busy, with_properties, no_properties, time_given}
+use Rattle.events.specs.ComponentProperties.{with_property, with_span, with_busy, with_properties, no_properties}
 use Rattle.events.specs.declared.ComponentProperties.{ComponentProperties}
 use Rattle.events.specs.Events.{block_from, block_by, block}
-use Rattle.events.specs.declared.Bound.{Bound}
 use Rattle.events.specs.declared.Block.{Block}
-use Rattle.events.specs.declared.BlockRead.{BlockRead}
 use Rattle.events.proofs.ComponentRules.{later_between}
 use Rattle.calendar.specs.Meaning.{property_values_in, fault_or, fault_in, periods_by, block_periods, scope_of, component_scope, value_fault, block_of, breaks_rule, broken_or, first_fault, rule_fault, entry_of, entries_among, entries_of, components_of, calendar, meaning_of}
-use Rattle.calendar.specs.declared.ValueCheck.{ValueCheck}
-use Rattle.calendar.specs.declared.RuleCheck.{RuleCheck}
 use Rattle.calendar.proofs.Meaning.{not_refused}
 use Rattle.pieces.specs.Covered.{of_type}
 use Rattle.pieces.proofs.Covered.{of_type_append}
@@ -57,7 +53,7 @@ abbrev pub utc_time : ℕ → Time
 utc_time t = record { kind = Kind.Utc; clock = t + epoch; second = t }
 
 -- a written time with no parameter reads as its second, whatever the name of its line
-time_read : (c : Context) (n : List ℕ) (t : ℕ) → t ≤ last_second → time_of c (plain_line n (utc_text t)) ≡ TimeRead.Of (utc_time t)
+time_read : (c : Context) (n : List ℕ) (t : ℕ) → t ≤ last_second → time_of c (plain_line n (utc_text t)) ≡ Some (utc_time t)
 unfolding time_of form_of has_twice has_list has_parameter parameters_named some_list read_time time_by utc_of at_second
 time_read c n t h = rw (read_written t h, second_written t c.shift h)
 
@@ -68,12 +64,12 @@ stamp_value c v = refl
 pub start_value : (c : Context) (t : ℕ) → t ≤ last_second
     → property_value_of c Scope.FreeBusy (plain_line (ascii "DTSTART") (utc_text t)) ≡ of (span (start (utc_time t)))
 unfolding property_value_of before_items with_items items_good property_of value_as same_name upper unless_zoned has_parameter parameters_named time_in utc_only time_fact
-start_value c t h = ap (λ (r : TimeRead). with_items c (utc_text t) (time_fact (λ x. span (start x)) (utc_only r))) (time_read c (ascii "DTSTART") t h)
+start_value c t h = ap (λ (r : Option Time). with_items c (utc_text t) (time_fact (λ x. span (start x)) (utc_only r))) (time_read c (ascii "DTSTART") t h)
 
 pub end_value : (c : Context) (t : ℕ) → t ≤ last_second
     → property_value_of c Scope.FreeBusy (plain_line (ascii "DTEND") (utc_text t)) ≡ of (span (end (utc_time t)))
 unfolding property_value_of before_items with_items items_good property_of value_as same_name upper unless_zoned has_parameter parameters_named time_in utc_only time_fact
-end_value c t h = ap (λ (r : TimeRead). with_items c (utc_text t) (time_fact (λ x. span (end x)) (utc_only r))) (time_read c (ascii "DTEND") t h)
+end_value c t h = ap (λ (r : Option Time). with_items c (utc_text t) (time_fact (λ x. span (end x)) (utc_only r))) (time_read c (ascii "DTEND") t h)
 
 -- ---- a period
 
@@ -97,25 +93,25 @@ busy_read : (t : BusyPeriod) → busy_of (period_line t) ≡ t.busy
 unfolding busy_of first_value values_named parameters_named pooled period_line same_name upper
 busy_read t = type_read t.busy
 
-value_read : {t : BusyPeriod} → GoodTyped t → period_items (period_line t).value ≡ PeriodRead.Of t.period ∷ []
+value_read : {t : BusyPeriod} → GoodTyped t → period_items (period_line t).value ≡ Some t.period ∷ []
 unfolding period_line period_text
 value_read {t} g = period_items_written t.period.start t.period.end g.rising g.within_limits
 
 period_value : (c : Context) {t : BusyPeriod} → GoodTyped t → property_value_of c Scope.FreeBusy (period_line t) ≡ of (periods t.busy)
 unfolding property_value_of before_items with_items items_good property_of value_as type_value period_line has_twice has_list parameters_named some_list same_name upper all_periods
 period_value c {t} g =
-    ap (λ (ps : List PeriodRead). cond (all_periods ps) (of (periods (busy_of (period_line t)))) (fault bad)) (value_read g)
+    ap (λ (ps : List (Option Period)). cond (all_periods ps) (of (periods (busy_of (period_line t)))) (fault bad)) (value_read g)
     ∙ ap (λ (y : BusyType). of (periods y)) (busy_read t)
 
 period_given : (c : Context) {t : BusyPeriod} → GoodTyped t → periods_by (property_value_of c Scope.FreeBusy (period_line t)) (period_line t) ≡ t ∷ []
 unfolding periods_by good_periods
 period_given c {t} g =
-    ap (λ (s : Reading). periods_by s (period_line t)) (period_value c g) ∙ ap (λ (ps : List PeriodRead). typed t.busy (good_periods ps)) (value_read g)
+    ap (λ (s : Reading). periods_by s (period_line t)) (period_value c g) ∙ ap (λ (ps : List (Option Period)). typed t.busy (good_periods ps)) (value_read g)
 
 -- ---- any number of periods: no fault, no property that counts, and each of them given
 
 module _ (c : Context) where
-  pub periods_faultless : (i : ℕ) (v : ValueCheck) {ts : List BusyPeriod} → AllGood ts
+  pub periods_faultless : (i : ℕ) (v : Result (Unit {0}) LineError) {ts : List BusyPeriod} → AllGood ts
       → fault_in c Scope.FreeBusy (numbered_from i (map period_line ts)) v ≡ v
   unfolding fault_in numbered_from fault_or
   periods_faultless i v no_period = refl
@@ -199,7 +195,7 @@ block_properties r = flat_properties 5 (block_content r)
 
 -- the range it stands over
 abbrev pub report_block : Report → Block
-report_block r = record { start = Bound.At r.start; end = Bound.At r.end }
+report_block r = record { start = Some r.start; end = Some r.end }
 
 module _ (c : Context) {r : Report} (w : Writable r) where
   start_limit : r.start ≤ last_second
@@ -208,13 +204,13 @@ module _ (c : Context) {r : Report} (w : Writable r) where
   end_limit : r.end ≤ last_second
   end_limit = w.end_limit
 
-  lines_faultless : fault_in c Scope.FreeBusy (numbered_from 5 (block_content r)) ValueCheck.Good ≡ ValueCheck.Good
+  lines_faultless : fault_in c Scope.FreeBusy (numbered_from 5 (block_content r)) (Ok tt) ≡ Ok tt
   unfolding block_content numbered_from fault_in fault_or
   lines_faultless =
-      rw (stamp_value c, start_value c r.start start_limit, end_value c r.end end_limit) (periods_faultless c 8 ValueCheck.Good (periods_good w))
+      rw (stamp_value c, start_value c r.start start_limit, end_value c r.end end_limit) (periods_faultless c 8 (Ok tt) (periods_good w))
 
-  lines_block : block_by (with_properties no_properties (property_values_in c Scope.FreeBusy (numbered_from 5 (block_content r)))) ≡ BlockRead.Of (report_block r)
-  unfolding block_content numbered_from property_values_in with_properties with_property with_span with_busy no_properties time_given block_by block_from
+  lines_block : block_by (with_properties no_properties (property_values_in c Scope.FreeBusy (numbered_from 5 (block_content r)))) ≡ Some (report_block r)
+  unfolding block_content numbered_from property_values_in with_properties with_property with_span with_busy no_properties block_by block_from
   lines_block =
       rw (stamp_value c, start_value c r.start start_limit, end_value c r.end end_limit, periods_add_nothing c 8 _ (periods_good w))
       (later_between r.start r.end w.start_first)
@@ -226,15 +222,15 @@ module _ (c : Context) {r : Report} (w : Writable r) where
 
   -- ---- the component by what its lines say
 
-  block_faultless : value_fault c (block_component r ∷ []) ≡ ValueCheck.Good
+  block_faultless : value_fault c (block_component r ∷ []) ≡ Ok tt
   unfolding value_fault
   block_faultless = rw (block_scope r, block_properties r) lines_faultless
 
-  block_read : block_of c (block_component r) ≡ BlockRead.Of (report_block r)
+  block_read : block_of c (block_component r) ≡ Some (report_block r)
   unfolding block_of
   block_read = rw (block_properties r) lines_block
 
-  block_unbroken : rule_fault c (block_component r ∷ []) ≡ RuleCheck.Good
+  block_unbroken : rule_fault c (block_component r ∷ []) ≡ None
   unfolding rule_fault first_fault breaks_rule broken_or
   block_unbroken = rw (block_scope r, block_read)
 
@@ -245,11 +241,11 @@ module _ (c : Context) {r : Report} (w : Writable r) where
   -- ---- the bytes
 
   -- no value is unsupported or bad
-  pub report_values_good : value_fault c (components_of (report_bytes r)) ≡ ValueCheck.Good
+  pub report_values_good : value_fault c (components_of (report_bytes r)) ≡ Ok tt
   report_values_good = ap (value_fault c) (report_components r) ∙ block_faultless
 
   -- no component breaks a rule
-  pub report_rules_good : rule_fault c (components_of (report_bytes r)) ≡ RuleCheck.Good
+  pub report_rules_good : rule_fault c (components_of (report_bytes r)) ≡ None
   report_rules_good = ap (rule_fault c) (report_components r) ∙ block_unbroken
 
   -- one block, with the periods in their order

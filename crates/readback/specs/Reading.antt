@@ -1,10 +1,9 @@
 -- A report read as a calendar (document 01, The report's bytes; demand 2): what its one block is, and its periods with their types.
-use Rattle.std.specs.Prelude.{List, [], ◌∷◌, ◌++◌}
+use Rattle.std.specs.Prelude.{List, [], ◌∷◌, ◌++◌, Some}
 use Rattle.periods.specs.declared.BusyType.{BusyType}
 use Rattle.report.specs.Bytes.{Report}
 use Rattle.events.specs.Events.{block}
 use Rattle.periods.specs.BusyTypes.{BusyPeriod, typed}
-use Rattle.events.specs.declared.Bound.{Bound}
 use Rattle.calendar.specs.Meaning.{Meaning, calendar}
 
 -- its periods in file order, each with its type
@@ -15,4 +14,4 @@ report_periods r =
 
 -- one block over the range, with these periods
 unfoldable pub report_meaning : Report → Meaning
-report_meaning r = calendar (block (record { start = Bound.At r.start; end = Bound.At r.end }) (report_periods r) ∷ [])
+report_meaning r = calendar (block (record { start = Some r.start; end = Some r.end }) (report_periods r) ∷ [])

@@ -1,9 +1,8 @@
 -- The time range test (document 01, Events and blocks, and R-2; RFC 4791 9.9): is an event or a block in the range from a up to, but not including, b?
-use Rattle.std.specs.Prelude.{ℕ, ◌≤◌, ◌<◌, ◌≡◌, Bool, true, false, cond, ◌&&◌, ◌||◌, List, [], ◌∷◌, eqb, ltb, leb}
+use Rattle.std.specs.Prelude.{ℕ, ◌≤◌, ◌<◌, ◌≡◌, Bool, true, false, cond, ◌&&◌, ◌||◌, List, [], ◌∷◌, eqb, ltb, leb, None, Option, Some}
 use Rattle.periods.specs.declared.Period.{Period}
 use Rattle.periods.specs.BusyTypes.{BusyPeriod, periods_of}
 use Rattle.events.specs.declared.Event.{Event}
-use Rattle.events.specs.declared.Bound.{Bound}
 use Rattle.events.specs.declared.Block.{Block}
 use Rattle.recurrence.specs.Instances.{utc_clock_of, start_of, end_of, length_by, is_zero_length, occurs, TakesPlace}
 
@@ -33,11 +32,11 @@ unfoldable pub periods_overlap : ℕ → ℕ → List Period → Bool
 periods_overlap a b [] = false
 periods_overlap a b (p ∷ ps) = overlaps a b p.start p.end || periods_overlap a b ps
 
-unfoldable pub bounds_in : ℕ → ℕ → Bound → Bound → List BusyPeriod → Bool
-bounds_in a b (Bound.At s) (Bound.At t) ps = between_in a b s t
-bounds_in a b (Bound.At s) Bound.None ps = periods_overlap a b (periods_of ps)
-bounds_in a b Bound.None (Bound.At t) ps = periods_overlap a b (periods_of ps)
-bounds_in a b Bound.None Bound.None ps = periods_overlap a b (periods_of ps)
+unfoldable pub bounds_in : ℕ → ℕ → Option ℕ → Option ℕ → List BusyPeriod → Bool
+bounds_in a b (Some s) (Some t) ps = between_in a b s t
+bounds_in a b (Some s) None ps = periods_overlap a b (periods_of ps)
+bounds_in a b None (Some t) ps = periods_overlap a b (periods_of ps)
+bounds_in a b None None ps = periods_overlap a b (periods_of ps)
 
 unfoldable pub block_in : Block → List BusyPeriod → ℕ → ℕ → Bool
 block_in k ps a b = bounds_in a b k.start k.end ps

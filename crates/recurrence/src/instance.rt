@@ -1,5 +1,6 @@
 // Recurrence instances of an event: when each starts, how long each is, and which there are.
 // Starts go up by whole days; how many there are is the rule's limit alone.
+// k is a plain number with a bound, and the starts that are gone a plain slice: a type of each would be taken apart at every step of the loops that count k.
 ghost use Rattle.std.specs.Prelude.{◌≡◌, ◌≤◌};
 ghost use Rattle.recurrence.specs.Instances.{utc_clock_of, step_of, start_of, repeats, is_instance, occurs, default_length, length_by, is_zero_length, end_of};
 ghost use Rattle.events.specs.Sizes.{EventSmall};
@@ -42,14 +43,10 @@ pub fn length_of(e: Event) -> u64
     requires { EventSmall e }
     ensures { result ≡ length_by e e.ending }
 {
-    let ending = e.ending;
-    match ending {
+    match e.ending {
         Ending::End(t) => t - e.start,
         Ending::Lasts(d) => duration::duration_seconds(d),
-        Ending::None => {
-            let kind = e.kind;
-            default_length(kind)
-        }
+        Ending::None => default_length(e.kind),
     }
 }
 
@@ -88,8 +85,7 @@ pub fn is_instance(e: Event, k: u64) -> bool
     requires k_bound { k ≤ 100000 }
     ensures { result ≡ is_instance e k }
 {
-    let rule = e.repeat;
-    repeats(rule, start_of(e, k), k)
+    repeats(e.repeat, start_of(e, k), k)
 }
 
 // Does instance k stand, where these starts are taken away?

@@ -1,5 +1,6 @@
 // The time range test: is an instance of an event, or a block with both ends, in the range from a up to, but not including, b?
 // One division finds the first instance that can be in a range; from there on each is tested, while they start before its end.
+// The range is two numbers: only starts_before asks b ≤ last_second and only first_candidate a ≤ last_second, so a type of both would ask more of the others.
 ghost use Rattle.std.specs.Prelude.{◌≡◌, ◌≤◌};
 ghost use Rattle.time.specs.Limits.{last_second};
 ghost use Rattle.seconds.specs.Seconds.{Ordered};

@@ -1,4 +1,5 @@
 -- The offset once it is read: unsigned and at most 100,800, or out of bounds.
+use Rattle.std.specs.Prelude.{None, Option, Some}
 use Prim.Native.Nat.{ℕ, suc, ◌≤◌}
 use mathlib.Core.Path.{◌≡◌, refl, sym, ap, ◌∙◌, subst}
 use mathlib.Core.Bool.{Bool, true, false, and-false}
@@ -13,7 +14,6 @@ use mir.ValLaws.{to_z-of_z}
 use borrow.Author.Tests.{ltb-true, ltb-false, le-leb, lt-leb, le-ltb, leb-true}
 use Rattle.ascii.proofs.Bools.{and_left, and_right, and_both, clash}
 use Rattle.refusals.specs.Offsets.{offset_good, OffsetWithin, shift_of, offset_read}
-use Rattle.refusals.specs.declared.OffsetRead.{OffsetRead}
 
 -- ---- a test and its opposite
 
@@ -56,37 +56,37 @@ within_iff (negsuc n) = (
 
 -- ---- what was read tells whether the offset is good
 
-pub read_good : {s : ℕ} (o : ℤ) → offset_read o ≡ OffsetRead.Of s → (offset_good o ≡ true) × (s ≡ shift_of o)
+pub read_good : {s : ℕ} (o : ℤ) → offset_read o ≡ Some s → (offset_good o ≡ true) × (s ≡ shift_of o)
 unfolding offset_read
 read_good {s} o e = go (offset_good o) refl
   where
     go : (t : Bool) → offset_good o ≡ t → (offset_good o ≡ true) × (s ≡ shift_of o)
-    go true k = let h : OffsetRead.Of (shift_of o) ≡ OffsetRead.Of s = rw k at e in (k, cc)
-    go false k = let h : OffsetRead.Bad ≡ OffsetRead.Of s = rw k at e in let z : ◌≡◌ {A = ℕ} 0 1 = cc in absurd (omega arith)
+    go true k = let h : Some (shift_of o) ≡ Some s = rw k at e in (k, cc)
+    go false k = let h : None ≡ Some s = rw k at e in let z : ◌≡◌ {A = ℕ} 0 1 = cc in absurd (omega arith)
 
-pub read_out : (o : ℤ) → offset_read o ≡ OffsetRead.Bad → offset_good o ≡ false
+pub read_out : (o : ℤ) → offset_read o ≡ None → offset_good o ≡ false
 unfolding offset_read
 read_out o e = go (offset_good o) refl
   where
     go : (t : Bool) → offset_good o ≡ t → offset_good o ≡ false
-    go true k = let h : OffsetRead.Of (shift_of o) ≡ OffsetRead.Bad = rw k at e in let z : ◌≡◌ {A = ℕ} 0 1 = cc in absurd (omega arith)
+    go true k = let h : Some (shift_of o) ≡ None = rw k at e in let z : ◌≡◌ {A = ℕ} 0 1 = cc in absurd (omega arith)
     go false k = k
 
-pub shift_bound : {s : ℕ} (o : ℤ) → offset_read o ≡ OffsetRead.Of s → s ≤ 100800
+pub shift_bound : {s : ℕ} (o : ℤ) → offset_read o ≡ Some s → s ≤ 100800
 shift_bound o e = rw (read_good o e).1 (shift_small o (read_good o e).0)
 
 -- what was read of z, the number that the machine reads back from the bits of the offset, was read of the offset
-pub offset_given : {z o : ℤ} {r x : OffsetRead} → z ≡ o → r ≡ offset_read z → r ≡ x → offset_read o ≡ x
+pub offset_given : {z o : ℤ} {r x : Option ℕ} → z ≡ o → r ≡ offset_read z → r ≡ x → offset_read o ≡ x
 offset_given e k h = ap offset_read (sym e) ∙ sym k ∙ h
 
 -- ---- the reader's ways out
 
 module _ {z o : ℤ} (e : z ≡ o) where
-  pub too_low : lt_z z (negsuc 50399) ≡ true → OffsetRead.Bad ≡ offset_read o
+  pub too_low : lt_z z (negsuc 50399) ≡ true → None ≡ offset_read o
   unfolding offset_read offset_good
   too_low k = rw (not_below o (negsuc 50399) (ap (λ (v : ℤ). lt_z v (negsuc 50399)) (sym e) ∙ k))
 
-  pub too_high : lt_z (pos 50400) z ≡ true → OffsetRead.Bad ≡ offset_read o
+  pub too_high : lt_z (pos 50400) z ≡ true → None ≡ offset_read o
   unfolding offset_read offset_good
   too_high k =
       rw (not_below (pos 50400) o (ap (lt_z (pos 50400)) (sym e) ∙ k), and-false (le_z (negsuc 50399) o))
@@ -112,6 +112,6 @@ module _ {z o : ℤ} (e : z ≡ o) where
         subst (λ (v : ℤ). T (non_neg v) × Fits w64 (nat_abs v)) (sym sum_back)
         (tt, record { fits = omega (arith, shift_most o to_high) })
 
-    pub in_bounds : OffsetRead.Of (nat_abs (to_z w64 (of_z w64 (z +ℤ pos 50400)))) ≡ offset_read o
+    pub in_bounds : Some (nat_abs (to_z w64 (of_z w64 (z +ℤ pos 50400)))) ≡ offset_read o
     unfolding offset_read offset_good
-    in_bounds = ap (λ (v : ℤ). OffsetRead.Of (nat_abs v)) sum_back ∙ rw (from_low, to_high)
+    in_bounds = ap (λ (v : ℤ). Some (nat_abs v)) sum_back ∙ rw (from_low, to_high)

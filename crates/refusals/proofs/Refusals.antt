@@ -1,5 +1,7 @@
 -- The first row that applies, for the reader; and stages of rows follow each other: those of a calendar, its structure before its contents.
+use Rattle.std.specs.Prelude.{Err, None, Ok, Option, Result, Some}
 use Prim.Native.Nat.{ℕ}
+use Rattle.calendar.specs.declared.LineError.{LineError}
 use mathlib.Core.Path.{◌≡◌, refl, sym, ap, ◌∙◌}
 use mathlib.Core.Bool.{Bool, true, false}
 use mathlib.Core.List.Memᴰ
@@ -14,29 +16,33 @@ use Rattle.events.specs.Events.{Entry}
 use Rattle.calendar.specs.Meaning.{calendar, by_rules, by_values, by_lines, file_lines, components_of, value_fault, rule_fault, entries_of, contents_of, meaning_of, fault_of, structure_fault}
 use Rattle.calendar.specs.FirstFaults.{First}
 use Rattle.calendar.proofs.FirstFaults.{first_here, first_later, no_first, first_cases}
-use Rattle.calendar.specs.declared.ValueCheck.{ValueCheck}
-use Rattle.calendar.specs.declared.RuleCheck.{RuleCheck}
-use Rattle.calendar.specs.declared.Fault.{Fault}
+use Rattle.calendar.specs.declared.Refusal.{Refusal}
+use Rattle.calendar.specs.Refused.{refused_at}
 use Rattle.refusals.specs.Refusals.{Row, first_refusal, RowApplies, NoneApplies, Applies, FirstApplies, line_row, unsupported_row, bad_value_row, rule_row, structure_rows, contents_rows, calendar_rows}
 
 -- a fault and none are apart; one fault has one number and one line
-pub no_fault_here : {A : Type 0} {f : Fault} {n i : ℕ} → f ≡ Fault.At n i → f ≡ Fault.None → A
+pub no_fault_here : {A : Type 0} {f : Result (Unit {0}) Refusal} {n i : ℕ} → f ≡ refused_at n i → f ≡ Ok tt → A
 no_fault_here e k = let z : ◌≡◌ {A = ℕ} 0 1 = cc in absurd (omega arith)
 
-pub same_number : {f : Fault} {n i m j : ℕ} → f ≡ Fault.At n i → f ≡ Fault.At m j → n ≡ m
-same_number e k = cc
+-- the refusal of a check, and any where it refuses nothing
+abbrev refusal_in : Result (Unit {0}) Refusal → Refusal
+refusal_in (Ok u) = record { number = 0; line = 0 }
+refusal_in (Err r) = r
 
-pub same_line : {f : Fault} {n i m j : ℕ} → f ≡ Fault.At n i → f ≡ Fault.At m j → i ≡ j
-same_line e k = cc
+pub same_number : {f : Result (Unit {0}) Refusal} {n i m j : ℕ} → f ≡ refused_at n i → f ≡ refused_at m j → n ≡ m
+same_number e k = ap (λ (f : Result (Unit {0}) Refusal). (refusal_in f).number) (sym e ∙ k)
+
+pub same_line : {f : Result (Unit {0}) Refusal} {n i m j : ℕ} → f ≡ refused_at n i → f ≡ refused_at m j → i ≡ j
+same_line e k = ap (λ (f : Result (Unit {0}) Refusal). (refusal_in f).line) (sym e ∙ k)
 
 -- ---- one row
 
 first_by : (r : Row) (rs : List Row) (t : Bool) → r.applies ≡ t
-    → first_refusal (r ∷ rs) ≡ elim t as (λ y. Fault) [ true ↦ Fault.At r.number r.line | false ↦ first_refusal rs ]
+    → first_refusal (r ∷ rs) ≡ elim t as (λ y. Result (Unit {0}) Refusal) [ true ↦ refused_at r.number r.line | false ↦ first_refusal rs ]
 unfolding first_refusal
-first_by r rs t e = ap (λ (y : Bool). elim y as (λ z. Fault) [ true ↦ Fault.At r.number r.line | false ↦ first_refusal rs ]) e
+first_by r rs t e = ap (λ (y : Bool). elim y as (λ z. Result (Unit {0}) Refusal) [ true ↦ refused_at r.number r.line | false ↦ first_refusal rs ]) e
 
-pub row_applies : (r : Row) (rs : List Row) → r.applies ≡ true → first_refusal (r ∷ rs) ≡ Fault.At r.number r.line
+pub row_applies : (r : Row) (rs : List Row) → r.applies ≡ true → first_refusal (r ∷ rs) ≡ refused_at r.number r.line
 row_applies r rs e = first_by r rs true e
 
 pub row_passed : (r : Row) (rs : List Row) → r.applies ≡ false → first_refusal (r ∷ rs) ≡ first_refusal rs
@@ -44,30 +50,30 @@ row_passed r rs e = first_by r rs false e
 
 -- ---- stages: the rows of one, then the rest
 
-pub stage_passed : (xs ys : List Row) → first_refusal xs ≡ Fault.None → first_refusal (xs ++ ys) ≡ first_refusal ys
+pub stage_passed : (xs ys : List Row) → first_refusal xs ≡ Ok tt → first_refusal (xs ++ ys) ≡ first_refusal ys
 stage_passed [] ys e = refl
 stage_passed (r ∷ rs) ys e = go r.applies refl (stage_passed rs ys)
   where
-    go : (t : Bool) → r.applies ≡ t → (first_refusal rs ≡ Fault.None → first_refusal (rs ++ ys) ≡ first_refusal ys) → first_refusal (r ∷ (rs ++ ys)) ≡ first_refusal ys
+    go : (t : Bool) → r.applies ≡ t → (first_refusal rs ≡ Ok tt → first_refusal (rs ++ ys) ≡ first_refusal ys) → first_refusal (r ∷ (rs ++ ys)) ≡ first_refusal ys
     go true k ih = no_fault_here (row_applies r rs k) e
     go false k ih = row_passed r (rs ++ ys) k ∙ ih (sym (row_passed r rs k) ∙ e)
 
-pub stage_refused : {n i : ℕ} (xs ys : List Row) → first_refusal xs ≡ Fault.At n i → first_refusal (xs ++ ys) ≡ Fault.At n i
+pub stage_refused : {n i : ℕ} (xs ys : List Row) → first_refusal xs ≡ refused_at n i → first_refusal (xs ++ ys) ≡ refused_at n i
 unfolding first_refusal
 stage_refused [] ys e = no_fault_here e refl
 stage_refused {n} {i} (r ∷ rs) ys e = go r.applies refl (stage_refused rs ys)
   where
-    go : (t : Bool) → r.applies ≡ t → (first_refusal rs ≡ Fault.At n i → first_refusal (rs ++ ys) ≡ Fault.At n i) → first_refusal (r ∷ (rs ++ ys)) ≡ Fault.At n i
+    go : (t : Bool) → r.applies ≡ t → (first_refusal rs ≡ refused_at n i → first_refusal (rs ++ ys) ≡ refused_at n i) → first_refusal (r ∷ (rs ++ ys)) ≡ refused_at n i
     go true k ih = row_applies r (rs ++ ys) k ∙ sym (row_applies r rs k) ∙ e
     go false k ih = row_passed r (rs ++ ys) k ∙ ih (sym (row_passed r rs k) ∙ e)
 
 -- none of all the rows applies, so none of the first
-pub stage_none : (xs ys : List Row) → first_refusal (xs ++ ys) ≡ Fault.None → first_refusal xs ≡ Fault.None
+pub stage_none : (xs ys : List Row) → first_refusal (xs ++ ys) ≡ Ok tt → first_refusal xs ≡ Ok tt
 stage_none xs ys e = go (first_refusal xs) refl
   where
-    go : (f : Fault) → first_refusal xs ≡ f → first_refusal xs ≡ Fault.None
-    go Fault.None h = h
-    go (Fault.At n i) h = no_fault_here (stage_refused xs ys h) e
+    go : (f : Result (Unit {0}) Refusal) → first_refusal xs ≡ f → first_refusal xs ≡ Ok tt
+    go (Ok _) h = h
+    go (Err r) h = no_fault_here (stage_refused xs ys h) e
 
 -- ---- rows that apply
 
@@ -87,22 +93,22 @@ applies_later r rs k i a =
 
 -- ---- none applies
 
-pub none_applies : (rows : List Row) → first_refusal rows ≡ Fault.None → (k i : ℕ) → RowApplies rows k i → ⊥
+pub none_applies : (rows : List Row) → first_refusal rows ≡ Ok tt → (k i : ℕ) → RowApplies rows k i → ⊥
 none_applies [] e k i a = Memᴰ.not-nil a.listed
 none_applies (r ∷ rs) e k i a = go r.applies refl (λ h. none_applies rs h k i)
   where
-    go : (t : Bool) → r.applies ≡ t → (first_refusal rs ≡ Fault.None → RowApplies rs k i → ⊥) → ⊥
+    go : (t : Bool) → r.applies ≡ t → (first_refusal rs ≡ Ok tt → RowApplies rs k i → ⊥) → ⊥
     go true h ih = no_fault_here (row_applies r rs h) e
     go false h ih = ⊎_elim (λ x. clash x.2 h) (ih (sym (row_passed r rs h) ∙ e)) (applies_cases r rs k i a)
 
 -- ---- the first that applies
 
-first_found : {k i : ℕ} (rows : List Row) → first_refusal rows ≡ Fault.At k i → FirstApplies rows k i
+first_found : {k i : ℕ} (rows : List Row) → first_refusal rows ≡ refused_at k i → FirstApplies rows k i
 unfolding first_refusal Applies
 first_found [] e = no_fault_here e refl
 first_found {k} {i} (r ∷ rs) e = go r.applies refl (first_found rs)
   where
-    go : (t : Bool) → r.applies ≡ t → (first_refusal rs ≡ Fault.At k i → FirstApplies rs k i) → FirstApplies (r ∷ rs) k i
+    go : (t : Bool) → r.applies ≡ t → (first_refusal rs ≡ refused_at k i → FirstApplies rs k i) → FirstApplies (r ∷ rs) k i
     go true h ih =
         let f = row_applies r rs h in
         record { which = r; first = first_here r rs h; numbered = same_number f e; lined = same_line f e }
@@ -110,45 +116,45 @@ first_found {k} {i} (r ∷ rs) e = go r.applies refl (first_found rs)
         let f = ih (sym (row_passed r rs h) ∙ e) in
         record { which = f.which; first = first_later r rs (λ a. clash a h) f.first; numbered = f.numbered; lined = f.lined }
 
-found_first : {k i : ℕ} (rows : List Row) → FirstApplies rows k i → first_refusal rows ≡ Fault.At k i
+found_first : {k i : ℕ} (rows : List Row) → FirstApplies rows k i → first_refusal rows ≡ refused_at k i
 unfolding Applies
 found_first [] f = absurd (no_first f.first)
 found_first {k} {i} (r ∷ rs) f = go (first_cases r rs f.first) r.applies refl (found_first rs)
   where
     go : ((f.which ≡ r) × Applies r) ⊎ ((Applies r → ⊥) × First Applies rs f.which) → (t : Bool) → r.applies ≡ t
-        → (FirstApplies rs k i → first_refusal rs ≡ Fault.At k i) → first_refusal (r ∷ rs) ≡ Fault.At k i
+        → (FirstApplies rs k i → first_refusal rs ≡ refused_at k i) → first_refusal (r ∷ rs) ≡ refused_at k i
     go (inl h) t q ih =
         row_applies r rs h.1
-        ∙ ap (λ (x : Row). Fault.At x.number x.line) (sym h.0)
-        ∙ ap (λ (n : ℕ). Fault.At n f.which.line) f.numbered
-        ∙ ap (λ (n : ℕ). Fault.At k n) f.lined
+        ∙ ap (λ (x : Row). refused_at x.number x.line) (sym h.0)
+        ∙ ap (λ (n : ℕ). refused_at n f.which.line) f.numbered
+        ∙ ap (λ (n : ℕ). refused_at k n) f.lined
     go (inr h) true q ih = absurd (h.0 q)
     go (inr h) false q ih =
         row_passed r rs q ∙ ih (record { which = f.which; first = h.1; numbered = f.numbered; lined = f.lined })
 
 -- a number is given, with its line, exactly when its row is the first that applies
-pub first_iff : (rows : List Row) (k i : ℕ) → (first_refusal rows ≡ Fault.At k i) ↔ FirstApplies rows k i
+pub first_iff : (rows : List Row) (k i : ℕ) → (first_refusal rows ≡ refused_at k i) ↔ FirstApplies rows k i
 first_iff rows k i = (first_found rows, found_first rows)
 
 -- some row applies where one is the first
-pub first_applies : {k i : ℕ} (rows : List Row) → first_refusal rows ≡ Fault.At k i → RowApplies rows k i
+pub first_applies : {k i : ℕ} (rows : List Row) → first_refusal rows ≡ refused_at k i → RowApplies rows k i
 unfolding first_refusal
 first_applies [] e = no_fault_here e refl
 first_applies {k} {i} (r ∷ rs) e = go r.applies refl (first_applies rs)
   where
-    go : (t : Bool) → r.applies ≡ t → (first_refusal rs ≡ Fault.At k i → RowApplies rs k i) → RowApplies (r ∷ rs) k i
+    go : (t : Bool) → r.applies ≡ t → (first_refusal rs ≡ refused_at k i → RowApplies rs k i) → RowApplies (r ∷ rs) k i
     go true h ih =
         let f = row_applies r rs h in
         record { which = r; listed = Memᴰ.head refl; numbered = same_number f e; lined = same_line f e; applies = h }
     go false h ih = applies_later r rs k i (ih (sym (row_passed r rs h) ∙ e))
 
-pub none_iff : (rows : List Row) → (first_refusal rows ≡ Fault.None) ↔ NoneApplies rows
+pub none_iff : (rows : List Row) → (first_refusal rows ≡ Ok tt) ↔ NoneApplies rows
 unfolding NoneApplies
 none_iff rows = (none_applies rows, λ h. go h (first_refusal rows) refl)
   where
-    go : ((k i : ℕ) → RowApplies rows k i → ⊥) → (f : Fault) → first_refusal rows ≡ f → first_refusal rows ≡ Fault.None
-    go h Fault.None e = e
-    go h (Fault.At n i) e = absurd (h n i (first_applies rows e))
+    go : ((k i : ℕ) → RowApplies rows k i → ⊥) → (f : Result (Unit {0}) Refusal) → first_refusal rows ≡ f → first_refusal rows ≡ Ok tt
+    go h (Ok _) e = e
+    go h (Err r) e = absurd (h r.number r.line (first_applies rows e))
 
 -- ---- 6 to 10: the calendar
 
@@ -158,15 +164,15 @@ structure_fault_lem (bad_line i) n = refl
 structure_fault_lem all_good (bad_line i) = refl
 structure_fault_lem all_good all_good = refl
 
-contents_fault : (v : ValueCheck) (r : RuleCheck) (es : List Entry)
+contents_fault : (v : Result (Unit {0}) LineError) (r : Option ℕ) (es : List Entry)
     → first_refusal (unsupported_row v ∷ bad_value_row v ∷ rule_row r ∷ []) ≡ fault_of (by_values v (by_rules r es))
 unfolding first_refusal unsupported_row bad_value_row rule_row fault_of by_values by_rules
-contents_fault (ValueCheck.Unsupported i) r es = refl
-contents_fault (ValueCheck.Bad i) r es = refl
-contents_fault ValueCheck.Good (RuleCheck.Broken i) es = refl
-contents_fault ValueCheck.Good RuleCheck.Good es = refl
+contents_fault (Err (LineError.Unsupported i)) r es = refl
+contents_fault (Err (LineError.Bad i)) r es = refl
+contents_fault (Ok _) (Some i) es = refl
+contents_fault (Ok _) None es = refl
 
-rows_fault : (l n : LineCheck) (v : ValueCheck) (r : RuleCheck) (es : List Entry)
+rows_fault : (l n : LineCheck) (v : Result (Unit {0}) LineError) (r : Option ℕ) (es : List Entry)
     → first_refusal (line_row 6 l ∷ line_row 7 n ∷ unsupported_row v ∷ bad_value_row v ∷ rule_row r ∷ [])
     ≡ fault_of (by_lines 6 l (by_lines 7 n (by_values v (by_rules r es))))
 unfolding first_refusal line_row fault_of by_lines
@@ -186,18 +192,18 @@ structure_first : (u : List ℕ) → first_refusal (structure_rows u) ≡ struct
 unfolding structure_rows structure_fault
 structure_first u = structure_fault_lem (line_check u) (nesting_of (file_lines u))
 
-pub structure_passed : (u : List ℕ) (rows : List Row) → structure_fault u ≡ Fault.None → first_refusal (structure_rows u ++ rows) ≡ first_refusal rows
+pub structure_passed : (u : List ℕ) (rows : List Row) → structure_fault u ≡ Ok tt → first_refusal (structure_rows u ++ rows) ≡ first_refusal rows
 structure_passed u rows e = stage_passed (structure_rows u) rows (structure_first u ∙ e)
 
-pub structure_refused : {n i : ℕ} (u : List ℕ) (rows : List Row) → structure_fault u ≡ Fault.At n i → first_refusal (structure_rows u ++ rows) ≡ Fault.At n i
+pub structure_refused : {n i : ℕ} (u : List ℕ) (rows : List Row) → structure_fault u ≡ refused_at n i → first_refusal (structure_rows u ++ rows) ≡ refused_at n i
 structure_refused u rows e = stage_refused (structure_rows u) rows (structure_first u ∙ e)
 
 pub contents_first : (c : Context) (u : List ℕ) → first_refusal (contents_rows c u) ≡ fault_of (contents_of c u)
 unfolding contents_rows contents_of
 contents_first c u = contents_fault (value_fault c (components_of u)) (rule_fault c (components_of u)) (entries_of c (components_of u))
 
-pub contents_passed : (c : Context) (u : List ℕ) (rows : List Row) → fault_of (contents_of c u) ≡ Fault.None → first_refusal (contents_rows c u ++ rows) ≡ first_refusal rows
+pub contents_passed : (c : Context) (u : List ℕ) (rows : List Row) → fault_of (contents_of c u) ≡ Ok tt → first_refusal (contents_rows c u ++ rows) ≡ first_refusal rows
 contents_passed c u rows e = stage_passed (contents_rows c u) rows (contents_first c u ∙ e)
 
-pub contents_refused : {n i : ℕ} (c : Context) (u : List ℕ) (rows : List Row) → fault_of (contents_of c u) ≡ Fault.At n i → first_refusal (contents_rows c u ++ rows) ≡ Fault.At n i
+pub contents_refused : {n i : ℕ} (c : Context) (u : List ℕ) (rows : List Row) → fault_of (contents_of c u) ≡ refused_at n i → first_refusal (contents_rows c u ++ rows) ≡ refused_at n i
 contents_refused c u rows e = stage_refused (contents_rows c u) rows (contents_first c u ∙ e)

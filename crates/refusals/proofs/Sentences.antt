@@ -1,5 +1,7 @@
 -- Each row applies exactly when its sentence holds.
+use Rattle.std.specs.Prelude.{Err, None, Ok, Option, Result, Some}
 use Prim.Native.Nat.{ℕ}
+use Rattle.calendar.specs.declared.LineError.{LineError}
 use mathlib.Core.Path.{◌≡◌, refl, ap, subst}
 use mathlib.Core.Bool.{Bool, true}
 use mathlib.Core.List.Memᴰ
@@ -16,8 +18,6 @@ use Rattle.nesting.proofs.Faults.{fault_iff}
 use Rattle.values.specs.declared.times.Context.{Context}
 use Rattle.calendar.specs.Meaning.{file_lines, components_of, value_fault, rule_fault}
 use Rattle.calendar.proofs.FirstFaults.{unsupported_iff, bad_value_iff, broken_iff}
-use Rattle.calendar.specs.declared.ValueCheck.{ValueCheck}
-use Rattle.calendar.specs.declared.RuleCheck.{RuleCheck}
 use Rattle.refusals.specs.Refusals.{Row, row, RowApplies, size_rows, line_row, unsupported_row, bad_value_row, rule_row, structure_rows, contents_rows, calendar_rows}
 use Rattle.refusals.specs.Sentences.{SizeApplies, calendar_long, work_short, CalendarApplies, line_bad, nesting_wrong, unsupported, bad_value, rule_broken}
 use Rattle.refusals.proofs.Refusals.{applies_cases, applies_later}
@@ -93,32 +93,32 @@ unfolding line_row
 line_says all_good t = clash t.2 refl
 line_says (bad_line j) t = (t.0, ap bad_line t.1)
 
-unsupported_says : {k i : ℕ} (v : ValueCheck) → Tells (unsupported_row v) k i → (8 ≡ k) × (v ≡ ValueCheck.Unsupported i)
+unsupported_says : {k i : ℕ} (v : Result (Unit {0}) LineError) → Tells (unsupported_row v) k i → (8 ≡ k) × (v ≡ Err (LineError.Unsupported i))
 unfolding unsupported_row
-unsupported_says ValueCheck.Good t = clash t.2 refl
-unsupported_says (ValueCheck.Unsupported j) t = (t.0, ap ValueCheck.Unsupported t.1)
-unsupported_says (ValueCheck.Bad j) t = clash t.2 refl
+unsupported_says (Ok _) t = clash t.2 refl
+unsupported_says (Err (LineError.Unsupported j)) t = (t.0, ap Err (ap LineError.Unsupported t.1))
+unsupported_says (Err (LineError.Bad j)) t = clash t.2 refl
 
-bad_says : {k i : ℕ} (v : ValueCheck) → Tells (bad_value_row v) k i → (9 ≡ k) × (v ≡ ValueCheck.Bad i)
+bad_says : {k i : ℕ} (v : Result (Unit {0}) LineError) → Tells (bad_value_row v) k i → (9 ≡ k) × (v ≡ Err (LineError.Bad i))
 unfolding bad_value_row
-bad_says ValueCheck.Good t = clash t.2 refl
-bad_says (ValueCheck.Unsupported j) t = clash t.2 refl
-bad_says (ValueCheck.Bad j) t = (t.0, ap ValueCheck.Bad t.1)
+bad_says (Ok _) t = clash t.2 refl
+bad_says (Err (LineError.Unsupported j)) t = clash t.2 refl
+bad_says (Err (LineError.Bad j)) t = (t.0, ap Err (ap LineError.Bad t.1))
 
-rule_says : {k i : ℕ} (r : RuleCheck) → Tells (rule_row r) k i → (10 ≡ k) × (r ≡ RuleCheck.Broken i)
+rule_says : {k i : ℕ} (r : Option ℕ) → Tells (rule_row r) k i → (10 ≡ k) × (r ≡ Some i)
 unfolding rule_row
-rule_says RuleCheck.Good t = clash t.2 refl
-rule_says (RuleCheck.Broken j) t = (t.0, ap RuleCheck.Broken t.1)
+rule_says None t = clash t.2 refl
+rule_says (Some j) t = (t.0, ap Some t.1)
 
 module _ (c : Context) (u : List ℕ) where
   -- a sentence at the number that the row has
   at_number : {n k i : ℕ} → n ≡ k → CalendarApplies c u n i → CalendarApplies c u k i
   at_number {i = i} e a = subst (λ (j : ℕ). CalendarApplies c u j i) e a
 
-  abbrev values : ValueCheck
+  abbrev values : Result (Unit {0}) LineError
   values = value_fault c (components_of u)
 
-  abbrev rules : RuleCheck
+  abbrev rules : Option ℕ
   rules = rule_fault c (components_of u)
 
   abbrev nesting : LineCheck

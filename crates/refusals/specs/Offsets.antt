@@ -1,8 +1,7 @@
 -- The zone offset (document 01, Two questions): from -50,400 to 50,400 seconds; it is signed here and nowhere below.
-use Rattle.std.specs.Prelude.{ℕ, suc, ◌+◌, ◌-◌, ◌≤◌, ◌<◌, Bool, cond, ◌&&◌, ℤ, pos, negsuc}
+use Rattle.std.specs.Prelude.{ℕ, suc, ◌+◌, ◌-◌, ◌≤◌, ◌<◌, Bool, cond, ◌&&◌, ℤ, pos, negsuc, None, Option, Some}
 use Rattle.std.specs.Int.Signed.{le_z}
 use Rattle.values.specs.declared.times.Context.{Context}
-use Rattle.refusals.specs.declared.OffsetRead.{OffsetRead}
 
 -- negsuc n is -(n + 1)
 unfoldable pub offset_good : ℤ → Bool
@@ -22,5 +21,5 @@ unfoldable pub context_of : ℤ → Context
 context_of o = record { shift = shift_of o }
 
 -- the offset once it is read: unsigned, or out of bounds
-unfoldable pub offset_read : ℤ → OffsetRead
-offset_read o = cond (offset_good o) (OffsetRead.Of (shift_of o)) OffsetRead.Bad
+unfoldable pub offset_read : ℤ → Option ℕ
+offset_read o = cond (offset_good o) (Some (shift_of o)) None

@@ -1,14 +1,14 @@
 -- The refusal table (document 01, Refusal numbers): a row for each number, with its own condition; the first of a call's list that applies is given.
-use Rattle.std.specs.Prelude.{ℕ, ◌≡◌, Bool, true, false, ltb, length}
+use Rattle.std.specs.Prelude.{ℕ, ◌≡◌, Bool, true, false, ltb, length, Err, None, Ok, Option, Result, Some}
+use Rattle.calendar.specs.declared.LineError.{LineError}
 use mathlib.Core.List.{List, [], ◌∷◌, ◌++◌, Memᴰ}
 use Rattle.line.specs.WellFormed.{line_check, LineCheck, all_good, bad_line}
 use Rattle.nesting.specs.Nesting.{nesting_of}
 use Rattle.values.specs.declared.times.Context.{Context}
 use Rattle.calendar.specs.Meaning.{file_lines, components_of, value_fault, rule_fault}
 use Rattle.calendar.specs.FirstFaults.{First}
-use Rattle.calendar.specs.declared.ValueCheck.{ValueCheck}
-use Rattle.calendar.specs.declared.RuleCheck.{RuleCheck}
-use Rattle.calendar.specs.declared.Fault.{Fault}
+use Rattle.calendar.specs.declared.Refusal.{Refusal}
+use Rattle.calendar.specs.Refused.{refused_at}
 
 -- a row: its number, the line at fault (0 for none), and whether its condition holds of what was handed in
 pub record Row : Type 0 where
@@ -20,9 +20,9 @@ abbrev pub row : ℕ → ℕ → Bool → Row
 row n i t = record { number = n; line = i; applies = t }
 
 -- the first row that applies
-unfoldable pub first_refusal : List Row → Fault
-first_refusal [] = Fault.None
-first_refusal (r ∷ rs) = elim r.applies [ true ↦ Fault.At r.number r.line | false ↦ first_refusal rs ]
+unfoldable pub first_refusal : List Row → Result (Unit {0}) Refusal
+first_refusal [] = Ok tt
+first_refusal (r ∷ rs) = elim r.applies [ true ↦ refused_at r.number r.line | false ↦ first_refusal rs ]
 
 -- row k applies, its fault at line i, whether or not one before it does
 pub record RowApplies (rows : List Row) (k i : ℕ) : Type 0 where
@@ -60,20 +60,20 @@ line_row k all_good = row k 0 false
 line_row k (bad_line i) = row k i true
 
 -- 8: an unsupported thing on the first line with either; 9: a bad value there
-unfoldable pub unsupported_row : ValueCheck → Row
-unsupported_row ValueCheck.Good = row 8 0 false
-unsupported_row (ValueCheck.Unsupported i) = row 8 i true
-unsupported_row (ValueCheck.Bad i) = row 8 0 false
+unfoldable pub unsupported_row : Result (Unit {0}) LineError → Row
+unsupported_row (Ok _) = row 8 0 false
+unsupported_row (Err (LineError.Unsupported i)) = row 8 i true
+unsupported_row (Err (LineError.Bad i)) = row 8 0 false
 
-unfoldable pub bad_value_row : ValueCheck → Row
-bad_value_row ValueCheck.Good = row 9 0 false
-bad_value_row (ValueCheck.Unsupported i) = row 9 0 false
-bad_value_row (ValueCheck.Bad i) = row 9 i true
+unfoldable pub bad_value_row : Result (Unit {0}) LineError → Row
+bad_value_row (Ok _) = row 9 0 false
+bad_value_row (Err (LineError.Unsupported i)) = row 9 0 false
+bad_value_row (Err (LineError.Bad i)) = row 9 i true
 
 -- 10: component rule broken
-unfoldable pub rule_row : RuleCheck → Row
-rule_row RuleCheck.Good = row 10 0 false
-rule_row (RuleCheck.Broken i) = row 10 i true
+unfoldable pub rule_row : Option ℕ → Row
+rule_row None = row 10 0 false
+rule_row (Some i) = row 10 i true
 
 -- 6 and 7
 unfoldable pub structure_rows : List ℕ → List Row

@@ -1,16 +1,17 @@
 -- Laws of a fixed string at a place: where it stands, the loop that compares it, and that a report's heads stand in a report.
-use Prim.Native.Nat.{ℕ, zero, suc, ◌+◌, ◌-◌, ◌≤◌, ◌<◌}
+use Prim.Native.Nat.{ℕ, zero, suc, ◌-◌, ◌≤◌, ◌<◌}
 use mathlib.Core.Path.{◌≡◌, refl, sym, ap, ◌∙◌}
 use mathlib.Core.Bool.{Bool, true, false, cond, true≢false, ◌&&◌, ◌||◌, not, and-false}
 use mathlib.Core.Logic.{◌↔◌}
 use mathlib.Core.List.{List, [], ◌∷◌, ◌++◌, append_assoc}
 use native.Mathlib.Omega.{arith}
 use lib.Dec.{eqb}
+use Rattle.std.specs.List.{starts_with}
 use lib.ListN.{length, take, drop, get_or, length-drop, length-append}
 use lib.Seq.{drop_at, take_at, take-length}
-use borrow.Author.Tests.{eqb-true, eq-eqb, ne_eqb, le-leb, lt-leb}
+use borrow.Author.Tests.{eqb-true, eqb-false, eq-eqb, ne_eqb, le-leb, lt-leb}
 use Rattle.ascii.proofs.Bools.{and_left, and_right, and_both, apart}
-use Rattle.ascii.proofs.Lists.{drop_next, drop_end, suffix}
+use Rattle.ascii.proofs.Lists.{drop_end, suffix}
 use Rattle.ascii.proofs.Names.{every_append}
 use Rattle.ascii.specs.Names.{every}
 use Rattle.ascii.specs.Bytes.{is_digit}
@@ -67,44 +68,24 @@ unfolding has_bytes_at begins
 has_bytes_at_past s [] at l = refl
 has_bytes_at_past s (b ∷ h) at l = ne_eqb (suc (length h)) 0 (omega arith) ∙ sym (ap (λ (k : List ℕ). begins k (b ∷ h)) (drop_end s at (omega arith)))
 
+eqb_swap : (a b : ℕ) → eqb a b ≡ eqb b a
+eqb_swap a b = go (eqb a b) refl
+  where
+    go : (t : Bool) → eqb a b ≡ t → t ≡ eqb b a
+    go true q = sym (eq-eqb b a (sym (eqb-true a b q)))
+    go false q = sym (ne_eqb b a (λ e. eqb-false a b q (sym e)))
+
 -- from a place on
 pub has_bytes_at_from : (s h : List ℕ) (at : ℕ) → begins (take (length s - at) (drop at s)) h ≡ has_bytes_at s h at
 unfolding has_bytes_at
 has_bytes_at_from s h at = ap (λ (k : List ℕ). begins k h) (suffix s at)
 
--- the loop: the string fits, is the same so far, and what is left decides
-pub record Compared (s h : List ℕ) (i : ℕ) : Type 0 where
-  pub so_far : i ≤ length h
-  pub fits : length h ≤ length s
-  pub left_decides : begins (drop i s) (drop i h) ≡ begins s h
-
-both_next : (s h : List ℕ) (i : ℕ) → i < length s → i < length h
-    → begins (drop i s) (drop i h) ≡ (eqb (get_or s i 0) (get_or h i 0) && begins (drop (i + 1) s) (drop (i + 1) h))
+-- the library's test is the same, pair by pair
+pub starts_begins : (s h : List ℕ) → starts_with eqb s h ≡ begins s h
 unfolding begins
-both_next s h i k l = rw (drop_next s i k, drop_next h i l)
-
-pub compared_next : {s h : List ℕ} {i : ℕ} → Compared s h i → i < length h → get_or s i 0 ≡ get_or h i 0 → Compared s h (i + 1)
-compared_next {s} {h} {i} p l e = record {
-  so_far = omega arith;
-  fits = p.fits;
-  left_decides =
-      ap (λ (t : Bool). t && begins (drop (i + 1) s) (drop (i + 1) h)) (sym (eq-eqb _ _ e))
-      ∙ sym (both_next s h i (omega (arith, p.fits)) l)
-      ∙ p.left_decides;
-}
-
-pub compared_stop : {s h : List ℕ} {i : ℕ} → Compared s h i → i < length h → (get_or s i 0 ≡ get_or h i 0 → ⊥) → false ≡ begins s h
-compared_stop {s} {h} {i} p l e =
-    ap (λ (t : Bool). t && begins (drop (i + 1) s) (drop (i + 1) h)) (sym (ne_eqb _ _ e))
-    ∙ sym (both_next s h i (omega (arith, p.fits)) l)
-    ∙ p.left_decides
-
-begins_none : (s : List ℕ) → begins s [] ≡ true
-unfolding begins
-begins_none s = refl
-
-pub compared_end : {s h : List ℕ} {i : ℕ} → Compared s h i → length h ≤ i → true ≡ begins s h
-compared_end {s} {h} {i} p l = sym (ap (λ (k : List ℕ). begins (drop i s) k) (drop_end h i l) ∙ begins_none (drop i s)) ∙ p.left_decides
+starts_begins s [] = refl
+starts_begins [] (b ∷ h) = refl
+starts_begins (a ∷ s) (b ∷ h) = rw (eqb_swap b a, starts_begins s h)
 
 -- each head where a report has it
 pub opens_report_by : (s : List ℕ) {a b c : Bool} → a ≡ has_bytes_at s stamp_head 0 → b ≡ has_bytes_at s start_head 108 → c ≡ has_bytes_at s end_head 134

@@ -1,12 +1,11 @@
 -- Bytes written one run behind another: two runs are one, and what is left to write;
 -- the lines of three tables, and how long they are.
-use Prim.Native.Nat.{ℕ, zero, suc, ◌+◌, ◌-◌, ◌≤◌, ◌<◌}
+use Prim.Native.Nat.{ℕ, ◌+◌, ◌≤◌}
 use mathlib.Core.Path.{◌≡◌, refl, ap, ◌∙◌, sym, subst}
 use mathlib.Core.List.{List, [], ◌∷◌, ◌++◌, append_assoc}
 use native.Mathlib.Omega.{arith}
-use lib.ListN.{length, take, length-append, length-drop, drop, get_or, drop_of_length-le}
+use lib.ListN.{length, length-append, drop, drop_of_length-le}
 use lib.Seq.{sets, length-sets}
-use Rattle.ascii.proofs.Lists.{suffix}
 use Rattle.text.specs.Lines.{joined}
 use Rattle.time.specs.Writing.{utc_text}
 use Rattle.time.specs.Limits.{last_second}
@@ -15,7 +14,7 @@ use Rattle.time.proofs.WritingLaws.{utc_text_length}
 use Rattle.periods.specs.declared.BusyType.{BusyType}
 use Rattle.periods.specs.declared.Period.{Period}
 use Rattle.periods.specs.Periods.{period}
-use Rattle.table.specs.Tables.{rows, table_at, listed}
+use Rattle.table.specs.Tables.{table_at, listed}
 use Rattle.table.proofs.Tables.{listed_length, table_sound}
 use Rattle.report.specs.Bytes.{busy_lines, report_bytes, report_length, period_text, period_lines, GoodPeriods, then, Writable}
 use Rattle.report.specs.Writing.{packed, report_of, AllGood, Put}
@@ -29,14 +28,6 @@ types_length : (f : BusyType → List Period)
     ≡ length (type_bytes BusyType.Busy (f BusyType.Busy))
     + (length (type_bytes BusyType.Tentative (f BusyType.Tentative)) + length (type_bytes BusyType.Unavailable (f BusyType.Unavailable)))
 types_length f = ap length (busy_parts f) ∙ simp length-append
-
--- as many periods as rows are counted
-pub rows_length : (n : ℕ) (ss es : List ℕ) → n ≤ length ss → n ≤ length es → length (take n (rows ss es)) ≡ n
-unfolding rows
-rows_length zero ss es h k = refl
-rows_length (suc n) [] es h k = absurd (omega arith)
-rows_length (suc n) (s ∷ ss) [] h k = absurd (omega arith)
-rows_length (suc n) (s ∷ ss) (e ∷ es) h k = ap suc (rows_length n ss es (omega arith) (omega arith))
 
 -- a report of so many rows of each type is as long as they make it
 pub tables_length : (a b s x y z : ℕ) (ss es : List ℕ) → x + y + z ≤ length ss → length es ≡ length ss
@@ -92,18 +83,6 @@ put_line o p q r h a b c f t u v e =
     put_as
     (put_then (put_then u v) (put_stored {x = 13 ∷ 10 ∷ []} e refl))
     (ap (λ (l : List ℕ). l ++ (13 ∷ 10 ∷ [])) (append_assoc h (utc_text f) (47 ∷ utc_text t)))
-
--- row i is the next of the periods that are left
-pub row_next : (n i : ℕ) (ss es : List ℕ) → i < n → n ≤ length ss → n ≤ length es
-    → drop i (take n (rows ss es)) ≡ period (get_or ss i 0) (get_or es i 0) ∷ drop (i + 1) (take n (rows ss es))
-unfolding rows
-row_next zero i ss es l h k = absurd (omega arith)
-row_next (suc n) i [] es l h k = absurd (omega arith)
-row_next (suc n) i (s ∷ ss) [] l h k = absurd (omega arith)
-row_next (suc n) zero (s ∷ ss) (e ∷ es) l h k = refl
-row_next (suc n) (suc i) (s ∷ ss) (e ∷ es) l h k =
-    let z : suc i + 1 ≡ suc (i + 1) = omega arith in
-    rw z (row_next n i ss es (omega arith) (omega arith) (omega arith))
 
 -- the loop over periods: those from i on are left to write at a, and that makes all of them at a₀
 pub record LinesLeft (h : List ℕ) (ps : List Period) (o₀ : List ℕ) (a₀ : ℕ) (o : List ℕ) (a i : ℕ) : Type 0 where
@@ -171,27 +150,6 @@ lines_end {h} {ps} {o₀} {a₀} {o} {a} {i} l k =
       bytes = ap (λ (z : List ℕ). sets o a z) (sym n) ∙ l.made;
       place = omega (arith, l.reaches, ap length n);
     }
-
--- the rows of a part of two columns are those from its first row on
-module _ (first count : ℕ) (ss es : List ℕ) where
-  rest_rows : take count (rows (take (length ss - first) (drop first ss)) (take (length es - first) (drop first es))) ≡ listed (table_at first count ss es)
-  unfolding listed
-  rest_rows = rw (suffix ss first, suffix es first)
-
-  pub rest_asks : (h : List ℕ) (a : ℕ) {n : ℕ} → first + count ≤ length ss → length es ≡ length ss → GoodPeriods (listed (table_at first count ss es))
-      → a + length (joined (period_lines h (listed (table_at first count ss es)))) ≤ n
-      → let ps = take count (rows (take (length ss - first) (drop first ss)) (take (length es - first) (drop first es))) in
-      ((count ≤ length (take (length ss - first) (drop first ss))) × (count ≤ length (take (length es - first) (drop first es))))
-      × (GoodPeriods ps × (a + length (joined (period_lines h ps)) ≤ n))
-  unfolding listed
-  rest_asks heads a h e g r =
-      rw (suffix ss first, suffix es first)
-      ((omega (arith, length-drop first ss), omega (arith, length-drop first es)), (g, r))
-
-  pub rest_put : (h : List ℕ) {o o' : List ℕ} {a r : ℕ}
-      → Put o a (joined (period_lines h (take count (rows (take (length ss - first) (drop first ss)) (take (length es - first) (drop first es)))))) o' r
-      → Put o a (joined (period_lines h (listed (table_at first count ss es)))) o' r
-  rest_put h p = rw (← rest_rows) p
 
 -- the types one behind the other
 module _ (f : BusyType → List Period) where

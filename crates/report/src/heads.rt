@@ -2,10 +2,9 @@
 // Each string stands once, for the writer and for the reader.
 ghost use Rattle.std.specs.Prelude.{◌≡◌};
 ghost use Rattle.report.specs.Bytes.{period_head};
-ghost use Rattle.report.specs.Heads.{begins, has_bytes_at, opens_report, closes_report, is_busy_line, all_busy_lines, heads_match};
+ghost use Rattle.report.specs.Heads.{has_bytes_at, opens_report, closes_report, is_busy_line, all_busy_lines, heads_match};
 
 use periods::BusyType;
-use text::Span;
 
 // What stands before the stamp, before the start of the range and before its end.
 pub const STAMP_HEAD: [u8; 92] =
@@ -28,31 +27,14 @@ pub const FREE_HEAD: [u8; 21] = *b"FREEBUSY;FBTYPE=FREE:";
 // The last two lines.
 pub const CLOSING: [u8; 30] = *b"END:VFREEBUSY\r\nEND:VCALENDAR\r\n";
 
-// Do the bytes begin with the fixed string?
-fn begins_with(s: &[u8], head: &[u8]) -> bool
-    ensures { result ≡ begins s.now head.now }
-{
-    if s.len() < head.len() {
-        return false;
-    }
-    let mut i = 0;
-    while i < head.len() {
-        if s[i] != head[i] {
-            return false;
-        }
-        i += 1;
-    }
-    true
-}
-
 // Does the fixed string stand at this place? No where it does not fit.
 pub fn has_bytes_at(s: &[u8], at: usize, head: &[u8]) -> bool
     ensures { result ≡ has_bytes_at s.now head.now at }
 {
     if s.len() < at {
-        return head.len() == 0;
+        return head.is_empty();
     }
-    begins_with(&s[at..], head)
+    s[at..].starts_with(head)
 }
 
 // Does the line of a period of this type begin at this place?
@@ -100,17 +82,13 @@ fn all_busy_lines(s: &[u8]) -> bool
     ensures { result ≡ all_busy_lines s.now }
 {
     let mut at = 0;
-    loop {
-        match text::next_line(s, at) {
-            Span::End => return true,
-            Span::Line(e, next) => {
-                if !is_busy_line(&s[at..e]) {
-                    return false;
-                }
-                at = next;
-            }
+    while let Some((e, next)) = text::next_line(s, at) {
+        if !is_busy_line(&s[at..e]) {
+            return false;
         }
+        at = next;
     }
+    true
 }
 
 // Does every line begin as a report's does? Those of the periods stand between the opening and the closing.

@@ -4,23 +4,33 @@ ghost use Rattle.std.specs.Prelude.{◌≡◌, [], ◌∷◌, ◌+◌, ◌≤◌
 ghost use Rattle.text.specs.Lines.{joined};
 ghost use Rattle.time.specs.Limits.{last_second};
 ghost use Rattle.periods.specs.Periods.{period};
-ghost use Rattle.table.specs.Tables.{rows, table_at, listed};
+ghost use Rattle.table.specs.Tables.{starts_of, ends_of, rows, table_at, listed};
 ghost use Rattle.report.specs.Bytes.{period_lines, busy_lines, report_bytes, report_length, GoodPeriods, Writable};
 ghost use Rattle.report.specs.Heads.{timed, opening};
 ghost use Rattle.report.specs.Writing.{packed, report_of, AllGood, Put};
 
 use crate::heads;
+use periods::Counts;
+use table::Span;
 use time::writing;
 
-// How long a report is, by the number of periods of each type.
-pub fn report_length(busy: usize, tentative: usize, unavailable: usize) -> usize
-    requires { (busy ≤ 512) × (tentative ≤ 512) × (unavailable ≤ 512) }
-    ensures { result ≡ report_length busy tentative unavailable }
-{
-    190 + 56 * busy + 66 * tentative + 68 * unavailable
+// What stands in a report before its periods: its range and its stamp.
+#[derive(Clone, Copy)]
+pub struct Opening {
+    pub start: u64,
+    pub end: u64,
+    pub stamp: u64,
 }
 
-// A fixed string, and a second behind it.
+// How long a report is, by the number of periods of each type.
+pub fn report_length(counts: Counts) -> usize
+    requires { (counts.busy ≤ 512) × (counts.tentative ≤ 512) × (counts.unavailable ≤ 512) }
+    ensures { result ≡ report_length counts.busy counts.tentative counts.unavailable }
+{
+    190 + 56 * counts.busy + 66 * counts.tentative + 68 * counts.unavailable
+}
+
+// A fixed string, and a second behind it. Output and place are no writer: a struct that holds a `&mut` wants a clause on that reference in each function.
 fn put_timed(out: &mut [u8], at: usize, head: &[u8], t: u64) -> usize
     requires { (at + length head.now + 16 ≤ length out.old) × (t ≤ last_second) }
     ensures { Put out.old at (timed head.now t) out.new result }
@@ -42,25 +52,15 @@ fn put_period(out: &mut [u8], at: usize, head: &[u8], from: u64, to: u64) -> usi
     b + 2
 }
 
-// A line for each of the first rows.
-fn put_periods(
-    out: &mut [u8],
-    at: usize,
-    head: &[u8],
-    starts: &[u32],
-    ends: &[u32],
-    count: usize,
-) -> usize
-    requires count_in_bounds { (count ≤ length starts.now) × (count ≤ length ends.now) }
-    requires good_periods { GoodPeriods (take count (rows starts.now ends.now)) }
-    requires ends_in_bounds { at + length (joined (period_lines head.now (take count (rows starts.now ends.now)))) ≤ length out.old }
-    ensures { Put out.old at (joined (period_lines head.now (take count (rows starts.now ends.now)))) out.new result }
+// A line for each of these spans.
+fn put_periods(out: &mut [u8], at: usize, head: &[u8], spans: &[Span]) -> usize
+    requires good_periods { GoodPeriods (rows (starts_of spans.now) (ends_of spans.now)) }
+    requires ends_in_bounds { at + length (joined (period_lines head.now (rows (starts_of spans.now) (ends_of spans.now)))) ≤ length out.old }
+    ensures { Put out.old at (joined (period_lines head.now (rows (starts_of spans.now) (ends_of spans.now)))) out.new result }
 {
     let mut place = at;
-    let mut i = 0;
-    while i < count {
-        place = put_period(out, place, head, starts[i] as u64, ends[i] as u64);
-        i += 1;
+    for span in spans {
+        place = put_period(out, place, head, u64::from(span.start), u64::from(span.end));
     }
     place
 }
@@ -70,86 +70,64 @@ fn put_table(
     out: &mut [u8],
     at: usize,
     head: &[u8],
-    starts: &[u32],
-    ends: &[u32],
+    spans: &[Span],
     first: usize,
     count: usize,
 ) -> usize
-    requires count_in_bounds { (first + count ≤ length starts.now) × (length ends.now ≡ length starts.now) }
-    requires good_periods { GoodPeriods (listed (table_at first count starts.now ends.now)) }
-    requires ends_in_bounds { at + length (joined (period_lines head.now (listed (table_at first count starts.now ends.now)))) ≤ length out.old }
-    ensures { Put out.old at (joined (period_lines head.now (listed (table_at first count starts.now ends.now)))) out.new result }
+    requires count_in_bounds { first + count ≤ length spans.now }
+    requires good_periods { GoodPeriods (listed (table_at first count (starts_of spans.now) (ends_of spans.now))) }
+    requires ends_in_bounds { at + length (joined (period_lines head.now (listed (table_at first count (starts_of spans.now) (ends_of spans.now))))) ≤ length out.old }
+    ensures { Put out.old at (joined (period_lines head.now (listed (table_at first count (starts_of spans.now) (ends_of spans.now))))) out.new result }
 {
-    put_periods(out, at, head, &starts[first..], &ends[first..], count)
+    put_periods(out, at, head, &spans[first..first + count])
 }
 
 // The lines of the periods, the types in their order: so many rows of each, one type behind the other.
-fn put_types(
-    out: &mut [u8],
-    at: usize,
-    starts: &[u32],
-    ends: &[u32],
-    busy: usize,
-    tentative: usize,
-    unavailable: usize,
-) -> usize
-    requires unavailable_in_bounds { (busy + tentative + unavailable ≤ length starts.now) × (length ends.now ≡ length starts.now) }
-    requires all_good { AllGood (packed busy tentative unavailable starts.now ends.now) }
-    requires ends_in_bounds { at + length (joined (busy_lines (packed busy tentative unavailable starts.now ends.now))) ≤ length out.old }
-    ensures { Put out.old at (joined (busy_lines (packed busy tentative unavailable starts.now ends.now))) out.new result }
+fn put_types(out: &mut [u8], at: usize, spans: &[Span], counts: Counts) -> usize
+    requires unavailable_in_bounds { counts.busy + counts.tentative + counts.unavailable ≤ length spans.now }
+    requires all_good { AllGood (packed counts.busy counts.tentative counts.unavailable (starts_of spans.now) (ends_of spans.now)) }
+    requires ends_in_bounds { at + length (joined (busy_lines (packed counts.busy counts.tentative counts.unavailable (starts_of spans.now) (ends_of spans.now)))) ≤ length out.old }
+    ensures { Put out.old at (joined (busy_lines (packed counts.busy counts.tentative counts.unavailable (starts_of spans.now) (ends_of spans.now)))) out.new result }
 {
-    let a = put_table(out, at, &heads::BUSY_HEAD, starts, ends, 0, busy);
-    let b = put_table(
-        out,
-        a,
-        &heads::TENTATIVE_HEAD,
-        starts,
-        ends,
+    let Counts {
         busy,
         tentative,
-    );
+        unavailable,
+    } = counts;
+    let a = put_table(out, at, &heads::BUSY_HEAD, spans, 0, busy);
+    let b = put_table(out, a, &heads::TENTATIVE_HEAD, spans, busy, tentative);
     put_table(
         out,
         b,
         &heads::UNAVAILABLE_HEAD,
-        starts,
-        ends,
+        spans,
         busy + tentative,
         unavailable,
     )
 }
 
 // The lines before the periods.
-fn put_opening(out: &mut [u8], start: u64, end: u64, stamp: u64) -> usize
-    requires { (160 ≤ length out.old) × (start ≤ last_second) × (end ≤ last_second) × (stamp ≤ last_second) }
-    ensures { Put out.old 0 (opening start end stamp) out.new result }
+fn put_opening(out: &mut [u8], o: Opening) -> usize
+    requires { (160 ≤ length out.old) × (o.start ≤ last_second) × (o.end ≤ last_second) × (o.stamp ≤ last_second) }
+    ensures { Put out.old 0 (opening o.start o.end o.stamp) out.new result }
 {
-    let a = put_timed(out, 0, &heads::STAMP_HEAD, stamp);
-    let b = put_timed(out, a, &heads::START_HEAD, start);
-    let c = put_timed(out, b, &heads::END_HEAD, end);
+    let a = put_timed(out, 0, &heads::STAMP_HEAD, o.stamp);
+    let b = put_timed(out, a, &heads::START_HEAD, o.start);
+    let c = put_timed(out, b, &heads::END_HEAD, o.end);
     writing::put_bytes(out, c, b"\r\n");
     c + 2
 }
 
 // The report of so many rows of each type, from the first byte of the output on.
-pub fn put_report(
-    out: &mut [u8],
-    start: u64,
-    end: u64,
-    stamp: u64,
-    starts: &[u32],
-    ends: &[u32],
-    busy: usize,
-    tentative: usize,
-    unavailable: usize,
-) -> usize
-    requires writable { Writable (report_of start end stamp (packed busy tentative unavailable starts.now ends.now)) }
-    requires unavailable_in_bounds { (busy + tentative + unavailable ≤ length starts.now) × (length ends.now ≡ length starts.now) }
-    requires ends_in_bounds { length (report_bytes (report_of start end stamp (packed busy tentative unavailable starts.now ends.now))) ≤ length out.old }
-    ensures { Put out.old 0 (report_bytes (report_of start end stamp (packed busy tentative unavailable starts.now ends.now))) out.new result }
+// Opening, spans and counts stay apart, and `Writable` a clause: docs/TRACE.md names this function, whose arguments may not change.
+pub fn put_report(out: &mut [u8], o: Opening, spans: &[Span], counts: Counts) -> usize
+    requires writable { Writable (report_of o.start o.end o.stamp (packed counts.busy counts.tentative counts.unavailable (starts_of spans.now) (ends_of spans.now))) }
+    requires unavailable_in_bounds { counts.busy + counts.tentative + counts.unavailable ≤ length spans.now }
+    requires ends_in_bounds { length (report_bytes (report_of o.start o.end o.stamp (packed counts.busy counts.tentative counts.unavailable (starts_of spans.now) (ends_of spans.now)))) ≤ length out.old }
+    ensures { Put out.old 0 (report_bytes (report_of o.start o.end o.stamp (packed counts.busy counts.tentative counts.unavailable (starts_of spans.now) (ends_of spans.now)))) out.new result }
 {
-    let a = put_opening(out, start, end, stamp);
-    let b = put_types(out, a, starts, ends, busy, tentative, unavailable);
+    let a = put_opening(out, o);
+    let b = put_types(out, a, spans, counts);
     writing::put_bytes(out, b, &heads::CLOSING);
     b + 30
 }

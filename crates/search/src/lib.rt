@@ -1,5 +1,6 @@
 // Text search by a collation, in time linear in the value and the text.
 // Short searches go place by place; after eight places that only began as the text does, a table of borders takes over (Knuth, Morris and Pratt).
+// Text and table are no struct: while the table is filled, what such a type would say holds of its first entries alone.
 #![tactic(auto)]
 
 ghost use Rattle.std.specs.Prelude.{◌≡◌, ◌+◌, ◌≤◌, ◌<◌, length};
@@ -12,29 +13,24 @@ use text::Collation;
 pub fn contains(value: &[u8], text: &[u8], collation: Collation) -> bool
     ensures { result ≡ contains collation value.now text.now }
 {
-    if text.len() == 0 {
+    if text.is_empty() {
         return true;
     }
+    if value.len() < text.len() {
+        return false;
+    }
     let first = text::fold(text[0], collation);
+    let places = value.len() - text.len() + 1;
     let mut tries: usize = 0;
-    let mut at = 0;
-    while text.len() <= value.len() - at {
-        let next = at + 1;
-        if text::fold(value[at], collation) != first {
-            at = next;
-        } else {
-            if text.len() <= 256 {
-                if tries == 8 {
-                    return contains_by_borders(&value[at..], text, collation);
-                }
+    for at in 0..places {
+        if text::fold(value[at], collation) == first {
+            if (tries == 8) & (text.len() <= 256) {
+                return contains_by_borders(&value[at..], text, collation);
             }
             if text::starts_at(value, text, at, collation) {
                 return true;
             }
-            if tries < 8 {
-                tries += 1;
-            }
-            at = next;
+            tries += 1;
         }
     }
     false
@@ -46,6 +42,7 @@ fn contains_by_borders(value: &[u8], text: &[u8], collation: Collation) -> bool
     requires text_len_bound { length text.now ≤ 256 }
     ensures { result ≡ contains collation value.now text.now }
 {
+    // Fixed memory: the engine's crates use no heap.
     let mut table = [0u8; 256];
     fill_borders(&mut table, text, collation);
     seek(value, text, &table, collation)
@@ -60,11 +57,9 @@ fn fill_borders(table: &mut [u8], text: &[u8], collation: Collation)
     ensures borders { Borders (byte_of collation text.now) (length text.now) table.new (length text.now) }
 {
     let mut k = 0;
-    let mut i = 1;
-    while i < text.len() {
+    for i in 1..text.len() {
         table[i] = k as u8;
         k = step(text, table, k, text::fold(text[i], collation), collation);
-        i += 1;
     }
 }
 
@@ -76,18 +71,17 @@ fn seek(value: &[u8], text: &[u8], table: &[u8], collation: Collation) -> bool
     ensures { result ≡ contains collation value.now text.now }
 {
     let mut k = 0;
-    let mut i = 0;
-    while i < value.len() {
-        k = step(text, table, k, text::fold(value[i], collation), collation);
+    for &b in value {
+        k = step(text, table, k, text::fold(b, collation), collation);
         if k == text.len() {
             return true;
         }
-        i += 1;
     }
     false
 }
 
 // How much stands after one byte more, where `from` bytes stood before it. The table and the search both go by it.
+// A `loop`, since it counts no index: it goes from border to shorter border.
 fn step(text: &[u8], table: &[u8], from: usize, b: u8, collation: Collation) -> usize
     requires from_in_bounds { from < length text.now }
     requires text_in_bounds { length text.now ≤ length table.now }
@@ -102,12 +96,6 @@ fn step(text: &[u8], table: &[u8], from: usize, b: u8, collation: Collation) -> 
         if k == 0 {
             return 0;
         }
-        k = wide(table[k]);
+        k = usize::from(table[k]);
     }
-}
-
-fn wide(b: u8) -> usize
-    ensures { result ≡ b }
-{
-    b as usize
 }

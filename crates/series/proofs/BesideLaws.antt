@@ -1,14 +1,16 @@
 -- Laws of an event beside others: a search through seconds, a RECURRENCE-ID against a master's row, and the rules by UID and RECURRENCE-ID.
+use Rattle.std.specs.Prelude.{None, Option, Some}
+use Rattle.std.proofs.Common.{nat_eq}
+use Rattle.std.specs.List.{list_any}
+use Rattle.std.proofs.lemmas.Grind.{common_steps}
 use Prim.Native.Nat.{ℕ, ◌+◌, ◌*◌, ◌-◌, ◌≤◌, ◌<◌}
 use mathlib.Core.Path.{◌≡◌, refl, sym, ap, subst, ◌∙◌}
 use mathlib.Core.Bool.{Bool, true, false, cond, not, ◌&&◌, ◌||◌, and-false}
 use mathlib.Core.List.{List, [], ◌∷◌}
 use native.Mathlib.Omega.{arith}
-use borrow.Author.Tests.{eq-eqb, ne_eqb}
 use lib.Dec.{eqb}
-use lib.ListN.{length, drop, get_or}
+use lib.ListN.{length, get_or}
 use Rattle.ascii.proofs.Bools.{clash, or_left, or_right, or_neither}
-use Rattle.ascii.proofs.Lists.{drop_next, drop_end}
 use Rattle.text.specs.Lines.{part, content_lines}
 use Rattle.line.specs.Reading.{value_of}
 use Rattle.index.specs.Index.{line_bytes}
@@ -21,7 +23,6 @@ use Rattle.nesting.specs.Components.{Component}
 use Rattle.structure.specs.Rows.{component_by}
 use Rattle.events.specs.EntryRows.{event_at}
 use Rattle.events.specs.declared.Event.{Event}
-use Rattle.events.specs.declared.EventRead.{EventRead}
 use Rattle.overrides.specs.Lists.{some, is_empty, two_or_more}
 use Rattle.overrides.specs.VEvents.{VEvent, is_master, is_override, has_uid, shares_uid, MasterFound, nowhere, found, master_of}
 use Rattle.overrides.specs.Instances.{names_instance}
@@ -31,9 +32,8 @@ use Rattle.calendar.specs.Meaning.{vevent_of}
 use Rattle.calendar.proofs.Meaning.{event_of_small}
 use Rattle.calendar.proofs.Identities.{identity_small}
 use Rattle.identities.specs.LinkRows.{link_at}
-use Rattle.identities.specs.declared.UidGiven.{UidGiven}
+use Rattle.values.specs.declared.given.Given.{Given}
 use Rattle.identities.specs.declared.RecurrenceId.{RecurrenceId}
-use Rattle.identities.specs.declared.RecurrenceGiven.{RecurrenceGiven}
 use Rattle.identities.specs.declared.rows.Link.{Link}
 use Rattle.series.specs.Identities.{UidTies, RecurrenceTies}
 use Rattle.series.specs.LinkRows.{LinkStands}
@@ -42,36 +42,15 @@ use Rattle.series.specs.Prints.{Printed, Unshared}
 use Rattle.series.proofs.MasterLaws.{one_second}
 use Rattle.series.proofs.PrintLaws.{print_new, compared}
 use Rattle.series.specs.Beside.{excluded_at, misfits, MasterKnown, Linked, Unbroken}
-use Rattle.series.specs.declared.masters.MasterRow.{MasterRow}
 use Rattle.series.proofs.UidLaws.{or_nothing}
 
 -- ---- a search through seconds
 
-pub record AmongLeft (l : List ℕ) (x i : ℕ) : Type 0 where
-  pub within : i ≤ length l
-  pub left : among x (drop i l) ≡ among x l
-
-pub among_start : (l : List ℕ) (x : ℕ) → AmongLeft l x 0
-among_start l x = record { within = omega arith; left = refl }
-
-module _ {l : List ℕ} {x i : ℕ} (g : AmongLeft l x i) (h : i < length l) {w : ℕ} (q : w ≡ get_or l i 0) where
-  here_or : among x (drop i l) ≡ (eqb x (get_or l i 0) || among x (drop (i + 1) l))
-  unfolding among
-  here_or = ap (among x) (drop_next l i h)
-
-  pub among_more : (w ≡ x → ⊥) → AmongLeft l x (i + 1)
-  among_more n =
-      record {
-        within = omega arith;
-        left = sym (here_or ∙ ap (λ (t : Bool). t || among x (drop (i + 1) l)) (ne_eqb x (get_or l i 0) (λ e. n (q ∙ sym e)))) ∙ g.left;
-      }
-
-  pub among_found : w ≡ x → true ≡ among x l
-  among_found e = sym (here_or ∙ ap (λ (t : Bool). t || among x (drop (i + 1) l)) (eq-eqb x (get_or l i 0) (sym e ∙ q))) ∙ g.left
-
-pub among_none : {l : List ℕ} {x i : ℕ} → AmongLeft l x i → length l ≤ i → false ≡ among x l
+-- the library's test of some element
+pub among_any : (x : ℕ) (l : List ℕ) → list_any (λ (s : ℕ). nat_eq s x) l ≡ among x l
 unfolding among
-among_none {l} {x} {i} g h = sym (ap (among x) (drop_end l i h)) ∙ g.left
+among_any x [] = refl
+among_any x (s ∷ ss) = grind (arith, common_steps, among_any x ss)
 
 -- ---- against the row of a master
 
@@ -142,17 +121,17 @@ pub record MasterAt (c : Context) (s rows : List ℕ) (m : ℕ) (u : List ℕ) (
   pub is_event_holds : get_or rows (4 * k + 3) 0 ≡ 1
   pub master : master_of u (vevents_before c s rows m) ≡ found (vevent_of c (component_by s rows k))
 
-module _ {c : Context} {s rows : List ℕ} {m : ℕ} {u : List ℕ} {r : MasterRow} (g : MasterIs c s rows m u r) where
-  pub none_of : r ≡ MasterRow.None → master_of u (vevents_before c s rows m) ≡ nowhere
+module _ {c : Context} {s rows : List ℕ} {m : ℕ} {u : List ℕ} {r : Option ℕ} (g : MasterIs c s rows m u r) where
+  pub none_of : r ≡ None → master_of u (vevents_before c s rows m) ≡ nowhere
   none_of e = go (subst (MasterIs c s rows m u) e g)
     where
-      go : MasterIs c s rows m u MasterRow.None → master_of u (vevents_before c s rows m) ≡ nowhere
+      go : MasterIs c s rows m u None → master_of u (vevents_before c s rows m) ≡ nowhere
       go (is_none p) = p
 
-  pub at_of : {k : ℕ} → r ≡ MasterRow.At k → MasterAt c s rows m u k
+  pub at_of : {k : ℕ} → r ≡ Some k → MasterAt c s rows m u k
   at_of {k} e = go (subst (MasterIs c s rows m u) e g)
     where
-      go : MasterIs c s rows m u (MasterRow.At k) → MasterAt c s rows m u k
+      go : MasterIs c s rows m u (Some k) → MasterAt c s rows m u k
       go (is_at l i p) = record { there = l; is_event_holds = i; master = p }
 
 is_found : MasterFound → Bool
@@ -187,7 +166,7 @@ module _ {c : Context} {s rows entries links exceptions : List ℕ} {k : ℕ} (g
   unfolding misnames vevent_of excluded_at
   names_same h =
       ap (λ (xs : List ℕ). other_kind (event_at entries k) t.kind || not (names_instance (event_at entries k) t.second) || among t.second xs) g.excluded
-      ∙ sym (ap (λ (x : EventRead). misnames v x t.kind t.second) (g.event_is h))
+      ∙ sym (ap (λ (x : Option Event). misnames v x t.kind t.second) (g.event_is h))
 
   fits_same : misfits (link_at links k) (event_at entries k) (excluded_at links exceptions k) t ≡ (not (breaks_alone v) && misnames v v.event t.kind t.second)
   unfolding misfits
@@ -316,9 +295,9 @@ one_recurrence v h = go v.event (or_right (two_or_more v.uids) (event_breaks v v
     few [] b d e h = refl
     few (t ∷ ts) b d e h = inner true b (two_or_more (t ∷ ts)) d e refl h
 
-    go : (e : EventRead) → event_breaks v e ≡ false → two_or_more v.recurrence_ids ≡ false
-    go EventRead.Broken h = clash refl h
-    go (EventRead.Of e) h =
+    go : (e : Option Event) → event_breaks v e ≡ false → two_or_more v.recurrence_ids ≡ false
+    go None h = clash refl h
+    go (Some e) h =
         few v.recurrence_ids (is_empty v.uids) (not (is_empty v.exceptions)) (has_rule e.repeat)
         (or_right (some (λ t. other_kind e t.kind) v.exceptions) (is_override v && override_breaks v e) h)
 
@@ -335,40 +314,40 @@ module _ {c : Context} {s index rows entries links exceptions : List ℕ} {m k :
   keeps : breaks_alone (vevent_of c x) ≡ false
   keeps = sym here.broken_is ∙ h.alone
 
-  uid_by : {y : UidGiven} → l.uid ≡ y → UidTies s y (identity_of c x).uids
-  uid_by e = subst (λ (w : UidGiven). UidTies s w (identity_of c x).uids) (ap (λ (w : Link). w.uid) (sym q) ∙ e) here.ties.uid_ties
+  uid_by : {y : Given ℕ} → l.uid ≡ y → UidTies s y (identity_of c x).uids
+  uid_by e = subst (λ (w : Given ℕ). UidTies s w (identity_of c x).uids) (ap (λ (w : Link). w.uid) (sym q) ∙ e) here.ties.uid_ties
 
-  moved_by : {y : RecurrenceGiven} → l.recurrence ≡ y → RecurrenceTies y (identity_of c x).recurrence_ids
-  moved_by e = subst (λ (w : RecurrenceGiven). RecurrenceTies w (identity_of c x).recurrence_ids) (ap (λ (w : Link). w.recurrence) (sym q) ∙ e) here.ties.recurrence_ties
+  moved_by : {y : Given RecurrenceId} → l.recurrence ≡ y → RecurrenceTies y (identity_of c x).recurrence_ids
+  moved_by e = subst (λ (w : Given RecurrenceId). RecurrenceTies w (identity_of c x).recurrence_ids) (ap (λ (w : Link). w.recurrence) (sym q) ∙ e) here.ties.recurrence_ties
 
-  pub beside_none : l.uid ≡ UidGiven.None → false ≡ breaks_beside (vevents_before c s rows k) (vevents_before c s rows m) (vevent_of c x)
+  pub beside_none : l.uid ≡ Given.None → false ≡ breaks_beside (vevents_before c s rows k) (vevents_before c s rows m) (vevent_of c x)
   unfolding vevent_of
   beside_none e = no_uid_keeps (vevents_before c s rows k) (vevents_before c s rows m) (vevent_of c x) (uid_by e)
 
-  pub beside_there : {n : ℕ} → l.uid ≡ UidGiven.One n → (1 ≤ n) × (n ≤ length (content_lines s))
+  pub beside_there : {n : ℕ} → l.uid ≡ Given.One n → (1 ≤ n) × (n ≤ length (content_lines s))
   beside_there e = let z = uid_by e in (z.0, z.1)
 
-  pub beside_uid : {n : ℕ} → l.uid ≡ UidGiven.One n → {w : List ℕ} → w ≡ value_of (line_bytes s (n - 1)) → (identity_of c x).uids ≡ w ∷ []
+  pub beside_uid : {n : ℕ} → l.uid ≡ Given.One n → {w : List ℕ} → w ≡ value_of (line_bytes s (n - 1)) → (identity_of c x).uids ≡ w ∷ []
   beside_uid e p = (uid_by e).3 ∙ ap (λ (y : List ℕ). y ∷ []) (sym p)
 
-  pub beside_several : l.uid ≡ UidGiven.Several → false ≡ breaks_beside (vevents_before c s rows k) (vevents_before c s rows m) (vevent_of c x)
+  pub beside_several : l.uid ≡ Given.Several → false ≡ breaks_beside (vevents_before c s rows k) (vevents_before c s rows m) (vevent_of c x)
   unfolding vevent_of
   beside_several e = clash (uid_by e) (one_uid (vevent_of c x) keeps)
 
-  pub second_small : {t : RecurrenceId} → l.recurrence ≡ RecurrenceGiven.One t → t.second ≤ last_second
+  pub second_small : {t : RecurrenceId} → l.recurrence ≡ Given.One t → t.second ≤ last_second
   second_small e = one_second (moved_by e) (identity_small c x).moved_small
 
-  pub by_several : l.recurrence ≡ RecurrenceGiven.Several → false ≡ breaks_beside (vevents_before c s rows k) (vevents_before c s rows m) (vevent_of c x)
+  pub by_several : l.recurrence ≡ Given.Several → false ≡ breaks_beside (vevents_before c s rows k) (vevents_before c s rows m) (vevent_of c x)
   unfolding vevent_of
   by_several e = clash (moved_by e) (one_recurrence (vevent_of c x) keeps)
 
   module _ (u : List ℕ) (p : (identity_of c x).uids ≡ u ∷ []) where
-    pub by_master : l.recurrence ≡ RecurrenceGiven.None → {r : Bool} → r ≡ some (is_master_of u) (vevents_before c s rows k)
+    pub by_master : l.recurrence ≡ Given.None → {r : Bool} → r ≡ some (is_master_of u) (vevents_before c s rows k)
         → r ≡ breaks_beside (vevents_before c s rows k) (vevents_before c s rows m) (vevent_of c x)
     unfolding vevent_of
     by_master e z = z ∙ master_breaks (vevents_before c s rows k) (vevents_before c s rows m) (vevent_of c x) u p (moved_by e)
 
-    module _ {t : RecurrenceId} (e : l.recurrence ≡ RecurrenceGiven.One t) {r : Bool} (z : r ≡ some (names u t.second) (vevents_before c s rows k)) where
+    module _ {t : RecurrenceId} (e : l.recurrence ≡ Given.One t) {r : Bool} (z : r ≡ some (names u t.second) (vevents_before c s rows k)) where
       either : (r || misplaced t.kind t.second (master_of u (vevents_before c s rows m))) ≡ breaks_beside (vevents_before c s rows k) (vevents_before c s rows m) (vevent_of c x)
       unfolding vevent_of
       either =
@@ -391,7 +370,7 @@ module _ {c : Context} {s index rows entries links exceptions : List ℕ} {m k :
   fewer_tied = record { few = omega (arith, h.there, g.tied.few); each = λ j i. g.tied.each j (omega (arith, h.there)) }
 
   -- a master whose fingerprint is new
-  pub beside_new : {n : ℕ} {prints marks : List ℕ} {r : Bool} → l.uid ≡ UidGiven.One n → Printed c s rows prints marks m → Unshared prints k l.recurrence r → r ≡ true
+  pub beside_new : {n : ℕ} {prints marks : List ℕ} {r : Bool} → l.uid ≡ Given.One n → Printed c s rows prints marks m → Unshared prints k l.recurrence r → r ≡ true
       → false ≡ breaks_beside (vevents_before c s rows k) (vevents_before c s rows m) (vevent_of c x)
   beside_new {n} e z w t =
       let u = value_of (line_bytes s (n - 1)) in

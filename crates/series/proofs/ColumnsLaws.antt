@@ -20,7 +20,7 @@ use Rattle.overrides.specs.VEvents.{VEvent, is_master, is_override, shares_uid}
 use Rattle.overrides.specs.Instances.{moved_from, removed_from as starts_removed}
 use Rattle.calendar.specs.Meaning.{vevent_of, removed_from, components_of}
 use Rattle.identities.specs.LinkRows.{link_at}
-use Rattle.identities.specs.declared.RecurrenceGiven.{RecurrenceGiven}
+use Rattle.values.specs.declared.given.Given.{Given}
 use Rattle.identities.specs.declared.rows.Link.{Link}
 use Rattle.series.specs.VEventRows.{vevents_at, vevents_from, vevents_before}
 use Rattle.series.specs.Beside.{excluded_at}
@@ -288,7 +288,7 @@ module _ (rows links : List ℕ) (k : ℕ) where
   pub nothing_other : {t : ℕ} → t ≡ get_or rows (4 * k + 3) 0 → (t ≡ 1 → ⊥) → NothingIf rows links k true
   nothing_other q n _ = record { no_recurrence = λ e. absurd (n (q ∙ e)); no_exception = λ e. absurd (n (q ∙ e)) }
 
-  pub nothing_own : {l : Link} → l ≡ link_at links k → l.recurrence ≡ RecurrenceGiven.None → NothingIf rows links k (eqb l.from l.to)
+  pub nothing_own : {l : Link} → l ≡ link_at links k → l.recurrence ≡ Given.None → NothingIf rows links k (eqb l.from l.to)
   nothing_own q e h =
       record {
         no_recurrence = λ _. sym (ap (λ (x : Link). x.recurrence) q) ∙ e;

@@ -1,4 +1,5 @@
 -- Laws of the VEVENTs row by row: what a row adds, what its link says of it, and how the rows that are left decide.
+use Rattle.std.specs.Prelude.{None, Some}
 use Prim.Native.Nat.{ℕ, suc, ◌+◌, ◌*◌, ◌-◌, ◌≤◌, ◌<◌}
 use mathlib.Core.Path.{◌≡◌, refl, sym, ap, subst, ◌∙◌}
 use mathlib.Core.Bool.{Bool, true, false, cond, ◌&&◌, ◌||◌, and-false, and-true}
@@ -19,11 +20,10 @@ use Rattle.calendar.specs.Identities.{identity_of}
 use Rattle.calendar.specs.Meaning.{vevent_of}
 use Rattle.identities.specs.LinkRows.{link_at}
 use Rattle.identities.specs.declared.RecurrenceId.{RecurrenceId}
-use Rattle.identities.specs.declared.RecurrenceGiven.{RecurrenceGiven}
+use Rattle.values.specs.declared.given.Given.{Given}
 use Rattle.identities.specs.declared.rows.Link.{Link}
 use Rattle.series.specs.Identities.{OneRecurrence, RecurrenceTies}
 use Rattle.series.specs.VEventRows.{vevents_at, vevents_from, vevents_before, is_master_of, names, RowTied, OneAt, MasterIs, is_none, is_at}
-use Rattle.series.specs.declared.masters.MasterRow.{MasterRow}
 use Rattle.series.proofs.UidLaws.{or_nothing, some_append}
 
 -- ---- one row
@@ -53,22 +53,22 @@ pub one_second : {r : RecurrenceId} {ts : List Time} {n : ℕ} → OneRecurrence
 one_second {n = n} o f = subst (λ (y : RecurrenceId). y.second ≤ n) o.kept (f o.time (subst (Memᴰ o.time) (sym o.alone) (Memᴰ.head refl)))
 
 module _ {c : Context} {s index rows links : List ℕ} {k : ℕ} (g : RowTied c s index rows links k) {l : Link} (q : l ≡ link_at links k) (e : get_or rows (4 * k + 3) 0 ≡ 1) where
-  moved_by : {y : RecurrenceGiven} → l.recurrence ≡ y → RecurrenceTies y (identity_of c (component_by s rows k)).recurrence_ids
+  moved_by : {y : Given RecurrenceId} → l.recurrence ≡ y → RecurrenceTies y (identity_of c (component_by s rows k)).recurrence_ids
   moved_by h =
-      subst (λ (x : RecurrenceGiven). RecurrenceTies x (identity_of c (component_by s rows k)).recurrence_ids) (ap (λ (x : Link). x.recurrence) (sym q) ∙ h) (g.recurrences e)
+      subst (λ (x : Given RecurrenceId). RecurrenceTies x (identity_of c (component_by s rows k)).recurrence_ids) (ap (λ (x : Link). x.recurrence) (sym q) ∙ h) (g.recurrences e)
 
-  pub times_one : {t : RecurrenceId} → l.recurrence ≡ RecurrenceGiven.One t → OneRecurrence t (identity_of c (component_by s rows k)).recurrence_ids
+  pub times_one : {t : RecurrenceId} → l.recurrence ≡ Given.One t → OneRecurrence t (identity_of c (component_by s rows k)).recurrence_ids
   times_one h = moved_by h
 
-  pub master_by : l.recurrence ≡ RecurrenceGiven.None → is_master (vevent_of c (component_by s rows k)) ≡ true
+  pub master_by : l.recurrence ≡ Given.None → is_master (vevent_of c (component_by s rows k)) ≡ true
   unfolding is_master vevent_of is_empty
   master_by h = ap is_empty (moved_by h)
 
-  pub override_one : {t : RecurrenceId} → l.recurrence ≡ RecurrenceGiven.One t → is_master (vevent_of c (component_by s rows k)) ≡ false
+  pub override_one : {t : RecurrenceId} → l.recurrence ≡ Given.One t → is_master (vevent_of c (component_by s rows k)) ≡ false
   unfolding is_master vevent_of is_empty
   override_one h = ap is_empty (times_one h).alone
 
-  pub override_several : l.recurrence ≡ RecurrenceGiven.Several → is_master (vevent_of c (component_by s rows k)) ≡ false
+  pub override_several : l.recurrence ≡ Given.Several → is_master (vevent_of c (component_by s rows k)) ≡ false
   unfolding is_master vevent_of two_or_more is_empty
   override_several h = go (identity_of c (component_by s rows k)).recurrence_ids (moved_by h)
     where
@@ -76,17 +76,17 @@ module _ {c : Context} {s index rows links : List ℕ} {k : ℕ} (g : RowTied c 
       go [] h = clash h refl
       go (t ∷ ts) h = refl
 
-  pub seconds_one : {t : RecurrenceId} → l.recurrence ≡ RecurrenceGiven.One t → seconds_of (vevent_of c (component_by s rows k)).recurrence_ids ≡ t.second ∷ []
+  pub seconds_one : {t : RecurrenceId} → l.recurrence ≡ Given.One t → seconds_of (vevent_of c (component_by s rows k)).recurrence_ids ≡ t.second ∷ []
   unfolding vevent_of seconds_of
   seconds_one h = ap seconds_of (times_one h).alone ∙ ap (λ (y : RecurrenceId). y.second ∷ []) (times_one h).kept
 
-  pub seconds_none : l.recurrence ≡ RecurrenceGiven.None → seconds_of (vevent_of c (component_by s rows k)).recurrence_ids ≡ []
+  pub seconds_none : l.recurrence ≡ Given.None → seconds_of (vevent_of c (component_by s rows k)).recurrence_ids ≡ []
   unfolding vevent_of seconds_of
   seconds_none h = ap seconds_of (moved_by h)
 
   module _ (u : List ℕ) where
     -- is it a master of the UID?
-    pub master_tells : {r : Bool} → l.recurrence ≡ RecurrenceGiven.None → r ≡ has_uid u (vevent_of c (component_by s rows k)) → r ≡ some (is_master_of u) (vevents_at c s rows k)
+    pub master_tells : {r : Bool} → l.recurrence ≡ Given.None → r ≡ has_uid u (vevent_of c (component_by s rows k)) → r ≡ some (is_master_of u) (vevents_at c s rows k)
     unfolding is_master_of
     master_tells h p =
         p ∙ sym (ap (λ (t : Bool). t && has_uid u (vevent_of c (component_by s rows k))) (master_by h)) ∙ test_is c s rows k (is_master_of u) e
@@ -95,10 +95,10 @@ module _ {c : Context} {s index rows links : List ℕ} {k : ℕ} (g : RowTied c 
     unfolding is_master_of
     no_master h = sym (ap (λ (t : Bool). t && has_uid u (vevent_of c (component_by s rows k))) h) ∙ test_is c s rows k (is_master_of u) e
 
-    pub one_tells : {t : RecurrenceId} → l.recurrence ≡ RecurrenceGiven.One t → false ≡ some (is_master_of u) (vevents_at c s rows k)
+    pub one_tells : {t : RecurrenceId} → l.recurrence ≡ Given.One t → false ≡ some (is_master_of u) (vevents_at c s rows k)
     one_tells h = no_master (override_one h)
 
-    pub several_tells : l.recurrence ≡ RecurrenceGiven.Several → false ≡ some (is_master_of u) (vevents_at c s rows k)
+    pub several_tells : l.recurrence ≡ Given.Several → false ≡ some (is_master_of u) (vevents_at c s rows k)
     several_tells h = no_master (override_several h)
 
     -- does it name the second?
@@ -107,11 +107,11 @@ module _ {c : Context} {s index rows links : List ℕ} {k : ℕ} (g : RowTied c 
     unfolding names
     named_as x ss h = sym (ap (λ (l : List ℕ). has_uid u (vevent_of c (component_by s rows k)) && among x l) h) ∙ test_is c s rows k (names u x) e
 
-    pub named_none : (x : ℕ) → l.recurrence ≡ RecurrenceGiven.None → false ≡ some (names u x) (vevents_at c s rows k)
+    pub named_none : (x : ℕ) → l.recurrence ≡ Given.None → false ≡ some (names u x) (vevents_at c s rows k)
     unfolding among
     named_none x h = sym (and-false (has_uid u (vevent_of c (component_by s rows k)))) ∙ named_as x [] (seconds_none h)
 
-    pub named_other : (x : ℕ) {t : RecurrenceId} → l.recurrence ≡ RecurrenceGiven.One t → (t.second ≡ x → ⊥) → false ≡ some (names u x) (vevents_at c s rows k)
+    pub named_other : (x : ℕ) {t : RecurrenceId} → l.recurrence ≡ Given.One t → (t.second ≡ x → ⊥) → false ≡ some (names u x) (vevents_at c s rows k)
     unfolding among
     named_other x {t} h n =
         let v = vevent_of c (component_by s rows k) in
@@ -119,7 +119,7 @@ module _ {c : Context} {s index rows links : List ℕ} {k : ℕ} (g : RowTied c 
         ∙ sym (ap (λ (b : Bool). has_uid u v && (b || false)) (ne_eqb x t.second (λ z. n (sym z))))
         ∙ named_as x (t.second ∷ []) (seconds_one h)
 
-    pub named_here : (x : ℕ) {t : RecurrenceId} {r : Bool} → l.recurrence ≡ RecurrenceGiven.One t → t.second ≡ x → r ≡ has_uid u (vevent_of c (component_by s rows k))
+    pub named_here : (x : ℕ) {t : RecurrenceId} {r : Bool} → l.recurrence ≡ Given.One t → t.second ≡ x → r ≡ has_uid u (vevent_of c (component_by s rows k))
         → r ≡ some (names u x) (vevents_at c s rows k)
     unfolding among
     named_here x {t} h n p =
@@ -129,7 +129,7 @@ module _ {c : Context} {s index rows links : List ℕ} {k : ℕ} (g : RowTied c 
         ∙ sym (ap (λ (b : Bool). has_uid u v && (b || false)) (eq-eqb x t.second (sym n)))
         ∙ named_as x (t.second ∷ []) (seconds_one h)
 
-    pub named_several : (x : ℕ) → l.recurrence ≡ RecurrenceGiven.Several → OneAt rows links k → false ≡ some (names u x) (vevents_at c s rows k)
+    pub named_several : (x : ℕ) → l.recurrence ≡ Given.Several → OneAt rows links k → false ≡ some (names u x) (vevents_at c s rows k)
     named_several x h n = absurd (n.one_recurrence e (ap (λ (y : Link). y.recurrence) (sym q) ∙ h))
 
 -- ---- from row to row
@@ -185,7 +185,7 @@ module _ {c : Context} {s rows : List ℕ} {m : ℕ} {u : List ℕ} {k : ℕ} (g
               ∙ g.left;
         }
 
-    pub masters_found : r ≡ true → MasterIs c s rows m u (MasterRow.At k)
+    pub masters_found : r ≡ true → MasterIs c s rows m u (Some k)
     unfolding is_master_of master_of
     masters_found h =
         let z : Passed c s rows k (is_master_of u) = passed c s rows k (is_master_of u) p h in
@@ -196,7 +196,7 @@ module _ {c : Context} {s rows : List ℕ} {m : ℕ} {u : List ℕ} {k : ℕ} (g
         ∙ ap (master_of u) (from_next c s rows k m l ∙ ap (λ (vs : List VEvent). vs ++ rest) (row_is c s rows k z.is_event_holds))
         ∙ ap (λ (t : Bool). cond t (found v) (master_of u rest)) z.passes)
 
-  pub masters_none : m ≤ k → MasterIs c s rows m u MasterRow.None
+  pub masters_none : m ≤ k → MasterIs c s rows m u None
   unfolding master_of
   masters_none h = is_none (sym g.left ∙ ap (master_of u) (from_none c s rows k m h))
 

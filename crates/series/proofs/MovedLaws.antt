@@ -1,4 +1,5 @@
 -- Laws of the seconds that overrides name: what a row adds, and how those of the rows that are left are stored behind those before.
+use Rattle.std.specs.Prelude.{None, Option, Some}
 use Prim.Native.Nat.{ℕ, suc, ◌+◌, ◌*◌, ◌-◌, ◌≤◌, ◌<◌}
 use mathlib.Core.Path.{◌≡◌, refl, sym, ap, subst, ◌∙◌}
 use mathlib.Core.Bool.{Bool, true, false, cond}
@@ -15,11 +16,10 @@ use Rattle.calendar.specs.Meaning.{vevent_of}
 use Rattle.calendar.proofs.Identities.{identity_small}
 use Rattle.identities.specs.LinkRows.{link_at}
 use Rattle.identities.specs.declared.RecurrenceId.{RecurrenceId}
-use Rattle.identities.specs.declared.RecurrenceGiven.{RecurrenceGiven}
+use Rattle.values.specs.declared.given.Given.{Given}
 use Rattle.identities.specs.declared.rows.Link.{Link}
 use Rattle.series.specs.VEventRows.{vevents_at, vevents_from, vevents_before, RowTied, OneAt}
 use Rattle.series.specs.Moved.{moved_by, NamedIs, names_none, names_one, MovedStored}
-use Rattle.series.specs.declared.moved.NamedSecond.{NamedSecond}
 use Rattle.series.proofs.MasterLaws.{row_is, row_none, from_next, from_none, seconds_none, seconds_one, one_second, times_one}
 
 pub moved_append : (u : List ℕ) (vs ws : List VEvent) → moved_by u (vs ++ ws) ≡ moved_by u vs ++ moved_by u ws
@@ -32,7 +32,7 @@ moved_append u (v ∷ vs) ws =
 -- ---- one row
 
 module _ (c : Context) (s rows : List ℕ) (k : ℕ) (u : List ℕ) where
-  pub named_nothing : {t : ℕ} → t ≡ get_or rows (4 * k + 3) 0 → (t ≡ 1 → ⊥) → NamedIs c s rows k u NamedSecond.None
+  pub named_nothing : {t : ℕ} → t ≡ get_or rows (4 * k + 3) 0 → (t ≡ 1 → ⊥) → NamedIs c s rows k u None
   unfolding moved_by
   named_nothing q h = names_none (ap (moved_by u) (row_none c s rows k (λ e. h (q ∙ e))))
 
@@ -46,15 +46,15 @@ module _ (c : Context) (s rows : List ℕ) (k : ℕ) (u : List ℕ) where
       ∙ ap (λ (b : Bool). cond b (seconds_of (vevent_of c (component_by s rows k)).recurrence_ids) []) (sym q)
 
 module _ {c : Context} {s index rows links : List ℕ} {k : ℕ} (g : RowTied c s index rows links k) {l : Link} (q : l ≡ link_at links k) (e : get_or rows (4 * k + 3) 0 ≡ 1) (u : List ℕ) where
-  pub named_not : l.recurrence ≡ RecurrenceGiven.None → NamedIs c s rows k u NamedSecond.None
+  pub named_not : l.recurrence ≡ Given.None → NamedIs c s rows k u None
   named_not h = names_none (row_moved c s rows k u e refl ∙ ap (λ (l : List ℕ). cond (has_uid u (vevent_of c (component_by s rows k))) l []) (seconds_none g q e h) ∙ either (has_uid u (vevent_of c (component_by s rows k))))
     where
       either : (b : Bool) → ◌≡◌ {A = List ℕ} (cond b [] []) []
       either true = refl
       either false = refl
 
-  module _ {t : RecurrenceId} (h : l.recurrence ≡ RecurrenceGiven.One t) {r : Bool} (p : r ≡ has_uid u (vevent_of c (component_by s rows k))) where
-    pub named_one : r ≡ true → NamedIs c s rows k u (NamedSecond.At t.second)
+  module _ {t : RecurrenceId} (h : l.recurrence ≡ Given.One t) {r : Bool} (p : r ≡ has_uid u (vevent_of c (component_by s rows k))) where
+    pub named_one : r ≡ true → NamedIs c s rows k u (Some t.second)
     named_one y =
         names_one
         (one_second (times_one g q e h) (identity_small c (component_by s rows k)).moved_small)
@@ -62,10 +62,10 @@ module _ {c : Context} {s index rows links : List ℕ} {k : ℕ} (g : RowTied c 
         ∙ ap (λ (b : Bool). cond b (seconds_of (vevent_of c (component_by s rows k)).recurrence_ids) []) y
         ∙ seconds_one g q e h)
 
-    pub named_unlike : r ≡ false → NamedIs c s rows k u NamedSecond.None
+    pub named_unlike : r ≡ false → NamedIs c s rows k u None
     named_unlike y = names_none (row_moved c s rows k u e p ∙ ap (λ (b : Bool). cond b (seconds_of (vevent_of c (component_by s rows k)).recurrence_ids) []) y)
 
-  pub named_never : l.recurrence ≡ RecurrenceGiven.Several → OneAt rows links k → NamedIs c s rows k u NamedSecond.None
+  pub named_never : l.recurrence ≡ Given.Several → OneAt rows links k → NamedIs c s rows k u None
   named_never h n = absurd (n.one_recurrence e (ap (λ (y : Link). y.recurrence) (sym q) ∙ h))
 
 -- ---- from row to row
@@ -90,28 +90,28 @@ moving_start c s rows m u o n =
       few = omega arith;
     }
 
-named_none_by : {c : Context} {s rows : List ℕ} {k : ℕ} {u : List ℕ} {r : NamedSecond} → NamedIs c s rows k u r → r ≡ NamedSecond.None → moved_by u (vevents_at c s rows k) ≡ []
+named_none_by : {c : Context} {s rows : List ℕ} {k : ℕ} {u : List ℕ} {r : Option ℕ} → NamedIs c s rows k u r → r ≡ None → moved_by u (vevents_at c s rows k) ≡ []
 named_none_by {c} {s} {rows} {k} {u} g e = go (subst (NamedIs c s rows k u) e g)
   where
-    go : NamedIs c s rows k u NamedSecond.None → moved_by u (vevents_at c s rows k) ≡ []
+    go : NamedIs c s rows k u None → moved_by u (vevents_at c s rows k) ≡ []
     go (names_none p) = p
 
-pub named_one_by : {c : Context} {s rows : List ℕ} {k : ℕ} {u : List ℕ} {r : NamedSecond} {x : ℕ} → NamedIs c s rows k u r → r ≡ NamedSecond.At x
+pub named_one_by : {c : Context} {s rows : List ℕ} {k : ℕ} {u : List ℕ} {r : Option ℕ} {x : ℕ} → NamedIs c s rows k u r → r ≡ Some x
     → (x ≤ last_second) × (moved_by u (vevents_at c s rows k) ≡ x ∷ [])
 named_one_by {c} {s} {rows} {k} {u} {x = x} g e = go (subst (NamedIs c s rows k u) e g)
   where
-    go : NamedIs c s rows k u (NamedSecond.At x) → (x ≤ last_second) × (moved_by u (vevents_at c s rows k) ≡ x ∷ [])
+    go : NamedIs c s rows k u (Some x) → (x ≤ last_second) × (moved_by u (vevents_at c s rows k) ≡ x ∷ [])
     go (names_one l p) = (l, p)
 
 module _ {c : Context} {s rows : List ℕ} {m : ℕ} {u o₀ : List ℕ} {n₀ : ℕ} {o : List ℕ} {n k : ℕ} (g : Moving c s rows m u o₀ n₀ o n k) where
-  module _ (l : k < m) {r : NamedSecond} (p : NamedIs c s rows k u r) where
+  module _ (l : k < m) {r : Option ℕ} (p : NamedIs c s rows k u r) where
     rest_here : (xs : List ℕ) → moved_by u (vevents_at c s rows k) ≡ xs → moved_by u (vevents_from c s rows k (m - k)) ≡ xs ++ moved_by u (vevents_from c s rows (k + 1) (m - (k + 1)))
     rest_here xs h =
         ap (moved_by u) (from_next c s rows k m l)
         ∙ moved_append u (vevents_at c s rows k) (vevents_from c s rows (k + 1) (m - (k + 1)))
         ∙ ap (λ (y : List ℕ). y ++ moved_by u (vevents_from c s rows (k + 1) (m - (k + 1)))) h
 
-    pub moving_past : r ≡ NamedSecond.None → Moving c s rows m u o₀ n₀ o n (k + 1)
+    pub moving_past : r ≡ None → Moving c s rows m u o₀ n₀ o n (k + 1)
     moving_past e =
         let here = rest_here [] (named_none_by p e) in
         record {
@@ -122,7 +122,7 @@ module _ {c : Context} {s rows : List ℕ} {m : ℕ} {u o₀ : List ℕ} {n₀ :
           few = omega (arith, g.few);
         }
 
-    pub moving_more : {x : ℕ} → r ≡ NamedSecond.At x → Moving c s rows m u o₀ n₀ (set o n x) (n + 1) (k + 1)
+    pub moving_more : {x : ℕ} → r ≡ Some x → Moving c s rows m u o₀ n₀ (set o n x) (n + 1) (k + 1)
     moving_more {x} e =
         let rest = moved_by u (vevents_from c s rows (k + 1) (m - (k + 1))) in
         let here = rest_here (x ∷ []) (named_one_by p e).1 in

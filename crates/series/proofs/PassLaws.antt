@@ -1,5 +1,6 @@
 -- Laws of the second pass: the rows of events are the VEVENTs of the calendar, lines rise from row to row,
 -- and what is left from a row on tells the first component that breaks a rule.
+use Rattle.std.specs.Prelude.{None, Option, Some}
 use Prim.Native.Nat.{ℕ, zero, suc, ◌+◌, ◌*◌, ◌-◌, ◌≤◌, ◌<◌}
 use mathlib.Core.Path.{◌≡◌, refl, sym, ap, subst, ◌∙◌}
 use mathlib.Core.Bool.{Bool, true, false, cond}
@@ -28,12 +29,11 @@ use Rattle.overrides.proofs.Rules.{all_keep_iff}
 use Rattle.calendar.specs.Identities.{identity_of}
 use Rattle.calendar.specs.Meaning.{scope_of, component_scope, vevent_of, vevents_as, vevents, broken_or, block_of, block_broken, first_fault, rule_fault, removed_from, components_of, file_lines}
 use Rattle.calendar.specs.Passes.{broken_alone, alone_fault, broken_beside}
-use Rattle.calendar.specs.declared.RuleCheck.{RuleCheck}
 use Rattle.calendar.proofs.Passes.{first_kept, first_alone, first_beside, good_alone, alone_good_iff, as_check, by_vevents_whole}
 use Rattle.calendar.proofs.VEvents.{removed_event}
 use Rattle.identities.specs.LinkRows.{link_at}
-use Rattle.identities.specs.declared.RecurrenceGiven.{RecurrenceGiven}
-use Rattle.identities.specs.declared.UidGiven.{UidGiven}
+use Rattle.values.specs.declared.given.Given.{Given}
+use Rattle.identities.specs.declared.RecurrenceId.{RecurrenceId}
 use Rattle.series.specs.Identities.{UidTies, RecurrenceTies, Ties}
 use Rattle.series.specs.LinkRows.{gathered_in, LinkRows}
 use Rattle.series.specs.VEventRows.{vevents_at, vevents_from, vevents_before, OneAt, OneEach}
@@ -112,11 +112,11 @@ one_at c s rows links k ties keeps =
     record {
       one_recurrence = λ e p.
           clash
-          (subst (λ (y : RecurrenceGiven). RecurrenceTies y (identity_of c (component_by s rows k)).recurrence_ids) p (ties e).recurrence_ties)
+          (subst (λ (y : Given RecurrenceId). RecurrenceTies y (identity_of c (component_by s rows k)).recurrence_ids) p (ties e).recurrence_ties)
           (one_recurrence (vevent_of c (component_by s rows k)) (keeps e));
       one_uid = λ e p.
           clash
-          (subst (λ (y : UidGiven). UidTies s y (identity_of c (component_by s rows k)).uids) p (ties e).uid_ties)
+          (subst (λ (y : Given ℕ). UidTies s y (identity_of c (component_by s rows k)).uids) p (ties e).uid_ties)
           (one_uid (vevent_of c (component_by s rows k)) (keeps e));
     }
 
@@ -259,11 +259,11 @@ rise nothing l n = absurd (omega arith)
 rise (with_property_holds q r) l n = rise r l n
 rise {m = m} (with_component q w a e r) l n = rw (w.begin, w.next) (omega (arith, rows_begin r (subst (λ (x : ℕ). x < m) w.next n), rows_lines a))
 
-broken_by : {t : Bool} {i : ℕ} (n : ℕ) (r : RuleCheck) → t ≡ true → broken_or t n r ≡ RuleCheck.Broken i → n ≡ i
+broken_by : {t : Bool} {i : ℕ} (n : ℕ) (r : Option ℕ) → t ≡ true → broken_or t n r ≡ Some i → n ≡ i
 unfolding broken_or
-broken_by {t} {i} n r e h = let z : RuleCheck.Broken n ≡ RuleCheck.Broken i = sym (ap (λ (b : Bool). broken_or b n r) e) ∙ h in cc
+broken_by {t} {i} n r e h = let z : Some n ≡ Some i = sym (ap (λ (b : Bool). broken_or b n r) e) ∙ h in cc
 
-broken_on : {t : Bool} {i : ℕ} (n : ℕ) (r : RuleCheck) → t ≡ false → broken_or t n r ≡ RuleCheck.Broken i → r ≡ RuleCheck.Broken i
+broken_on : {t : Bool} {i : ℕ} (n : ℕ) (r : Option ℕ) → t ≡ false → broken_or t n r ≡ Some i → r ≡ Some i
 unfolding broken_or
 broken_on {t} {i} n r e h = sym (ap (λ (b : Bool). broken_or b n r) e) ∙ h
 
@@ -277,15 +277,15 @@ module _ (c : Context) (s rows : List ℕ) where
       ∙ ap (λ (n : ℕ). broken_or (broken_alone c (component_scope (component_by s rows k)) (component_by s rows k)) n (alone_fault c (components_by s rows (get_or rows (4 * k + 2) 0) m)))
       (row_number c z.here.row)
 
-  none_alone : (k m i : ℕ) {A : Type 0} → m ≤ k → alone_fault c (components_by s rows k m) ≡ RuleCheck.Broken i → A
+  none_alone : (k m i : ℕ) {A : Type 0} → m ≤ k → alone_fault c (components_by s rows k m) ≡ Some i → A
   unfolding alone_fault
   none_alone k m i l h =
-      let w : RuleCheck.Good ≡ RuleCheck.Broken i = sym (ap (alone_fault c) (components_none s rows l)) ∙ h in
+      let w : None ≡ Some i = sym (ap (alone_fault c) (components_none s rows l)) ∙ h in
       let z : ◌≡◌ {A = ℕ} 0 1 = cc in
       absurd (omega arith)
 
   -- the first that is broken by itself begins at this row's line or behind it
-  alone_late : (n k m i : ℕ) → m - k ≤ n → BelowAt s rows k m → alone_fault c (components_by s rows k m) ≡ RuleCheck.Broken i → (k < m) × (get_or rows (4 * k) 0 ≤ i)
+  alone_late : (n k m i : ℕ) → m - k ≤ n → BelowAt s rows k m → alone_fault c (components_by s rows k m) ≡ Some i → (k < m) × (get_or rows (4 * k) 0 ≤ i)
   alone_late zero k m i f b h = none_alone k m i (omega arith) h
   alone_late (suc n) k m i f b h = go (ltb k m) refl (λ next d w. alone_late n next m i d w)
     where
@@ -293,7 +293,7 @@ module _ (c : Context) (s rows : List ℕ) where
       next = get_or rows (4 * k + 2) 0
 
       here : (l : k < m) (t : Bool) → broken_alone c (component_scope (component_by s rows k)) (component_by s rows k) ≡ t
-          → (m - next ≤ n → BelowAt s rows next m → alone_fault c (components_by s rows next m) ≡ RuleCheck.Broken i → (next < m) × (get_or rows (4 * next) 0 ≤ i))
+          → (m - next ≤ n → BelowAt s rows next m → alone_fault c (components_by s rows next m) ≡ Some i → (next < m) × (get_or rows (4 * next) 0 ≤ i))
           → (k < m) × (get_or rows (4 * k) 0 ≤ i)
       here l true q ih = (l, omega (arith, broken_by (get_or rows (4 * k) 0) (alone_fault c (components_by s rows next m)) q (sym (alone_next (below_next b l)) ∙ h)))
       here l false q ih =
@@ -301,7 +301,7 @@ module _ (c : Context) (s rows : List ℕ) where
           let y = ih (omega (arith, z.here.onward)) z.after (broken_on (get_or rows (4 * k) 0) (alone_fault c (components_by s rows next m)) q (sym (alone_next z) ∙ h)) in
           (l, omega (arith, y.1, rise b.components.items.items l y.0))
 
-      go : (t : Bool) → ltb k m ≡ t → ((j : ℕ) → m - j ≤ n → BelowAt s rows j m → alone_fault c (components_by s rows j m) ≡ RuleCheck.Broken i → (j < m) × (get_or rows (4 * j) 0 ≤ i))
+      go : (t : Bool) → ltb k m ≡ t → ((j : ℕ) → m - j ≤ n → BelowAt s rows j m → alone_fault c (components_by s rows j m) ≡ Some i → (j < m) × (get_or rows (4 * j) 0 ≤ i))
           → (k < m) × (get_or rows (4 * k) 0 ≤ i)
       go false q ih = none_alone k m i (ltb-false k m q) h
       go true q ih = here (ltb-true k m q) (broken_alone c (component_scope (component_by s rows k)) (component_by s rows k)) refl (ih next)
@@ -359,13 +359,13 @@ module _ {c : Context} {s index rows entries links exceptions : List ℕ} (x : C
 
 -- ---- where no rule is broken
 
-none_broken : (t : Bool) (n : ℕ) (r : RuleCheck) → broken_or t n r ≡ RuleCheck.Good → (t ≡ false) × (r ≡ RuleCheck.Good)
+none_broken : (t : Bool) (n : ℕ) (r : Option ℕ) → broken_or t n r ≡ None → (t ≡ false) × (r ≡ None)
 unfolding broken_or
 none_broken true n r h = let z : ◌≡◌ {A = ℕ} 0 1 = cc in absurd (omega arith)
 none_broken false n r h = (refl, h)
 
 -- the event of a row is not broken by itself
-event_keeps : (c : Context) {s rows : List ℕ} (n k m : ℕ) → m - k ≤ n → BelowAt s rows k m → alone_fault c (components_by s rows k m) ≡ RuleCheck.Good
+event_keeps : (c : Context) {s rows : List ℕ} (n k m : ℕ) → m - k ≤ n → BelowAt s rows k m → alone_fault c (components_by s rows k m) ≡ None
     → (p : ℕ) → k ≤ p → p < m → get_or rows (4 * p + 3) 0 ≡ 1 → breaks_alone (vevent_of c (component_by s rows p)) ≡ false
 event_keeps c zero k m f b h p a l e = absurd (omega arith)
 event_keeps c {s} {rows} (suc n) k m f b h p a l e =
@@ -384,16 +384,16 @@ event_keeps c {s} {rows} (suc n) k m f b h p a l e =
     go false true q v z w ih = let y : p ≡ k → ⊥ = eqb-false p k q in absurd (omega (arith, e, z.quiet p (omega arith) (ltb-true p next v)))
     go false false q v z w ih = ih (omega (arith, z.here.onward)) z.after (ltb-false p next v)
 
-block_keeps : (c : Context) (ks : List Component) → rule_fault c ks ≡ RuleCheck.Good → (k : Component) → Memᴰ k ks → component_scope k ≡ Scope.FreeBusy → block_broken (block_of c k) ≡ false
+block_keeps : (c : Context) (ks : List Component) → rule_fault c ks ≡ None → (k : Component) → Memᴰ k ks → component_scope k ≡ Scope.FreeBusy → block_broken (block_of c k) ≡ false
 unfolding broken_alone
 block_keeps c ks good k m e = sym (ap (λ (o : Scope). broken_alone c o k) e) ∙ (alone_good_iff c ks).0 (good_alone c ks good) k m
 
-check_good : (r : RuleLine) → as_check r ≡ RuleCheck.Good → r ≡ all_keep
+check_good : (r : RuleLine) → as_check r ≡ None → r ≡ all_keep
 check_good all_keep h = refl
 check_good (broken_at n) h = let z : ◌≡◌ {A = ℕ} 0 1 = cc in absurd (omega arith)
 
 module _ {c : Context} {s index rows entries links exceptions : List ℕ} (x : ContextGood c) (h : FileRows s index rows) (g : LinkRows c s rows entries links exceptions (get_or rows 2 0))
-    (good : rule_fault c (components_of s) ≡ RuleCheck.Good) where
+    (good : rule_fault c (components_of s) ≡ None) where
   keeps_there : (p : ℕ) → p < get_or rows 2 0 → get_or rows (4 * p + 3) 0 ≡ 1 → breaks_alone (vevent_of c (component_by s rows p)) ≡ false
   keeps_there p l e =
       event_keeps c (get_or rows 2 0) 1 (get_or rows 2 0) (omega arith) (file_below_at h) (sym (ap (alone_fault c) (components_file c h)) ∙ good_alone c (components_of s) good) p (some p e) l e
@@ -458,13 +458,13 @@ module _ {c : Context} {s index rows entries links exceptions : List ℕ} (x : C
 -- ---- from component to component
 
 -- no component before row k breaks a rule; what is left tells the first that does, by itself and beside others
-pub record Checking (c : Context) (s rows links : List ℕ) (m : ℕ) (alone : RuleCheck) (k : ℕ) : Type 0 where
+pub record Checking (c : Context) (s rows links : List ℕ) (m : ℕ) (alone : Option ℕ) (k : ℕ) : Type 0 where
   pub below : BelowAt s rows k m
   pub left : first_fault c (vevents_before c s rows k) (vevents_before c s rows m) (components_by s rows k m) ≡ rule_fault c (components_of s)
   pub alone_left : alone ≡ alone_fault c (components_by s rows k m)
   pub one_each : OneEach rows links k
 
-pub checking_start : (c : Context) (links : List ℕ) {s index rows : List ℕ} {m : ℕ} {alone : RuleCheck} → FileRows s index rows → m ≡ get_or rows 2 0 → alone ≡ alone_fault c (components_of s)
+pub checking_start : (c : Context) (links : List ℕ) {s index rows : List ℕ} {m : ℕ} {alone : Option ℕ} → FileRows s index rows → m ≡ get_or rows 2 0 → alone ≡ alone_fault c (components_of s)
     → Checking c s rows links m alone 1
 unfolding rule_fault
 checking_start c links {s} {index} {rows} h e a =
@@ -483,7 +483,7 @@ checking_start c links {s} {index} {rows} h e a =
     first zero l = record { one_recurrence = λ w p. omega (arith, w, file_kind h); one_uid = λ w p. omega (arith, w, file_kind h) }
     first (suc j) l = absurd (omega arith)
 
-module _ {c : Context} {s rows links : List ℕ} {m : ℕ} {alone : RuleCheck} {k : ℕ} (g : Checking c s rows links m alone k) where
+module _ {c : Context} {s rows links : List ℕ} {m : ℕ} {alone : Option ℕ} {k : ℕ} (g : Checking c s rows links m alone k) where
   abbrev x : Component
   x = component_by s rows k
 
@@ -501,7 +501,7 @@ module _ {c : Context} {s rows links : List ℕ} {m : ℕ} {alone : RuleCheck} {
         go : (t : Bool) → broken_alone c (component_scope x) x ≡ t → broken_alone c (component_scope x) x ≡ false
         go false e = e
         go true e =
-            let w : alone ≡ RuleCheck.Broken (get_or rows (4 * k) 0) =
+            let w : alone ≡ Some (get_or rows (4 * k) 0) =
             alone_here l ∙ ap (λ (b : Bool). broken_or b (get_or rows (4 * k) 0) (alone_fault c (components_by s rows (get_or rows (4 * k + 2) 0) m))) e
             in
             absurd (omega (arith, n, p, q, ap stop_line w))
@@ -519,26 +519,26 @@ module _ {c : Context} {s rows links : List ℕ} {m : ℕ} {alone : RuleCheck} {
         rest : List Component
         rest = components_by s rows next m
 
-        go : (a : RuleCheck) (t : Bool) → alone ≡ a → broken_alone c (component_scope x) x ≡ t → alone ≡ rule_fault c (components_of s)
-        go RuleCheck.Good t e f =
+        go : (a : Option ℕ) (t : Bool) → alone ≡ a → broken_alone c (component_scope x) x ≡ t → alone ≡ rule_fault c (components_of s)
+        go None t e f =
             let r = (next_here l).here.row in
             absurd (omega (arith, n, p, q, ap stop_line e, items_rise r.inner, r.inner.inside))
-        go (RuleCheck.Broken i) true e f =
+        go (Some i) true e f =
             alone_here l
             ∙ ap (λ (b : Bool). broken_or b (get_or rows (4 * k) 0) (alone_fault c rest)) f
-            ∙ ap RuleCheck.Broken (sym (row_number c (next_here l).here.row))
+            ∙ ap Some (sym (row_number c (next_here l).here.row))
             ∙ sym (first_alone c (vevents_before c s rows k) (vevents_before c s rows m) x rest f)
             ∙ sym (ap (first_fault c (vevents_before c s rows k) (vevents_before c s rows m)) (next_here l).here.list)
             ∙ g.left
-        go (RuleCheck.Broken i) false e f =
-            let w : alone_fault c rest ≡ RuleCheck.Broken i = broken_on (get_or rows (4 * k) 0) (alone_fault c rest) f (sym (alone_here l) ∙ e) in
+        go (Some i) false e f =
+            let w : alone_fault c rest ≡ Some i = broken_on (get_or rows (4 * k) 0) (alone_fault c rest) f (sym (alone_here l) ∙ e) in
             let y = alone_late c s rows m next m i (omega arith) (next_here l).after w in
             absurd (omega (arith, n, p, q, ap stop_line e, y.1, rise g.below.components.items.items l y.0))
 
     module _ {r : Bool} (z : r ≡ broken_beside c (vevents_before c s rows k) (vevents_before c s rows m) (component_scope x) x) where
-      pub checking_broken : r ≡ true → RuleCheck.Broken line ≡ rule_fault c (components_of s)
+      pub checking_broken : r ≡ true → Some line ≡ rule_fault c (components_of s)
       checking_broken y =
-          ap RuleCheck.Broken (p ∙ sym (row_number c (next_here l).here.row))
+          ap Some (p ∙ sym (row_number c (next_here l).here.row))
           ∙ sym (first_beside c (vevents_before c s rows k) (vevents_before c s rows m) x (components_by s rows (get_or rows (4 * k + 2) 0) m) (sym z ∙ y))
           ∙ sym (ap (first_fault c (vevents_before c s rows k) (vevents_before c s rows m)) (next_here l).here.list)
           ∙ g.left

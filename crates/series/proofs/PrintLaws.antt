@@ -23,8 +23,8 @@ use Rattle.overrides.proofs.VEvents.{uid_iff}
 use Rattle.calendar.specs.Identities.{identity_of}
 use Rattle.calendar.specs.Meaning.{vevent_of}
 use Rattle.identities.specs.LinkRows.{link_at}
-use Rattle.identities.specs.declared.UidGiven.{UidGiven}
-use Rattle.identities.specs.declared.RecurrenceGiven.{RecurrenceGiven}
+use Rattle.values.specs.declared.given.Given.{Given}
+use Rattle.identities.specs.declared.RecurrenceId.{RecurrenceId}
 use Rattle.identities.specs.declared.rows.Link.{Link}
 use Rattle.series.specs.Identities.{UidTies}
 use Rattle.series.specs.VEventRows.{vevents_at, vevents_from, vevents_before, is_master_of, RowTied, Tied, OneEach}
@@ -49,21 +49,21 @@ module _ {c : Context} {s index rows links : List ℕ} {k : ℕ} (g : RowTied c 
   print_other q n = record { print = λ e. absurd (n (q ∙ e)) }
 
   module _ {l : Link} (q : l ≡ link_at links k) {t : ℕ} (p : t ≡ get_or rows (4 * k + 3) 0) (i : t ≡ 1) where
-    ties : {y : UidGiven} → l.uid ≡ y → UidTies s y (identity_of c (component_by s rows k)).uids
+    ties : {y : Given ℕ} → l.uid ≡ y → UidTies s y (identity_of c (component_by s rows k)).uids
     ties h =
-        subst (λ (w : UidGiven). UidTies s w (identity_of c (component_by s rows k)).uids) (ap (λ (x : Link). x.uid) (sym q) ∙ h) (g.uids (sym p ∙ i)).uid_ties
+        subst (λ (w : Given ℕ). UidTies s w (identity_of c (component_by s rows k)).uids) (ap (λ (x : Link). x.uid) (sym q) ∙ h) (g.uids (sym p ∙ i)).uid_ties
 
-    pub print_none : l.uid ≡ UidGiven.None → PrintIs c s rows k 0
+    pub print_none : l.uid ≡ Given.None → PrintIs c s rows k 0
     print_none h = record { print = λ e u w. absurd (omega (arith, ap length (sym (ties h) ∙ w))) }
 
-    pub print_several : l.uid ≡ UidGiven.Several → PrintIs c s rows k 0
+    pub print_several : l.uid ≡ Given.Several → PrintIs c s rows k 0
     unfolding two_or_more
     print_several h = record { print = λ e u w. clash (ties h) (ap two_or_more w) }
 
-    pub print_there : {n : ℕ} → l.uid ≡ UidGiven.One n → (1 ≤ n) × (n ≤ length (content_lines s))
+    pub print_there : {n : ℕ} → l.uid ≡ Given.One n → (1 ≤ n) × (n ≤ length (content_lines s))
     print_there h = let z = ties h in (z.0, z.1)
 
-    pub print_one : {n : ℕ} {w : List ℕ} {r : ℕ} → l.uid ≡ UidGiven.One n → w ≡ value_of (line_bytes s (n - 1)) → r ≡ print_of w → PrintIs c s rows k r
+    pub print_one : {n : ℕ} {w : List ℕ} {r : ℕ} → l.uid ≡ Given.One n → w ≡ value_of (line_bytes s (n - 1)) → r ≡ print_of w → PrintIs c s rows k r
     print_one h v z = record { print = λ e u w. z ∙ ap print_of (v ∙ first (sym (ties h).3 ∙ w)) }
       where
         first : {x y : List ℕ} → x ∷ [] ≡ y ∷ [] → x ≡ y
@@ -198,19 +198,19 @@ module _ {c : Context} {s index rows links prints marks : List ℕ} {k : ℕ} {u
       here : get_or prints (64 + k) 0 ≡ print_of u
       here = (h.printed.each k (omega arith)).print h.is_event_holds u h.uid
 
-      known : (y : UidGiven) → (link_at links j).uid ≡ y → UidTies s y us
-      known y q = subst (λ (w : UidGiven). UidTies s w us) q ((g.each j l).uids e).uid_ties
+      known : (y : Given ℕ) → (link_at links j).uid ≡ y → UidTies s y us
+      known y q = subst (λ (w : Given ℕ). UidTies s w us) q ((g.each j l).uids e).uid_ties
 
       only : {w : List ℕ} → Memᴰ u (w ∷ []) → u ≡ w
       only (Memᴰ.head p) = p
       only (Memᴰ.tail m) = absurd (Memᴰ.not-nil m)
 
-      go : (y : UidGiven) → (link_at links j).uid ≡ y → get_or prints (64 + j) 0 ≡ get_or prints (64 + k) 0
-      go UidGiven.None q = absurd (Memᴰ.not-nil (subst (Memᴰ u) (known UidGiven.None q) i))
-      go (UidGiven.One n) q =
-          let z : us ≡ value_of (line_bytes s (n - 1)) ∷ [] = (known (UidGiven.One n) q).3 in
+      go : (y : Given ℕ) → (link_at links j).uid ≡ y → get_or prints (64 + j) 0 ≡ get_or prints (64 + k) 0
+      go Given.None q = absurd (Memᴰ.not-nil (subst (Memᴰ u) (known Given.None q) i))
+      go (Given.One n) q =
+          let z : us ≡ value_of (line_bytes s (n - 1)) ∷ [] = (known (Given.One n) q).3 in
           (h.printed.each j (omega arith)).print e (value_of (line_bytes s (n - 1))) z ∙ ap print_of (sym (only (subst (Memᴰ u) z i))) ∙ sym here
-      go UidGiven.Several q = absurd ((o j l).one_uid e q)
+      go Given.Several q = absurd ((o j l).one_uid e q)
 
   pub print_new : ((j : ℕ) → j < k → get_or prints (64 + j) 0 ≡ get_or prints (64 + k) 0 → ⊥) → false ≡ some (is_master_of u) (vevents_before c s rows k)
   unfolding vevents_before is_master_of vevent_of
@@ -234,11 +234,11 @@ pub markable : {c : Context} {s rows prints marks : List ℕ} {m k : ℕ} → Pr
 markable g f l = record { few = omega arith; room = g.room; mark_room = g.mark_room; new = g.new _ l }
 
 -- what a search of the column tells of a row
-pub unshared_new : {prints : List ℕ} {k x : ℕ} {y : RecurrenceGiven} {r : Bool} → y ≡ RecurrenceGiven.None → x ≡ get_or prints (64 + k) 0 → NewAmong prints k x r → Unshared prints k y r
+pub unshared_new : {prints : List ℕ} {k x : ℕ} {y : Given RecurrenceId} {r : Bool} → y ≡ Given.None → x ≡ get_or prints (64 + k) 0 → NewAmong prints k x r → Unshared prints k y r
 unshared_new e q w = record { is_master_holds = λ _. e; is_new = λ t j l z. w.yes t j l (z ∙ sym q) }
 
-pub unshared_no : (prints : List ℕ) (k : ℕ) (y : RecurrenceGiven) → Unshared prints k y false
+pub unshared_no : (prints : List ℕ) (k : ℕ) (y : Given RecurrenceId) → Unshared prints k y false
 unshared_no prints k y = record { is_master_holds = λ t. clash t refl; is_new = λ t. clash t refl }
 
-pub unshared_marked : {prints marks : List ℕ} {k : ℕ} {y : RecurrenceGiven} → Markable prints marks k → y ≡ RecurrenceGiven.None → get_or marks k 0 ≡ 0 → Unshared prints k y true
+pub unshared_marked : {prints marks : List ℕ} {k : ℕ} {y : Given RecurrenceId} → Markable prints marks k → y ≡ Given.None → get_or marks k 0 ≡ 0 → Unshared prints k y true
 unshared_marked g e z = record { is_master_holds = λ _. e; is_new = λ _. g.new z }

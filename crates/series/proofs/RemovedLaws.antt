@@ -1,14 +1,14 @@
 -- Laws of what is taken away from an event: seconds copied, what overrides name by its UID, and both together.
-use Prim.Native.Nat.{ℕ, ◌+◌, ◌-◌, ◌≤◌, ◌<◌}
+use Prim.Native.Nat.{ℕ, ◌+◌, ◌-◌, ◌≤◌}
 use mathlib.Core.Path.{◌≡◌, refl, sym, ap, subst, ◌∙◌}
 use mathlib.Core.Bool.{Bool, true, false, cond, not, ◌&&◌}
 use mathlib.Core.List.{List, [], ◌∷◌, ◌++◌, append-nil}
 use native.Mathlib.Omega.{arith}
-use lib.ListN.{length, take, drop, get_or, set, length-set, length-append, length-take, length-drop}
+use lib.ListN.{length, take, drop, length-append, length-take, length-drop}
 use lib.Seq.{sets, length-sets, sets-eq, length-take-le, length_front, take_at}
 use Rattle.seconds.specs.Seconds.{among, Ordered, Sorted}
 use Rattle.ascii.proofs.Bools.{clash}
-use Rattle.time.proofs.Stores.{sets_start, sets_next, sets_end, sets_append}
+use Rattle.time.proofs.Stores.{sets_append}
 use Rattle.text.specs.Lines.{part, content_lines}
 use Rattle.line.specs.Reading.{value_of}
 use Rattle.values.specs.TimeLists.{seconds_of}
@@ -22,9 +22,8 @@ use Rattle.overrides.specs.Instances.{moved_from, removed_from}
 use Rattle.calendar.specs.Identities.{identity_of}
 use Rattle.calendar.specs.Meaning.{vevent_of}
 use Rattle.identities.specs.LinkRows.{link_at}
-use Rattle.identities.specs.declared.UidGiven.{UidGiven}
+use Rattle.values.specs.declared.given.Given.{Given}
 use Rattle.identities.specs.declared.RecurrenceId.{RecurrenceId}
-use Rattle.identities.specs.declared.RecurrenceGiven.{RecurrenceGiven}
 use Rattle.identities.specs.declared.rows.Link.{Link}
 use Rattle.series.specs.Identities.{UidTies}
 use Rattle.series.specs.VEventRows.{vevents_before}
@@ -35,26 +34,6 @@ use Rattle.series.proofs.UidLaws.{or_nothing}
 use Rattle.series.proofs.MasterLaws.{master_by, override_one, override_several}
 
 -- ---- seconds copied
-
-pub record Copying (l o₀ o : List ℕ) (i : ℕ) : Type 0 where
-  pub within : i ≤ length l
-  pub left : sets o (0 + i) (drop i l) ≡ sets o₀ 0 l
-  pub long : length o ≡ length o₀
-
-pub copying_start : (l o : List ℕ) → Copying l o o 0
-copying_start l o = record { within = omega arith; left = sets_start o l 0; long = refl }
-
-pub copying_more : {l o₀ o : List ℕ} {i : ℕ} → Copying l o₀ o i → i < length l → Copying l o₀ (set o i (get_or l i 0)) (i + 1)
-copying_more {l} {o₀} {o} {i} g h =
-    let z : 0 + i ≡ i = omega arith in
-    record {
-      within = omega arith;
-      left = ap (λ (j : ℕ). sets (set o j (get_or l i 0)) (0 + (i + 1)) (drop (i + 1) l)) (sym z) ∙ sets_next o l 0 i h ∙ g.left;
-      long = length-set o i (get_or l i 0) ∙ g.long;
-    }
-
-pub copying_end : {l o₀ o : List ℕ} {i : ℕ} → Copying l o₀ o i → length l ≤ i → o ≡ sets o₀ 0 l
-copying_end {l} {o₀} {o} {i} g h = sym (sets_end o l 0 i h) ∙ g.left
 
 -- ---- what overrides name
 
@@ -87,21 +66,21 @@ module _ (v : VEvent) where
 nothing_stored : {xs : List ℕ} (o : List ℕ) (n : ℕ) → n ≤ length o → xs ≡ [] → SecondsStored xs o n o n
 nothing_stored o n l e = rw e (record { stored = refl; counted = omega arith; within = l })
 
-module _ {c : Context} {s index rows links exceptions : List ℕ} {k m : ℕ} (g : Takeable c s index rows links exceptions k m) {y : UidGiven} (q : y ≡ (link_at links k).uid) where
-  uid_by : {z : UidGiven} → y ≡ z → UidTies s z (identity_of c (component_by s rows k)).uids
-  uid_by e = subst (λ (w : UidGiven). UidTies s w (identity_of c (component_by s rows k)).uids) (sym q ∙ e) ((g.tied.each k g.there).uids g.is_event_holds).uid_ties
+module _ {c : Context} {s index rows links exceptions : List ℕ} {k m : ℕ} (g : Takeable c s index rows links exceptions k m) {y : Given ℕ} (q : y ≡ (link_at links k).uid) where
+  uid_by : {z : Given ℕ} → y ≡ z → UidTies s z (identity_of c (component_by s rows k)).uids
+  uid_by e = subst (λ (w : Given ℕ). UidTies s w (identity_of c (component_by s rows k)).uids) (sym q ∙ e) ((g.tied.each k g.there).uids g.is_event_holds).uid_ties
 
-  pub stored_none : (o : List ℕ) (n : ℕ) → n + m ≤ length o → y ≡ UidGiven.None → SecondsStored (moved_at c s rows k m) o n o n
+  pub stored_none : (o : List ℕ) (n : ℕ) → n + m ≤ length o → y ≡ Given.None → SecondsStored (moved_at c s rows k m) o n o n
   unfolding moved_at vevent_of
   stored_none o n l e = nothing_stored o n (omega arith) (moved_none (vevent_of c (component_by s rows k)) (uid_by e) (vevents_before c s rows m))
 
-  pub stored_several : (o : List ℕ) (n : ℕ) → y ≡ UidGiven.Several → SecondsStored (moved_at c s rows k m) o n o n
+  pub stored_several : (o : List ℕ) (n : ℕ) → y ≡ Given.Several → SecondsStored (moved_at c s rows k m) o n o n
   stored_several o n e = clash (uid_by e) g.one_uid
 
-  pub stored_there : {i : ℕ} → y ≡ UidGiven.One i → (1 ≤ i) × (i ≤ length (content_lines s))
+  pub stored_there : {i : ℕ} → y ≡ Given.One i → (1 ≤ i) × (i ≤ length (content_lines s))
   stored_there e = let z = uid_by e in (z.0, z.1)
 
-  pub stored_one : {i : ℕ} → y ≡ UidGiven.One i → {u o o' : List ℕ} {n r : ℕ} → n + m ≤ length o → u ≡ value_of (line_bytes s (i - 1)) → MovedStored c s rows m u o n o' r
+  pub stored_one : {i : ℕ} → y ≡ Given.One i → {u o o' : List ℕ} {n r : ℕ} → n + m ≤ length o → u ≡ value_of (line_bytes s (i - 1)) → MovedStored c s rows m u o n o' r
       → SecondsStored (moved_at c s rows k m) o n o' r
   unfolding moved_at vevent_of
   stored_one e {u} {o} {o'} {n} {r} l p d =
@@ -127,16 +106,16 @@ module _ {c : Context} {s index rows links exceptions : List ℕ} {k m : ℕ} (g
   unfolding removed_at removed_from moved_at vevent_of
   removed_of h = ap (λ (b : Bool). cond b (seconds_of (identity_of c (component_by s rows k)).exceptions ++ moved_from (vevent_of c (component_by s rows k)) (vevents_before c s rows m)) []) h
 
-  pub removed_override : {t : RecurrenceId} (o : List ℕ) → l.recurrence ≡ RecurrenceGiven.One t → SecondsStored (removed_at c s rows k m) o 0 o 0
+  pub removed_override : {t : RecurrenceId} (o : List ℕ) → l.recurrence ≡ Given.One t → SecondsStored (removed_at c s rows k m) o 0 o 0
   removed_override o e = nothing_stored o 0 (omega arith) (removed_of (override_one (g.tied.each k g.there) q g.is_event_holds e))
 
-  pub removed_several : (o : List ℕ) → l.recurrence ≡ RecurrenceGiven.Several → SecondsStored (removed_at c s rows k m) o 0 o 0
+  pub removed_several : (o : List ℕ) → l.recurrence ≡ Given.Several → SecondsStored (removed_at c s rows k m) o 0 o 0
   removed_several o e = nothing_stored o 0 (omega arith) (removed_of (override_several (g.tied.each k g.there) q g.is_event_holds e))
 
   pub part_long : length (part exceptions l.from l.to) ≡ l.to - l.from
   part_long = simp (length-take, length-drop) (omega (arith, part_there))
 
-  pub removed_master : {o o' o'' : List ℕ} {r : ℕ} → l.recurrence ≡ RecurrenceGiven.None → o' ≡ sets o 0 (part exceptions l.from l.to)
+  pub removed_master : {o o' o'' : List ℕ} {r : ℕ} → l.recurrence ≡ Given.None → o' ≡ sets o 0 (part exceptions l.from l.to)
       → SecondsStored (moved_at c s rows k m) o' (l.to - l.from) o'' r → SecondsStored (removed_at c s rows k m) o 0 o'' r
   unfolding excluded_at
   removed_master {o} {o'} {o''} {r} e p d =

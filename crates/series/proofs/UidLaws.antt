@@ -1,15 +1,12 @@
--- Laws of UIDs: bytes compared one by one, a line by what it says, the lines of an event one after the other, and its link.
-use Prim.Native.Nat.{ℕ, ◌+◌, ◌*◌, ◌-◌, ◌≤◌, ◌<◌, suc}
+-- Laws of UIDs: a line by what it says, the lines of an event one after the other, and its link.
+use Prim.Native.Nat.{ℕ, ◌+◌, ◌*◌, ◌-◌, ◌≤◌}
 use mathlib.Core.Path.{◌≡◌, refl, sym, ap, subst, ◌∙◌}
-use mathlib.Core.Bool.{Bool, true, false, ◌||◌, and-false}
+use mathlib.Core.Bool.{Bool, true, false, ◌||◌}
 use mathlib.Core.List.{List, [], ◌∷◌, ◌++◌}
 use native.Mathlib.Omega.{arith}
-use lib.Dec.{eqb}
-use lib.ListN.{length, drop, get_or}
-use borrow.Author.Tests.{eq-eqb, ne_eqb}
+use lib.ListN.{length, get_or}
 use Rattle.ascii.specs.Names.{same_bytes}
 use Rattle.ascii.proofs.Bools.{clash}
-use Rattle.ascii.proofs.Lists.{drop_next, drop_end}
 use Rattle.text.specs.Lines.{content_lines}
 use Rattle.line.specs.Grammar.{ContentLine}
 use Rattle.line.specs.Reading.{line_of, value_of}
@@ -29,46 +26,10 @@ use Rattle.overrides.specs.VEvents.{has_uid}
 use Rattle.calendar.specs.Identities.{uids_by, uids_in, identity_in, identity_of}
 use Rattle.calendar.specs.Meaning.{vevent_of}
 use Rattle.identities.specs.LinkRows.{link_at}
-use Rattle.identities.specs.declared.UidGiven.{UidGiven}
+use Rattle.values.specs.declared.given.Given.{Given}
 use Rattle.identities.specs.declared.rows.Link.{Link}
 use Rattle.series.specs.Identities.{UidTies}
 use Rattle.series.specs.Uids.{is_uid, line_has, lines_have, UidsKnown}
-
--- ---- bytes
-
--- other lengths, other bytes
-pub bytes_length : (s t : List ℕ) → (length s ≡ length t → ⊥) → same_bytes s t ≡ false
-bytes_length [] [] h = absurd (h refl)
-bytes_length [] (b ∷ t) h = refl
-bytes_length (a ∷ s) [] h = refl
-bytes_length (a ∷ s) (b ∷ t) h = rw (bytes_length s t (λ e. h (ap suc e))) (and-false (eqb a b))
-
--- the loop: equal so far, what is left decides
-pub record SameSoFar (a b : List ℕ) (i : ℕ) : Type 0 where
-  pub within : i ≤ length a
-  pub long : length a ≡ length b
-  pub left : same_bytes (drop i a) (drop i b) ≡ same_bytes a b
-
-pub same_start : {a b : List ℕ} → length a ≡ length b → SameSoFar a b 0
-same_start h = record { within = omega arith; long = h; left = refl }
-
-module _ {a b : List ℕ} {i : ℕ} (g : SameSoFar a b i) where
-  pub same_next : i < length a → get_or a i 0 ≡ get_or b i 0 → SameSoFar a b (i + 1)
-  same_next h e =
-      let k : i < length b = omega (arith, g.long) in
-      let z : same_bytes (drop (i + 1) a) (drop (i + 1) b) ≡ same_bytes (drop i a) (drop i b) = rw (drop_next a i h, drop_next b i k, eq-eqb (get_or a i 0) (get_or b i 0) e) in
-      record { within = omega arith; long = g.long; left = z ∙ g.left }
-
-  pub same_stop : i < length a → (get_or a i 0 ≡ get_or b i 0 → ⊥) → false ≡ same_bytes a b
-  same_stop h e =
-      let k : i < length b = omega (arith, g.long) in
-      let z : same_bytes (drop i a) (drop i b) ≡ false = rw (drop_next a i h, drop_next b i k, ne_eqb (get_or a i 0) (get_or b i 0) e) in
-      sym z ∙ g.left
-
-  pub same_end : length a ≤ i → true ≡ same_bytes a b
-  same_end h =
-      let z : same_bytes (drop i a) (drop i b) ≡ true = rw (drop_end a i h, drop_end b i (omega (arith, g.long))) in
-      sym z ∙ g.left
 
 -- ---- a line
 
@@ -179,20 +140,20 @@ module _ {c : Context} {s rows u : List ℕ} {xs : List Numbered} {i row j m : �
 
 -- ---- by its link
 
-module _ {c : Context} {s index rows links : List ℕ} {k : ℕ} (g : UidsKnown c s index rows links k) {l : Link} (q : l ≡ link_at links k) {y : UidGiven} (e : l.uid ≡ y) where
+module _ {c : Context} {s index rows links : List ℕ} {k : ℕ} (g : UidsKnown c s index rows links k) {l : Link} (q : l ≡ link_at links k) {y : Given ℕ} (e : l.uid ≡ y) where
   ties : UidTies s y (identity_of c (component_by s rows k)).uids
-  ties = subst (λ (x : UidGiven). UidTies s x (identity_of c (component_by s rows k)).uids) (ap (λ (x : Link). x.uid) (sym q) ∙ e) g.uid_ties
+  ties = subst (λ (x : Given ℕ). UidTies s x (identity_of c (component_by s rows k)).uids) (ap (λ (x : Link). x.uid) (sym q) ∙ e) g.uid_ties
 
 module _ {c : Context} {s index rows links : List ℕ} {k : ℕ} (g : UidsKnown c s index rows links k) {l : Link} (q : l ≡ link_at links k) where
-  pub one_there : {n : ℕ} → l.uid ≡ UidGiven.One n → (1 ≤ n) × (n ≤ length (content_lines s))
+  pub one_there : {n : ℕ} → l.uid ≡ Given.One n → (1 ≤ n) × (n ≤ length (content_lines s))
   one_there e = let z = ties g q e in (z.0, z.1)
 
 module _ {c : Context} {s index rows links : List ℕ} {k : ℕ} (g : UidsKnown c s index rows links k) {l : Link} (q : l ≡ link_at links k) (u : List ℕ) where
-  pub none_has : l.uid ≡ UidGiven.None → false ≡ has_uid u (vevent_of c (component_by s rows k))
+  pub none_has : l.uid ≡ Given.None → false ≡ has_uid u (vevent_of c (component_by s rows k))
   unfolding has_uid vevent_of some
   none_has e = sym (ap (some (same_bytes u)) (ties g q e))
 
-  pub one_has : {n : ℕ} {w : List ℕ} {r : Bool} → l.uid ≡ UidGiven.One n → w ≡ value_of (line_bytes s (n - 1)) → r ≡ same_bytes u w → r ≡ has_uid u (vevent_of c (component_by s rows k))
+  pub one_has : {n : ℕ} {w : List ℕ} {r : Bool} → l.uid ≡ Given.One n → w ≡ value_of (line_bytes s (n - 1)) → r ≡ same_bytes u w → r ≡ has_uid u (vevent_of c (component_by s rows k))
   unfolding has_uid vevent_of some
   one_has {n} e p h = h ∙ ap (same_bytes u) p ∙ or_nothing (same_bytes u (value_of (line_bytes s (n - 1)))) ∙ sym (ap (some (same_bytes u)) (ties g q e).3)
 

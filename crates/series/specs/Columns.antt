@@ -9,7 +9,7 @@ use Rattle.overrides.specs.VEvents.{VEvent, is_master}
 use Rattle.overrides.specs.Instances.{moved_from}
 use Rattle.calendar.specs.Meaning.{removed_from, components_of}
 use Rattle.identities.specs.LinkRows.{link_at}
-use Rattle.identities.specs.declared.RecurrenceGiven.{RecurrenceGiven}
+use Rattle.values.specs.declared.given.Given.{Given}
 use Rattle.series.specs.VEventRows.{vevents_before}
 use Rattle.series.specs.Removed.{Takeable, SecondsOrdered, removed_at}
 
@@ -64,7 +64,7 @@ pub record RowFilled (c : Context) (s rows : List ℕ) (k m : ℕ) (o : List ℕ
 
 -- row k, if it is an event's, has neither RECURRENCE-ID nor exception
 pub record NothingAt (rows links : List ℕ) (k : ℕ) : Type 0 where
-  pub no_recurrence : get_or rows (4 * k + 3) 0 ≡ 1 → (link_at links k).recurrence ≡ RecurrenceGiven.None
+  pub no_recurrence : get_or rows (4 * k + 3) 0 ≡ 1 → (link_at links k).recurrence ≡ Given.None
   pub no_exception : get_or rows (4 * k + 3) 0 ≡ 1 → (link_at links k).from ≡ (link_at links k).to
 
 -- r says so only where it is so

@@ -1,11 +1,10 @@
 -- What ties the events of a calendar to each other, as rows of numbers, row by row those of its components; and the column of excluded seconds.
-use Rattle.std.specs.Prelude.{ℕ, ◌+◌, ◌*◌, ◌≤◌, ◌<◌, ◌≡◌, Bool, false, List, length, get_or}
+use Rattle.std.specs.Prelude.{ℕ, ◌+◌, ◌*◌, ◌≤◌, ◌<◌, ◌≡◌, Bool, false, List, length, get_or, Some}
 use Rattle.text.specs.Lines.{part}
 use Rattle.values.specs.TimeLists.{seconds_of}
 use Rattle.values.specs.declared.times.Context.{Context}
 use Rattle.structure.specs.Rows.{component_by}
 use Rattle.events.specs.EntryRows.{event_at}
-use Rattle.events.specs.declared.EventRead.{EventRead}
 use Rattle.overrides.specs.Rules.{breaks_alone}
 use Rattle.identities.specs.LinkRows.{link_at}
 use Rattle.identities.specs.declared.IdentityRead.{IdentityRead}
@@ -29,7 +28,7 @@ pub record LinkStands (c : Context) (s rows entries links exceptions : List ℕ)
   pub inside : (link_at links k).to ≤ length exceptions
   pub excluded : part exceptions (link_at links k).from (link_at links k).to ≡ seconds_of (identity_of c (component_by s rows k)).exceptions
   pub broken_is : (link_at links k).broken ≡ breaks_alone (vevent_of c (component_by s rows k))
-  pub event_is : (link_at links k).broken ≡ false → event_of c (component_by s rows k) ≡ EventRead.Of (event_at entries k)
+  pub event_is : (link_at links k).broken ≡ false → event_of c (component_by s rows k) ≡ Some (event_at entries k)
 
 -- of the components of the first m rows, every event has its row, and the parts of their excluded seconds rise
 pub record LinkRows (c : Context) (s rows entries links exceptions : List ℕ) (m : ℕ) : Type 0 where

@@ -4,7 +4,8 @@ use Rattle.fingerprints.specs.Fingerprints.{fingerprint}
 use Rattle.values.specs.declared.times.Context.{Context}
 use Rattle.structure.specs.Rows.{component_by}
 use Rattle.calendar.specs.Identities.{identity_of}
-use Rattle.identities.specs.declared.RecurrenceGiven.{RecurrenceGiven}
+use Rattle.values.specs.declared.given.Given.{Given}
+use Rattle.identities.specs.declared.RecurrenceId.{RecurrenceId}
 
 -- that of a UID, by its first 1,024 bytes; no line has more
 unfoldable pub print_of : List ℕ → ℕ
@@ -29,8 +30,8 @@ pub record Compared (c : Context) (s rows prints marks : List ℕ) (k : ℕ) (u 
   pub uid : (identity_of c (component_by s rows k)).uids ≡ u ∷ []
 
 -- where r says so, row k has no RECURRENCE-ID, and its fingerprint stands at no row before it
-pub record Unshared (prints : List ℕ) (k : ℕ) (recurrence : RecurrenceGiven) (r : Bool) : Type 0 where
-  pub is_master_holds : r ≡ true → recurrence ≡ RecurrenceGiven.None
+pub record Unshared (prints : List ℕ) (k : ℕ) (recurrence : Given RecurrenceId) (r : Bool) : Type 0 where
+  pub is_master_holds : r ≡ true → recurrence ≡ Given.None
   pub is_new : r ≡ true → (j : ℕ) → j < k → get_or prints (64 + j) 0 ≡ get_or prints (64 + k) 0 → ⊥
 
 -- row k can be asked whether it is unshared

@@ -1,6 +1,6 @@
 -- The VEVENTs of a calendar row by row, and what must be known of the rows to ask them.
 -- Only the rows right below VCALENDAR are those of events, so every row may be looked at.
-use Rattle.std.specs.Prelude.{ℕ, zero, suc, ◌+◌, ◌*◌, ◌≤◌, ◌<◌, ◌≡◌, Bool, cond, ◌&&◌, List, [], ◌∷◌, ◌++◌, eqb, length, get_or}
+use Rattle.std.specs.Prelude.{ℕ, zero, suc, ◌+◌, ◌*◌, ◌≤◌, ◌<◌, ◌≡◌, Bool, cond, ◌&&◌, List, [], ◌∷◌, ◌++◌, eqb, length, get_or, None, Option, Some}
 use Rattle.seconds.specs.Seconds.{among}
 use Rattle.values.specs.TimeLists.{seconds_of}
 use Rattle.values.specs.declared.times.Context.{Context}
@@ -9,11 +9,9 @@ use Rattle.overrides.specs.VEvents.{VEvent, is_master, has_uid, nowhere, found, 
 use Rattle.calendar.specs.Identities.{identity_of}
 use Rattle.calendar.specs.Meaning.{vevent_of}
 use Rattle.identities.specs.LinkRows.{link_at}
-use Rattle.identities.specs.declared.RecurrenceGiven.{RecurrenceGiven}
-use Rattle.identities.specs.declared.UidGiven.{UidGiven}
+use Rattle.values.specs.declared.given.Given.{Given}
 use Rattle.series.specs.Identities.{RecurrenceTies}
 use Rattle.series.specs.Uids.{UidsKnown}
-use Rattle.series.specs.declared.masters.MasterRow.{MasterRow}
 
 -- that of row k, where it is an event
 unfoldable pub vevents_at : Context → List ℕ → List ℕ → ℕ → List VEvent
@@ -54,8 +52,8 @@ pub record Tied (c : Context) (s index rows links : List ℕ) (m : ℕ) : Type 0
 
 -- row k has at most one RECURRENCE-ID and one UID, if it is an event
 pub record OneAt (rows links : List ℕ) (k : ℕ) : Type 0 where
-  pub one_recurrence : get_or rows (4 * k + 3) 0 ≡ 1 → (link_at links k).recurrence ≡ RecurrenceGiven.Several → ⊥
-  pub one_uid : get_or rows (4 * k + 3) 0 ≡ 1 → (link_at links k).uid ≡ UidGiven.Several → ⊥
+  pub one_recurrence : get_or rows (4 * k + 3) 0 ≡ 1 → (link_at links k).recurrence ≡ Given.Several → ⊥
+  pub one_uid : get_or rows (4 * k + 3) 0 ≡ 1 → (link_at links k).uid ≡ Given.Several → ⊥
 
 -- so has every row before row m
 abbrev pub OneEach : List ℕ → List ℕ → ℕ → Type 0
@@ -63,7 +61,7 @@ OneEach rows links m = (k : ℕ) → k < m → OneAt rows links k
 
 -- ---- the master of a UID among the rows before row m
 
-pub data MasterIs (c : Context) (s rows : List ℕ) (m : ℕ) (u : List ℕ) : MasterRow → Type 0 where
-  is_none : master_of u (vevents_before c s rows m) ≡ nowhere → MasterIs c s rows m u MasterRow.None
+pub data MasterIs (c : Context) (s rows : List ℕ) (m : ℕ) (u : List ℕ) : Option ℕ → Type 0 where
+  is_none : master_of u (vevents_before c s rows m) ≡ nowhere → MasterIs c s rows m u None
   is_at : {k : ℕ} → k < m → get_or rows (4 * k + 3) 0 ≡ 1 → master_of u (vevents_before c s rows m) ≡ found (vevent_of c (component_by s rows k))
-      → MasterIs c s rows m u (MasterRow.At k)
+      → MasterIs c s rows m u (Some k)

@@ -4,78 +4,55 @@ ghost use Rattle.series.specs.VEventRows.{RowTied, Tied, OneAt, OneEach};
 ghost use Rattle.series.specs.Moved.{NamedIs, MovedStored};
 
 use crate::uids;
-use identities::RecurrenceGiven;
-use structure::rows;
+use structure::calendar::Calendar;
+use values::given::Given;
 use values::times::Context;
 
-// What a row names.
-#[derive(Clone, Copy)]
-pub enum NamedSecond {
-    None,
-    At(u64),
-}
-
 // The second that the event of row k names, where it has this UID.
-fn named_second(
-    s: &[u8],
-    index: &[u32],
-    rows: &[u32],
-    links: &[u32],
-    k: usize,
-    c: Context,
-    u: &[u8],
-) -> NamedSecond
-    requires row_tied { RowTied c s.now index.now rows.now links.now k }
-    requires one_at { OneAt rows.now links.now k }
-    ensures { NamedIs c s.now rows.now k u.now result }
+// Kind 1 is an event: a number, as the row in lent memory has it (no heap).
+fn named_second(cal: &Calendar, links: &[u32], k: usize, c: Context, u: &[u8]) -> Option<u64>
+    requires row_tied { RowTied c cal.now.text.now cal.now.index.now cal.now.rows.now links.now k }
+    requires one_at { OneAt cal.now.rows.now links.now k }
+    ensures { NamedIs c cal.now.text.now cal.now.rows.now k u.now result }
 {
-    if rows::kind_at(rows, k) != 1 {
-        return NamedSecond::None;
+    if cal.kind_at(k) != 1 {
+        return None;
     }
     let link = identities::rows::link_at(links, k);
     let recurrence = link.recurrence;
     match recurrence {
-        RecurrenceGiven::None => NamedSecond::None,
-        RecurrenceGiven::One(t) => {
-            if uids::has_uid(s, index, rows, links, k, c, u) {
-                return NamedSecond::At(t.second);
+        Given::None => None,
+        Given::One(t) => {
+            if uids::has_uid(cal, links, k, c, u) {
+                return Some(t.second);
             }
-            NamedSecond::None
+            None
         }
-        RecurrenceGiven::Several => NamedSecond::None,
+        Given::Several => None,
     }
 }
 
 // The seconds that overrides with this UID name, among the rows before row m, stored from place n on; where they end.
+// The column is lent with the place where it goes on: there is no heap, and docs/TRACE.md names this function.
 pub fn store_moved(
     out: &mut [u32],
     n: usize,
-    s: &[u8],
-    index: &[u32],
-    rows: &[u32],
+    cal: &Calendar,
     links: &[u32],
     m: usize,
     c: Context,
     u: &[u8],
 ) -> usize
-    requires tied { Tied c s.now index.now rows.now links.now m }
-    requires one_each { OneEach rows.now links.now m }
+    requires tied { Tied c cal.now.text.now cal.now.index.now cal.now.rows.now links.now m }
+    requires one_each { OneEach cal.now.rows.now links.now m }
     requires m_in_bounds { n + m ≤ length out.old }
-    ensures { MovedStored c s.now rows.now m u.now out.old n out.new result }
+    ensures { MovedStored c cal.now.text.now cal.now.rows.now m u.now out.old n out.new result }
 {
     let mut end = n;
-    let mut k: usize = 0;
-    while k < m {
-        let next = k + 1;
-        match named_second(s, index, rows, links, k, c, u) {
-            NamedSecond::None => {
-                k = next;
-            }
-            NamedSecond::At(x) => {
-                out[end] = x as u32;
-                end += 1;
-                k = next;
-            }
+    for k in 0..m {
+        if let Some(x) = named_second(cal, links, k, c, u) {
+            out[end] = x as u32;
+            end += 1;
         }
     }
     end

@@ -10,118 +10,96 @@ ghost use Rattle.series.specs.Prints.{Printed};
 ghost use Rattle.series.specs.Beside.{Linked};
 ghost use Rattle.series.specs.Stopping.{stop_line, Reached};
 
+use crate::columns::EventColumns;
+use crate::prints::Fingerprints;
 use crate::{beside, prints};
-use calendar::RuleCheck;
-use structure::rows;
+use structure::calendar::Calendar;
 use values::times::Context;
 
-fn stop_line(alone: RuleCheck) -> usize
+fn stop_line(alone: Option<usize>) -> usize
     ensures { result ≡ stop_line alone }
 {
     match alone {
-        RuleCheck::Good => 65536,
-        RuleCheck::Broken(n) => n,
+        None => 65536,
+        Some(n) => n,
     }
 }
 
 // Does the component of row k break a rule beside others?
+// Kind 1 is an event: a number, as the row in lent memory has it (no heap).
 fn row_breaks(
-    s: &[u8],
-    index: &[u32],
-    rows: &[u32],
-    entries: &[u64],
-    links: &[u32],
-    exceptions: &[u32],
-    prints: &[u16],
-    marks: &[u8],
+    cal: &Calendar,
+    events: &EventColumns,
+    known: &Fingerprints,
     k: usize,
     m: usize,
     c: Context,
 ) -> bool
-    requires printed { Printed c s.now rows.now prints.now marks.now m }
-    requires linked { Linked c s.now index.now rows.now entries.now links.now exceptions.now m }
-    requires reached { Reached c s.now rows.now links.now k m }
-    ensures { result ≡ broken_beside c (vevents_before c s.now rows.now k) (vevents_before c s.now rows.now m) (component_scope (component_by s.now rows.now k)) (component_by s.now rows.now k) }
+    requires printed { Printed c cal.now.text.now cal.now.rows.now known.now.prints.now known.now.marks.now m }
+    requires linked { Linked c cal.now.text.now cal.now.index.now cal.now.rows.now events.now.entries.now events.now.links.now events.now.exceptions.now m }
+    requires reached { Reached c cal.now.text.now cal.now.rows.now events.now.links.now k m }
+    ensures { result ≡ broken_beside c (vevents_before c cal.now.text.now cal.now.rows.now k) (vevents_before c cal.now.text.now cal.now.rows.now m) (component_scope (component_by cal.now.text.now cal.now.rows.now k)) (component_by cal.now.text.now cal.now.rows.now k) }
 {
-    if rows::kind_at(rows, k) != 1 {
+    if cal.kind_at(k) != 1 {
         return false;
     }
-    beside::breaks_beside(
-        s, index, rows, entries, links, exceptions, prints, marks, k, m, c,
-    )
+    beside::breaks_beside(cal, events, known, k, m, c)
 }
 
 // The first component that breaks a rule, where `alone` is the first that does so by itself, and these are the fingerprints of UIDs.
 fn first_fault(
-    s: &[u8],
-    index: &[u32],
-    rows: &[u32],
-    entries: &[u64],
-    links: &[u32],
-    exceptions: &[u32],
-    prints: &[u16],
-    marks: &[u8],
+    cal: &Calendar,
+    events: &EventColumns,
+    known: &Fingerprints,
     m: usize,
     c: Context,
-    alone: RuleCheck,
-) -> RuleCheck
-    requires file_rows { FileRows s.now index.now rows.now }
-    requires m_value { m ≡ get_or rows.now 2 0 }
-    requires linked { Linked c s.now index.now rows.now entries.now links.now exceptions.now m }
-    requires printed { Printed c s.now rows.now prints.now marks.now m }
-    requires alone_value { alone ≡ alone_fault c (components_of s.now) }
-    ensures { result ≡ rule_fault c (components_of s.now) }
+    alone: Option<usize>,
+) -> Option<usize>
+    requires file_rows { FileRows cal.now.text.now cal.now.index.now cal.now.rows.now }
+    requires m_value { m ≡ get_or cal.now.rows.now 2 0 }
+    requires linked { Linked c cal.now.text.now cal.now.index.now cal.now.rows.now events.now.entries.now events.now.links.now events.now.exceptions.now m }
+    requires printed { Printed c cal.now.text.now cal.now.rows.now known.now.prints.now known.now.marks.now m }
+    requires alone_value { alone ≡ alone_fault c (components_of cal.now.text.now) }
+    ensures { result ≡ rule_fault c (components_of cal.now.text.now) }
 {
     let stop = stop_line(alone);
     let mut k: usize = 1;
+    // A `while`: the next component beside this one is some rows on, as the row read says.
     while k < m {
-        let line = rows::first_line(rows, k);
+        let line = cal.first_line(k);
         if stop <= line {
             return alone;
         }
-        if row_breaks(
-            s, index, rows, entries, links, exceptions, prints, marks, k, m, c,
-        ) {
-            return RuleCheck::Broken(line);
+        if row_breaks(cal, events, known, k, m, c) {
+            return Some(line);
         }
-        k = rows::next_row(rows, k);
+        k = cal.next_row(k);
     }
     alone
 }
 
 // The same with memory of its own for the fingerprints.
+// Fixed memory: the engine's crates use no heap.
 pub fn rule_fault(
-    s: &[u8],
-    index: &[u32],
-    rows: &[u32],
-    entries: &[u64],
-    links: &[u32],
-    exceptions: &[u32],
+    cal: &Calendar,
+    events: &EventColumns,
     c: Context,
-    alone: RuleCheck,
-) -> RuleCheck
-    requires file_rows { FileRows s.now index.now rows.now }
+    alone: Option<usize>,
+) -> Option<usize>
+    requires file_rows { FileRows cal.now.text.now cal.now.index.now cal.now.rows.now }
     requires context_good { ContextGood c }
-    requires link_rows { LinkRows c s.now rows.now entries.now links.now exceptions.now (get_or rows.now 2 0) }
-    requires alone_value { alone ≡ alone_fault c (components_of s.now) }
-    ensures { result ≡ rule_fault c (components_of s.now) }
+    requires link_rows { LinkRows c cal.now.text.now cal.now.rows.now events.now.entries.now events.now.links.now events.now.exceptions.now (get_or cal.now.rows.now 2 0) }
+    requires alone_value { alone ≡ alone_fault c (components_of cal.now.text.now) }
+    ensures { result ≡ rule_fault c (components_of cal.now.text.now) }
 {
-    let m = rows::next_row(rows, 0);
+    let m = cal.next_row(0);
     let mut prints = [0u16; 320];
     let mut marks = [0u8; 256];
     let mut notes = [0u8; 1024];
-    prints::fill_prints(
-        &mut prints,
-        &mut marks,
-        &mut notes,
-        s,
-        index,
-        rows,
-        links,
-        m,
-        c,
-    );
-    first_fault(
-        s, index, rows, entries, links, exceptions, &prints, &marks, m, c, alone,
-    )
+    prints::fill_prints(&mut prints, &mut marks, &mut notes, cal, events.links, m, c);
+    let known = Fingerprints {
+        prints: &prints,
+        marks: &marks,
+    };
+    first_fault(cal, events, &known, m, c, alone)
 }

@@ -4,9 +4,16 @@ ghost use Rattle.series.specs.VEventRows.{RowTied, Tied};
 ghost use Rattle.series.specs.Prints.{print_of, PrintIs, Printed};
 
 use crate::uids;
-use identities::UidGiven;
-use structure::rows;
+use structure::calendar::Calendar;
+use values::given::Given;
 use values::times::Context;
+
+// The column of fingerprints, and the marks of its rows.
+#[derive(Clone, Copy)]
+pub struct Fingerprints<'a> {
+    pub prints: &'a [u16],
+    pub marks: &'a [u8],
+}
 
 fn print_of(u: &[u8]) -> u16
     ensures { result ≡ print_of u.now }
@@ -18,19 +25,20 @@ fn print_of(u: &[u8]) -> u16
 }
 
 // That of row k; 0 where it has none.
-fn row_print(s: &[u8], index: &[u32], rows: &[u32], links: &[u32], k: usize, c: Context) -> u16
-    requires { RowTied c s.now index.now rows.now links.now k }
-    ensures { PrintIs c s.now rows.now k result }
+// A number and no Option: it goes into a column of numbers in fixed memory, as the kind comes from one (1 is an event).
+fn row_print(cal: &Calendar, links: &[u32], k: usize, c: Context) -> u16
+    requires { RowTied c cal.now.text.now cal.now.index.now cal.now.rows.now links.now k }
+    ensures { PrintIs c cal.now.text.now cal.now.rows.now k result }
 {
-    if rows::kind_at(rows, k) != 1 {
+    if cal.kind_at(k) != 1 {
         return 0;
     }
     let link = identities::rows::link_at(links, k);
     let uid = link.uid;
     match uid {
-        UidGiven::None => 0,
-        UidGiven::One(n) => print_of(uids::uid_at(s, index, n)),
-        UidGiven::Several => 0,
+        Given::None => 0,
+        Given::One(n) => print_of(uids::uid_at(cal, n)),
+        Given::Several => 0,
     }
 }
 
@@ -44,28 +52,25 @@ fn note_place(print: u16) -> usize
 
 // Fills the column for the rows before row m. A row is marked where another fingerprint was noted at the same place before:
 // most are not, and of these the column needs no search.
+// Each column is lent for itself (fixed memory), and marks are numbers, as Printed reads them: no other crate calls this, so it may take no narrower type.
 pub fn fill_prints(
     prints: &mut [u16],
     marks: &mut [u8],
     notes: &mut [u8],
-    s: &[u8],
-    index: &[u32],
-    rows: &[u32],
+    cal: &Calendar,
     links: &[u32],
     m: usize,
     c: Context,
 )
-    requires tied { Tied c s.now index.now rows.now links.now m }
+    requires tied { Tied c cal.now.text.now cal.now.index.now cal.now.rows.now links.now m }
     requires prints_len { (length prints.old ≡ 320) × (length marks.old ≡ 256) × (length notes.old ≡ 1024) }
-    ensures { Printed c s.now rows.now prints.new marks.new m }
+    ensures { Printed c cal.now.text.now cal.now.rows.now prints.new marks.new m }
 {
-    let mut k = 0;
-    while k < m {
-        let print = row_print(s, index, rows, links, k, c);
+    for k in 0..m {
+        let print = row_print(cal, links, k, c);
         let place = note_place(print);
         prints[64 + k] = print;
         marks[k] = notes[place];
         notes[place] = 1;
-        k += 1;
     }
 }

@@ -4,8 +4,10 @@ ghost use Rattle.std.proofs.lemmas.List.Edits.{sets};
 ghost use Rattle.identities.specs.LinkRows.{link_at};
 ghost use Rattle.series.specs.Removed.{Takeable, SecondsStored, SecondsOrdered, moved_at, removed_at};
 
+use crate::columns::EventColumns;
 use crate::{moved, uids};
-use identities::{RecurrenceGiven, UidGiven};
+use structure::calendar::Calendar;
+use values::given::Given;
 use values::times::Context;
 
 // Copies the seconds to the start of a column.
@@ -13,82 +15,61 @@ fn store_seconds(out: &mut [u32], l: &[u32])
     requires { length l.now ≤ length out.old }
     ensures { out.new ≡ sets out.old 0 l.now }
 {
-    let mut i = 0;
-    while i < l.len() {
-        out[i] = l[i];
-        i += 1;
-    }
+    out[..l.len()].copy_from_slice(l);
 }
 
 // What overrides name of the event of row k, whose link has this UID, stored from place n on; where that ends.
+// The column is lent with the place where it goes on (no heap).
 fn store_named(
     out: &mut [u32],
     n: usize,
-    s: &[u8],
-    index: &[u32],
-    rows: &[u32],
-    links: &[u32],
-    exceptions: &[u32],
+    cal: &Calendar,
+    events: &EventColumns,
     k: usize,
     m: usize,
     c: Context,
-    uid: UidGiven,
+    uid: Given<usize>,
 ) -> usize
-    requires takeable { Takeable c s.now index.now rows.now links.now exceptions.now k m }
-    requires uid_value { uid ≡ (link_at links.now k).uid }
+    requires takeable { Takeable c cal.now.text.now cal.now.index.now cal.now.rows.now events.now.links.now events.now.exceptions.now k m }
+    requires uid_value { uid ≡ (link_at events.now.links.now k).uid }
     requires m_in_bounds { n + m ≤ length out.old }
-    ensures { SecondsStored (moved_at c s.now rows.now k m) out.old n out.new result }
+    ensures { SecondsStored (moved_at c cal.now.text.now cal.now.rows.now k m) out.old n out.new result }
 {
     match uid {
-        UidGiven::None => n,
-        UidGiven::One(i) => {
-            let u = uids::uid_at(s, index, i);
-            moved::store_moved(out, n, s, index, rows, links, m, c, u)
+        Given::None => n,
+        Given::One(i) => {
+            let u = uids::uid_at(cal, i);
+            moved::store_moved(out, n, cal, events.links, m, c, u)
         }
-        UidGiven::Several => n,
+        Given::Several => n,
     }
 }
 
 // All that is taken away from the event of row k, stored from the start of the column; how many seconds that are.
 pub fn store_removed(
     out: &mut [u32],
-    s: &[u8],
-    index: &[u32],
-    rows: &[u32],
-    links: &[u32],
-    exceptions: &[u32],
+    cal: &Calendar,
+    events: &EventColumns,
     k: usize,
     m: usize,
     c: Context,
 ) -> usize
-    requires takeable { Takeable c s.now index.now rows.now links.now exceptions.now k m }
-    requires m_in_bounds { (link_at links.now k).to - (link_at links.now k).from + m ≤ length out.old }
-    ensures { SecondsStored (removed_at c s.now rows.now k m) out.old 0 out.new result }
+    requires takeable { Takeable c cal.now.text.now cal.now.index.now cal.now.rows.now events.now.links.now events.now.exceptions.now k m }
+    requires m_in_bounds { (link_at events.now.links.now k).to - (link_at events.now.links.now k).from + m ≤ length out.old }
+    ensures { SecondsStored (removed_at c cal.now.text.now cal.now.rows.now k m) out.old 0 out.new result }
 {
-    let link = identities::rows::link_at(links, k);
+    let link = identities::rows::link_at(events.links, k);
     let recurrence = link.recurrence;
     match recurrence {
-        RecurrenceGiven::None => {
+        Given::None => {
             let uid = link.uid;
             let from = link.from;
             let to = link.to;
-            store_seconds(out, &exceptions[from..to]);
-            store_named(
-                out,
-                to - from,
-                s,
-                index,
-                rows,
-                links,
-                exceptions,
-                k,
-                m,
-                c,
-                uid,
-            )
+            store_seconds(out, &events.exceptions[from..to]);
+            store_named(out, to - from, cal, events, k, m, c, uid)
         }
-        RecurrenceGiven::One(_) => 0,
-        RecurrenceGiven::Several => 0,
+        Given::One(_) => 0,
+        Given::Several => 0,
     }
 }
 
@@ -96,21 +77,18 @@ pub fn store_removed(
 pub fn removed_in_order(
     out: &mut [u32],
     spare: &mut [u32],
-    s: &[u8],
-    index: &[u32],
-    rows: &[u32],
-    links: &[u32],
-    exceptions: &[u32],
+    cal: &Calendar,
+    events: &EventColumns,
     k: usize,
     m: usize,
     c: Context,
 ) -> usize
-    requires takeable { Takeable c s.now index.now rows.now links.now exceptions.now k m }
-    requires m_in_bounds { (link_at links.now k).to - (link_at links.now k).from + m ≤ length out.old }
+    requires takeable { Takeable c cal.now.text.now cal.now.index.now cal.now.rows.now events.now.links.now events.now.exceptions.now k m }
+    requires m_in_bounds { (link_at events.now.links.now k).to - (link_at events.now.links.now k).from + m ≤ length out.old }
     requires out_in_bounds { length out.old ≤ length spare.old }
-    ensures { SecondsOrdered (removed_at c s.now rows.now k m) out.new result }
+    ensures { SecondsOrdered (removed_at c cal.now.text.now cal.now.rows.now k m) out.new result }
 {
-    let n = store_removed(out, s, index, rows, links, exceptions, k, m, c);
+    let n = store_removed(out, cal, events, k, m, c);
     seconds::sort(&mut out[..n], spare);
     n
 }

@@ -13,68 +13,59 @@ ghost use Rattle.calendar.specs.Meaning.{vevent_of};
 ghost use Rattle.property.specs.Facts.{reading_of};
 ghost use Rattle.series.specs.Uids.{is_uid, line_has, lines_have, UidsKnown};
 
-use identities::UidGiven;
 use line::read;
 use property::{PropertyValue, Scope};
+use structure::calendar::Calendar;
 use structure::items::Item;
-use structure::{items, rows};
+use values::given::Given;
+use values::rule::ValueError;
 use values::times::Context;
 
 // The value of the line of number n.
-pub fn uid_at<'a>(s: &'a [u8], index: &[u32], n: usize) -> &'a [u8]
-    requires indexed { Indexed s.now index.now }
-    requires le_n { (1 ≤ n) × (n ≤ length (content_lines s.now)) }
-    ensures { result.now ≡ value_of (line_bytes s.now (n - 1)) }
+pub fn uid_at<'a>(cal: &Calendar<'a>, n: usize) -> &'a [u8]
+    requires indexed { Indexed cal.now.text.now cal.now.index.now }
+    requires le_n { (1 ≤ n) × (n ≤ length (content_lines cal.now.text.now)) }
+    ensures { result.now ≡ value_of (line_bytes cal.now.text.now (n - 1)) }
 {
-    let line = index::line_at(s, index, n - 1);
-    read::value_behind(line, index::name_length(index, n - 1))
+    let line = cal.line_at(n - 1);
+    read::value_behind(line, cal.name_length(n - 1))
 }
 
 // Are the two the same bytes?
 fn same_bytes(a: &[u8], b: &[u8]) -> bool
     ensures { result ≡ same_bytes a.now b.now }
 {
-    if a.len() != b.len() {
-        return false;
-    }
-    let mut i = 0;
-    while i < a.len() {
-        if a[i] != b[i] {
-            return false;
-        }
-        i += 1;
-    }
-    true
+    a == b
 }
 
-fn is_uid(v: PropertyValue) -> bool
+fn is_uid(v: Result<PropertyValue, ValueError>) -> bool
     ensures { result ≡ is_uid (reading_of v) }
 {
     match v {
-        PropertyValue::Nothing => false,
-        PropertyValue::Unsupported => false,
-        PropertyValue::Bad => false,
-        PropertyValue::Start(_) => false,
-        PropertyValue::End(_) => false,
-        PropertyValue::Lasts(_) => false,
-        PropertyValue::Repeats(_) => false,
-        PropertyValue::HasStatus(_) => false,
-        PropertyValue::Transparent(_) => false,
-        PropertyValue::Uid => true,
-        PropertyValue::RecurrenceId(_) => false,
-        PropertyValue::HasExceptions(_) => false,
-        PropertyValue::HasPeriods(_) => false,
+        Ok(PropertyValue::Nothing) => false,
+        Err(ValueError::Unsupported) => false,
+        Err(ValueError::Bad) => false,
+        Ok(PropertyValue::Start(_)) => false,
+        Ok(PropertyValue::End(_)) => false,
+        Ok(PropertyValue::Lasts(_)) => false,
+        Ok(PropertyValue::Repeats(_)) => false,
+        Ok(PropertyValue::HasStatus(_)) => false,
+        Ok(PropertyValue::Transparent(_)) => false,
+        Ok(PropertyValue::Uid) => true,
+        Ok(PropertyValue::RecurrenceId(_)) => false,
+        Ok(PropertyValue::HasExceptions(_)) => false,
+        Ok(PropertyValue::HasPeriods(_)) => false,
     }
 }
 
 // Is line i, directly in an event, a UID with these bytes?
-fn line_has(s: &[u8], index: &[u32], i: usize, c: Context, u: &[u8]) -> bool
+fn line_has(cal: &Calendar, i: usize, c: Context, u: &[u8]) -> bool
     requires context_good { ContextGood c }
-    requires entry { Entry s.now index.now i }
-    ensures { result ≡ line_has c u.now (line_of (line_bytes s.now i)) }
+    requires entry { Entry cal.now.text.now cal.now.index.now i }
+    ensures { result ≡ line_has c u.now (line_of (line_bytes cal.now.text.now i)) }
 {
-    let line = index::line_at(s, index, i);
-    let length = index::name_length(index, i);
+    let line = cal.line_at(i);
+    let length = cal.name_length(i);
     if is_uid(property::property_value(c, Scope::Event, line, length)) {
         return same_bytes(u, read::value_behind(line, length));
     }
@@ -82,20 +73,21 @@ fn line_has(s: &[u8], index: &[u32], i: usize, c: Context, u: &[u8]) -> bool
 }
 
 // Is one of the lines directly in the event of row k a UID with these bytes?
-fn lines_have(s: &[u8], index: &[u32], rows: &[u32], k: usize, c: Context, u: &[u8]) -> bool
+fn lines_have(cal: &Calendar, k: usize, c: Context, u: &[u8]) -> bool
     requires context_good { ContextGood c }
-    requires indexed { Indexed s.now index.now }
-    requires row_of { RowOf s.now rows.now k }
-    ensures { result ≡ lines_have c u.now (properties_in (component_by s.now rows.now k).items) }
+    requires indexed { Indexed cal.now.text.now cal.now.index.now }
+    requires row_of { RowOf cal.now.text.now cal.now.rows.now k }
+    ensures { result ≡ lines_have c u.now (properties_in (component_by cal.now.text.now cal.now.rows.now k).items) }
 {
-    let stop = rows::line_behind(rows, k) - 1;
-    let last = rows::next_row(rows, k);
-    let mut i = rows::first_line(rows, k);
+    let stop = cal.line_behind(k) - 1;
+    let last = cal.next_row(k);
+    let mut i = cal.first_line(k);
     let mut row = k + 1;
+    // A `loop`: a step passes over one line or a whole component, as the item read says.
     loop {
-        match items::item_at(rows, i, row, stop, last) {
+        match cal.item_at(i, row, stop, last) {
             Item::Property => {
-                if line_has(s, index, i, c, u) {
+                if line_has(cal, i, c, u) {
                     return true;
                 }
                 i += 1;
@@ -110,23 +102,15 @@ fn lines_have(s: &[u8], index: &[u32], rows: &[u32], k: usize, c: Context, u: &[
 }
 
 // Has the event of row k a UID with these bytes?
-pub fn has_uid(
-    s: &[u8],
-    index: &[u32],
-    rows: &[u32],
-    links: &[u32],
-    k: usize,
-    c: Context,
-    u: &[u8],
-) -> bool
-    requires { UidsKnown c s.now index.now rows.now links.now k }
-    ensures { result ≡ has_uid u.now (vevent_of c (component_by s.now rows.now k)) }
+pub fn has_uid(cal: &Calendar, links: &[u32], k: usize, c: Context, u: &[u8]) -> bool
+    requires { UidsKnown c cal.now.text.now cal.now.index.now cal.now.rows.now links.now k }
+    ensures { result ≡ has_uid u.now (vevent_of c (component_by cal.now.text.now cal.now.rows.now k)) }
 {
     let link = identities::rows::link_at(links, k);
     let uid = link.uid;
     match uid {
-        UidGiven::None => false,
-        UidGiven::One(n) => same_bytes(u, uid_at(s, index, n)),
-        UidGiven::Several => lines_have(s, index, rows, k, c, u),
+        Given::None => false,
+        Given::One(n) => same_bytes(u, uid_at(cal, n)),
+        Given::Several => lines_have(cal, k, c, u),
     }
 }

@@ -1,5 +1,8 @@
 -- The walk over the lines decides the nesting and writes the rows.
+use Rattle.std.specs.Prelude.{Err, None, Ok, Option, Result, Some}
 use Prim.Native.Nat.{ℕ, suc, ◌+◌, ◌*◌, ◌-◌, ◌≤◌, ◌<◌}
+use Rattle.nesting.specs.declared.StructureError.{StructureError}
+use Rattle.index.specs.declared.IndexError.{IndexError}
 use mathlib.Core.Path.{◌≡◌, refl, sym, ap, subst, ◌∙◌}
 use mathlib.Core.Bool.{Bool, true, false, cond}
 use mathlib.Core.List.{List, [], ◌∷◌, map}
@@ -21,16 +24,11 @@ use Rattle.nesting.specs.Nesting.{Walk, start, inside, closed, broken, after_del
 use Rattle.nesting.specs.Components.{none, items_of, delimited_from}
 use Rattle.nesting.specs.WellNested.{numbered_from}
 use Rattle.nesting.specs.Files.{nesting_from, nesting_in, structure_by}
-use Rattle.nesting.specs.declared.Structure.{Structure}
 use Rattle.nesting.proofs.NestingLaws.{after_nesting_step, after_step, Room, opens_room}
 use Rattle.nesting.proofs.NestingLaws.{walk_numbered, stays_broken, after_closed}
 use Rattle.index.specs.Index.{line_bytes, Entry, Lines, FilledBy}
-use Rattle.index.specs.declared.Filled.{Filled}
 use Rattle.structure.specs.Rows.{kind_of, lines_after, delimited_by, items_by, RowPut, RowAt, LineIs, ItemRows, nothing, with_property_holds, with_component}
 use Rattle.structure.specs.Reading.{Ready, Walks, Closes, Breaks, ClosesTo, StructureRead, FoundBy}
-use Rattle.structure.specs.declared.Found.{Found}
-use Rattle.structure.specs.declared.Closed.{Closed}
-use Rattle.structure.specs.declared.Closed.TheVariants.{At, Broken}
 use Rattle.structure.proofs.RowsLaws.{rows_lines, rows_rise, rows_then, rows_kept, one_after}
 
 -- ---- the walk so far
@@ -138,13 +136,13 @@ none_after s i h = let l : length (map line_of (content_lines s)) ≤ i = simp l
 
 -- ---- reading a component
 
-pub closes_at : {s name old new : List ℕ} {n first begun left : ℕ} {r : Closed} (j m : ℕ) → ClosesTo s name old new n first begun left r → r ≡ At j m
+pub closes_at : {s name old new : List ℕ} {n first begun left : ℕ} {r : Result (ℕ × ℕ) ℕ} (j m : ℕ) → ClosesTo s name old new n first begun left r → r ≡ Ok (j, m)
     → Closes s name old new n first begun left j m
 unfolding ClosesTo
 closes_at {s} {name} {old} {new} {n} {first} {begun} {left} j m h q = subst (ClosesTo s name old new n first begun left) q h
 
-breaks_at : {s name : List ℕ} (old new : List ℕ) (n : ℕ) {first begun left : ℕ} {r : Closed} (b : ℕ) → ClosesTo s name old new n first begun left r
-    → r ≡ Broken b → Breaks s name first begun left b
+breaks_at : {s name : List ℕ} (old new : List ℕ) (n : ℕ) {first begun left : ℕ} {r : Result (ℕ × ℕ) ℕ} (b : ℕ) → ClosesTo s name old new n first begun left r
+    → r ≡ Err b → Breaks s name first begun left b
 unfolding ClosesTo
 breaks_at {s} {name} old new n {first} {begun} {left} b h q = subst (ClosesTo s name old new n first begun left) q h
 
@@ -184,7 +182,7 @@ module _ {s index name old rows : List ℕ} {n first begun left i k : ℕ} (r : 
   reading_entry h = r.ready.lines.indexed.entries i (omega (arith, r.ready.lines.count))
 
   -- the file just stops
-  pub reading_end : (new : List ℕ) → n ≤ i → ClosesTo s name old new n first begun left (Broken (n + 1))
+  pub reading_end : (new : List ℕ) → n ≤ i → ClosesTo s name old new n first begun left (Err (n + 1))
   unfolding ClosesTo outcome
   reading_end new h =
       record {
@@ -231,7 +229,7 @@ module _ {s index name old rows l : List ℕ} {n first begun left i k : ℕ} {r 
         decided = step_case NestingStep.Stays t;
       }
 
-  pub reading_closes : m ≡ NestingStep.Closes → ClosesTo s name old rows n first begun left (At (i + 1) k)
+  pub reading_closes : m ≡ NestingStep.Closes → ClosesTo s name old rows n first begun left (Ok ((i + 1), k))
   unfolding ClosesTo step_delimiter
   reading_closes t =
       record {
@@ -239,7 +237,7 @@ module _ {s index name old rows l : List ℕ} {n first begun left i k : ℕ} {r 
         decided = step_case NestingStep.Closes t;
       }
 
-  pub reading_breaks : (new : List ℕ) → m ≡ NestingStep.Breaks → ClosesTo s name old new n first begun left (Broken (i + 1))
+  pub reading_breaks : (new : List ℕ) → m ≡ NestingStep.Breaks → ClosesTo s name old new n first begun left (Err (i + 1))
   unfolding ClosesTo
   reading_breaks new t =
       record { decided = λ o w. step_case NestingStep.Breaks t o w ∙ from_broken (i + 1 + 1) (i + 1) (lines_after s (i + 1)) }
@@ -271,7 +269,7 @@ module _ {s index name old rows v : List ℕ} {n first begun left i k : ℕ} {r 
   deeper : (o : List (List ℕ)) → length o + left ≡ 8 → length (name ∷ o) + (left - 1) ≡ 8
   deeper o w = omega (arith, x.room.some)
 
-  pub opened_closes : {new out : List ℕ} {kind : ℕ} {u : Closed} → ClosesTo s v rows new n (i + 1) (k + 1) (left - 1) u → (j y : ℕ) → u ≡ At j y
+  pub opened_closes : {new out : List ℕ} {kind : ℕ} {u : Result (ℕ × ℕ) ℕ} → ClosesTo s v rows new n (i + 1) (k + 1) (left - 1) u → (j y : ℕ) → u ≡ Ok (j, y)
       → length new ≡ length rows → length out ≡ length new → kind ≡ kind_of v → RowPut new (4 * k) ((i + 1) ∷ j ∷ y ∷ kind ∷ []) out
       → Reading s index name old out n first begun left j y
   opened_closes c j y f a b e d =
@@ -282,14 +280,14 @@ module _ {s index name old rows v : List ℕ} {n first begun left i k : ℕ} {r 
         decided = λ o w. x.decided o w ∙ z.decided (name ∷ o) (deeper o w);
       }
 
-  pub opened_breaks : (new out : List ℕ) {u : Closed} → ClosesTo s v rows new n (i + 1) (k + 1) (left - 1) u → (b : ℕ) → u ≡ Broken b
-      → ClosesTo s name old out n first begun left (Broken b)
+  pub opened_breaks : (new out : List ℕ) {u : Result (ℕ × ℕ) ℕ} → ClosesTo s v rows new n (i + 1) (k + 1) (left - 1) u → (b : ℕ) → u ≡ Err b
+      → ClosesTo s name old out n first begun left (Err b)
   unfolding ClosesTo
   opened_breaks new out c b f =
       let z = breaks_at rows new n b c f in record { decided = λ o w. x.decided o w ∙ z.decided (name ∷ o) (deeper o w) }
 
   -- what is known of the row before it is written
-  pub opened_row : (new : List ℕ) {u : Closed} → ClosesTo s v rows new n (i + 1) (k + 1) (left - 1) u → (j y : ℕ) → u ≡ At j y
+  pub opened_row : (new : List ℕ) {u : Result (ℕ × ℕ) ℕ} → ClosesTo s v rows new n (i + 1) (k + 1) (left - 1) u → (j y : ℕ) → u ≡ Ok (j, y)
       → length new ≡ length rows → (4 * k + 4 ≤ length new) × (i < j) × (j ≤ n) × (y ≤ 256)
   opened_row new c j y f a =
       let w = (closes_at j y c f).walks in
@@ -336,41 +334,41 @@ items_none s j h = ap (λ (xs : List ContentLine). items_of 0 (delimited_from (j
 
 -- ---- what the structure is
 
-good_by : (c : LineCheck) (k : LineCheck) → c ≡ all_good → k ≡ all_good → Structure.Good ≡ structure_by c k
+good_by : (c : LineCheck) (k : LineCheck) → c ≡ all_good → k ≡ all_good → Ok tt ≡ structure_by c k
 unfolding structure_by
 good_by c k p q = rw (p, q)
 
-nesting_by : (c : LineCheck) (k : LineCheck) (b : ℕ) → c ≡ all_good → k ≡ bad_line b → Structure.BadNesting b ≡ structure_by c k
+nesting_by : (c : LineCheck) (k : LineCheck) (b : ℕ) → c ≡ all_good → k ≡ bad_line b → Err (StructureError.BadNesting b) ≡ structure_by c k
 unfolding structure_by
 nesting_by c k b p q = rw (p, q)
 
-line_by : (c : LineCheck) (k : LineCheck) (b : ℕ) → bad_line b ≡ c → Structure.BadLine b ≡ structure_by c k
+line_by : (c : LineCheck) (k : LineCheck) (b : ℕ) → bad_line b ≡ c → Err (StructureError.BadLine b) ≡ structure_by c k
 unfolding structure_by
 line_by c k b p = rw (sym p)
 
-abbrev is_good : Structure → Bool
-is_good Structure.Good = true
-is_good (Structure.BadLine n) = false
-is_good (Structure.BadNesting n) = false
+abbrev is_good : Result (Unit {0}) StructureError → Bool
+is_good (Ok _) = true
+is_good (Err (StructureError.BadLine n)) = false
+is_good (Err (StructureError.BadNesting n)) = false
 
-not_good : {A : Type 0} (r : Structure) → is_good r ≡ false → r ≡ Structure.Good → A
+not_good : {A : Type 0} (r : Result (Unit {0}) StructureError) → is_good r ≡ false → r ≡ Ok tt → A
 not_good r f e = clash (ap is_good e) f
 
 file_breaks : {s index : List ℕ} (rows : List ℕ) {n : ℕ} (b : ℕ) → Lines s index n → nesting_in s ≡ bad_line b
-    → StructureRead s index rows (Structure.BadNesting b)
+    → StructureRead s index rows (Err (StructureError.BadNesting b))
 file_breaks {s} rows b v q =
-    record { structure_is = nesting_by (line_check s) (nesting_in s) b v.indexed.good q; known = not_good (Structure.BadNesting b) refl }
+    record { structure_is = nesting_by (line_check s) (nesting_in s) b v.indexed.good q; known = not_good (Err (StructureError.BadNesting b)) refl }
 
-pub file_empty : {s index : List ℕ} (rows : List ℕ) {n : ℕ} → Lines s index n → n ≡ 0 → StructureRead s index rows (Structure.BadNesting 1)
+pub file_empty : {s index : List ℕ} (rows : List ℕ) {n : ℕ} → Lines s index n → n ≡ 0 → StructureRead s index rows (Err (StructureError.BadNesting 1))
 unfolding outcome
 file_empty {s} rows v z =
     file_breaks rows 1 v (from_start s ∙ ap (nesting_from 1 start) (none_after s 0 (omega (arith, v.count))) ∙ from_none 1 start)
 
-pub file_bad_line : {s : List ℕ} (index new rows : List ℕ) {r : Filled} (b : ℕ) → FilledBy s index r → r ≡ Filled.BadLine b
-    → StructureRead s new rows (Structure.BadLine b)
+pub file_bad_line : {s : List ℕ} (index new rows : List ℕ) {r : Result ℕ IndexError} (b : ℕ) → FilledBy s index r → r ≡ Err (IndexError.BadLine b)
+    → StructureRead s new rows (Err (StructureError.BadLine b))
 unfolding FilledBy
 file_bad_line {s} index new rows b h q =
-    record { structure_is = line_by (line_check s) (nesting_in s) b (subst (FilledBy s index) q h); known = not_good (Structure.BadLine b) refl }
+    record { structure_is = line_by (line_check s) (nesting_in s) b (subst (FilledBy s index) q h); known = not_good (Err (StructureError.BadLine b)) refl }
 
 -- the first of the lines begins VCALENDAR, and v is its value
 pub record Begun {s index : List ℕ} {n : ℕ} (a : Lines s index n) (v : List ℕ) : Type 0 where
@@ -399,7 +397,7 @@ module _ {s index : List ℕ} {n : ℕ} (a : Lines s index n) (small : length s 
         (λ (w : Walk). nesting_from 2 w (lines_after s 1))
         (after_start (delimiter_of (line_of l)) 1 (line_of l) ∙ ap (λ (u : Bool). cond u (inside (value_of l ∷ []) 1) (broken 1)) (sym q))
 
-    pub file_other : (rows : List ℕ) → t ≡ false → StructureRead s index rows (Structure.BadNesting 1)
+    pub file_other : (rows : List ℕ) → t ≡ false → StructureRead s index rows (Err (StructureError.BadNesting 1))
     file_other rows e =
         file_breaks rows 1 a
         (first_line
@@ -424,18 +422,18 @@ module _ {s index : List ℕ} {n : ℕ} (a : Lines s index n) (small : length s 
               ∙ ap (λ (u : List ℕ). nesting_from 2 (inside (u ∷ []) 1) (lines_after s 1)) (sym g);
         }
 
-module _ {s index v : List ℕ} {n : ℕ} {a : Lines s index n} (x : Begun a v) (rows new : List ℕ) {u : Closed} (c : ClosesTo s v rows new n 1 1 8 u) where
-  pub file_inner : (out : List ℕ) (b : ℕ) → u ≡ Broken b → StructureRead s index out (Structure.BadNesting b)
+module _ {s index v : List ℕ} {n : ℕ} {a : Lines s index n} (x : Begun a v) (rows new : List ℕ) {u : Result (ℕ × ℕ) ℕ} (c : ClosesTo s v rows new n 1 1 8 u) where
+  pub file_inner : (out : List ℕ) (b : ℕ) → u ≡ Err b → StructureRead s index out (Err (StructureError.BadNesting b))
   file_inner out b f = file_breaks out b a (x.decided ∙ (breaks_at rows new n b c f).decided [] refl)
 
-  pub file_more : (out : List ℕ) (j m : ℕ) → u ≡ At j m → j < n → StructureRead s index out (Structure.BadNesting (j + 1))
+  pub file_more : (out : List ℕ) (j m : ℕ) → u ≡ Ok (j, m) → j < n → StructureRead s index out (Err (StructureError.BadNesting (j + 1)))
   file_more out j m f k =
       file_breaks out (j + 1) a (x.decided ∙ (closes_at j m c f).decided [] refl ∙ closed_more s j (omega (arith, a.count)))
 
-  pub file_last : (j m : ℕ) → u ≡ At j m → (j ≤ n) × (m ≤ 256)
+  pub file_last : (j m : ℕ) → u ≡ Ok (j, m) → (j ≤ n) × (m ≤ 256)
   file_last j m f = let w = (closes_at j m c f).walks in (w.inside, w.few)
 
-  file_items : (out : List ℕ) (j m kind : ℕ) → (f : u ≡ At j m) → n ≤ j → kind ≡ kind_of v → RowPut new 0 (1 ∷ j ∷ m ∷ kind ∷ []) out
+  file_items : (out : List ℕ) (j m kind : ℕ) → (f : u ≡ Ok (j, m)) → n ≤ j → kind ≡ kind_of v → RowPut new 0 (1 ∷ j ∷ m ∷ kind ∷ []) out
       → ItemRows s out 0 0 n m
   file_items out j m kind f k d o =
       let w = (closes_at j m c f).walks in
@@ -452,8 +450,8 @@ module _ {s index v : List ℕ} {n : ℕ} {a : Lines s index n} (x : Begun a v) 
       w.closes
       (subst (λ (b : ℕ). ItemRows s out (w.stop + 1) m b m) y nothing)
 
-  pub file_good : (out : List ℕ) (j m kind : ℕ) → u ≡ At j m → n ≤ j → kind ≡ kind_of v → RowPut new 0 (1 ∷ j ∷ m ∷ kind ∷ []) out
-      → length out ≡ 1024 → StructureRead s index out Structure.Good
+  pub file_good : (out : List ℕ) (j m kind : ℕ) → u ≡ Ok (j, m) → n ≤ j → kind ≡ kind_of v → RowPut new 0 (1 ∷ j ∷ m ∷ kind ∷ []) out
+      → length out ≡ 1024 → StructureRead s index out (Ok tt)
   file_good out j m kind f k d o size =
       let z = closes_at j m c f in
       let y : get_or out 2 0 ≡ m = o.here 2 (omega arith) in
@@ -480,11 +478,11 @@ module _ {s index v : List ℕ} {n : ℕ} {a : Lines s index n} (x : Begun a v) 
 
 -- ---- what a caller learns of an index that may be too short
 
-module _ (s index rows : List ℕ) {r : Found} (h : FoundBy s index rows r) where
-  pub found_structure : {x : Structure} → r ≡ Found.Of x → StructureRead s index rows x
+module _ (s index rows : List ℕ) {r : Option (Result (Unit {0}) StructureError)} (h : FoundBy s index rows r) where
+  pub found_structure : {x : Result (Unit {0}) StructureError} → r ≡ Some x → StructureRead s index rows x
   unfolding FoundBy
   found_structure q = subst (FoundBy s index rows) q h
 
-  pub found_full : r ≡ Found.Full → 4 * length index ≤ length s
+  pub found_full : r ≡ None → 4 * length index ≤ length s
   unfolding FoundBy
   found_full q = subst (FoundBy s index rows) q h

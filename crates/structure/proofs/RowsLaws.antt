@@ -7,9 +7,10 @@ use native.Mathlib.Omega.{arith}
 use native.Mathlib.Nat.{add-zero}
 use borrow.Author.Tests.{ltb-true, ltb-false, lt-ltb, le-ltb}
 use lib.Dec.{ltb}
-use lib.ListN.{length, drop, get_or, length-map, get_or-map}
+use lib.ListN.{length, take, drop, get_or, length-take, length-drop, length-map, get_or-map}
 use lib.Seq.{drop-cons}
-use Rattle.ascii.proofs.Rows.{Putting, putting_all}
+use borrow.Rule.Slice.PartMut.{put_mid}
+use Rattle.std.proofs.lemmas.List.{places}
 use Rattle.ascii.specs.Names.{same_name}
 use Rattle.ascii.specs.Bytes.{upper}
 use Rattle.ascii.specs.Words.{ascii}
@@ -139,9 +140,17 @@ kind_other v q r t u = sym (kind_by v (sym t ∙ q) (sym u ∙ r))
 
 -- ---- writing a row
 
--- the whole row stands at its place
-pub putting_end : {old : List ℕ} {at : ℕ} {row new : List ℕ} {p : ℕ} → Putting old 4 at row new p → 4 ≤ p → RowPut old at row new
-putting_end g h = record { here = putting_all g h; before = g.before; behind = g.behind }
+-- the row stands in the part that it was copied to
+pub row_put : (old : List ℕ) (at n : ℕ) (row part : List ℕ) → n ≡ 4 → at + 4 ≤ length old → length part ≡ length (take n (drop at old)) → part ≡ row
+    → RowPut old at row (put_mid at n old part)
+row_put old at n row part w h l e =
+    let whole : length part ≡ 4 = omega (arith, length-take n (drop at old), length-drop at old) in
+    rw (← e)
+    (record {
+      here = λ p k. grind (arith, places);
+      before = λ p k. grind (arith, places);
+      behind = λ p k. grind (arith, places);
+    })
 
 -- ---- what a reader learns
 

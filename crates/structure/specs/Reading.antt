@@ -1,16 +1,12 @@
 -- How nesting and rows are read: one walk over the line numbers of an index.
-use Rattle.std.specs.Prelude.{ℕ, ◌+◌, ◌*◌, ◌≤◌, ◌<◌, ◌≡◌, List, ◌∷◌, length, get_or}
+use Rattle.std.specs.Prelude.{ℕ, ◌+◌, ◌*◌, ◌≤◌, ◌<◌, ◌≡◌, List, ◌∷◌, length, get_or, Err, None, Ok, Option, Result, Some}
+use Rattle.nesting.specs.declared.StructureError.{StructureError}
 use Rattle.line.specs.WellFormed.{line_check, bad_line}
 use Rattle.delimiters.specs.declared.Delimiter.TheVariants.{Ends}
 use Rattle.nesting.specs.Nesting.{inside, outside}
 use Rattle.nesting.specs.Files.{nesting_from, nesting_in, structure_by}
-use Rattle.nesting.specs.declared.Structure.{Structure}
 use Rattle.index.specs.Index.{Lines}
 use Rattle.structure.specs.Rows.{lines_after, LineIs, ItemRows, FileRows}
-use Rattle.structure.specs.declared.Closed.{Closed}
-use Rattle.structure.specs.declared.Found.{Found}
-use Rattle.structure.specs.declared.Found.TheVariants.{Of, Full}
-use Rattle.structure.specs.declared.Closed.TheVariants.{At, Broken}
 
 -- the walk stands at line `first`, and `begun` components have begun
 pub record Ready (s index rows : List ℕ) (n first begun : ℕ) : Type 0 where
@@ -41,16 +37,16 @@ pub record Breaks (s name : List ℕ) (first begun left b : ℕ) : Type 0 where
   pub decided : (o : List (List ℕ)) → length o + left ≡ 8 → nesting_from (first + 1) (inside (name ∷ o) begun) (lines_after s first) ≡ bad_line b
 
 -- what reading a component answers
-unfoldable pub ClosesTo : List ℕ → List ℕ → List ℕ → List ℕ → ℕ → ℕ → ℕ → ℕ → Closed → Type 0
-ClosesTo s name old new n first begun left (At j m) = Closes s name old new n first begun left j m
-ClosesTo s name old new n first begun left (Broken b) = Breaks s name first begun left b
+unfoldable pub ClosesTo : List ℕ → List ℕ → List ℕ → List ℕ → ℕ → ℕ → ℕ → ℕ → Result (ℕ × ℕ) ℕ → Type 0
+ClosesTo s name old new n first begun left (Ok (j, m)) = Closes s name old new n first begun left j m
+ClosesTo s name old new n first begun left (Err b) = Breaks s name first begun left b
 
 -- what reading the structure answers: the first badly formed line, else the line that breaks the nesting, else index and rows know the file
-pub record StructureRead (s index rows : List ℕ) (r : Structure) : Type 0 where
+pub record StructureRead (s index rows : List ℕ) (r : Result (Unit {0}) StructureError) : Type 0 where
   pub structure_is : r ≡ structure_by (line_check s) (nesting_in s)
-  pub known : r ≡ Structure.Good → FileRows s index rows
+  pub known : r ≡ Ok tt → FileRows s index rows
 
 -- the same with an index that may be too short, and then has room for too few bytes
-unfoldable pub FoundBy : List ℕ → List ℕ → List ℕ → Found → Type 0
-FoundBy s index rows (Of x) = StructureRead s index rows x
-FoundBy s index rows Full = 4 * length index ≤ length s
+unfoldable pub FoundBy : List ℕ → List ℕ → List ℕ → Option (Result (Unit {0}) StructureError) → Type 0
+FoundBy s index rows (Some x) = StructureRead s index rows x
+FoundBy s index rows None = 4 * length index ≤ length s

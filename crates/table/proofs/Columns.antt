@@ -1,22 +1,22 @@
 -- The steps of adding on the two columns: the search for the first row, the taking in of rows,
--- elements moved to an earlier place or one place on, and what these come to together.
+-- one element put in the place of several, and what these come to together.
 use Prim.Native.Nat.{ℕ, zero, suc, ◌+◌, ◌-◌, ◌≤◌, ◌<◌, min, max}
 use mathlib.Core.Path.{◌≡◌, refl, sym, ap, ◌∙◌}
 use mathlib.Core.Bool.{Bool, true, false}
-use mathlib.Core.List.{List, [], ◌∷◌, ◌++◌}
+use mathlib.Core.List.{List, [], ◌∷◌, ◌++◌, append_assoc}
 use native.Mathlib.Nat.{le_refl}
 use native.Mathlib.Omega.{arith}
 use native.Mathlib.Numerals.{add-one}
 use lib.Dec.{ltb}
 use lib.ListN.{length, take, drop, get_or, length-take, set, length-drop, length-set}
-use lib.Seq.{take-take, length-take-le, drop-cons, take-suc, take-suc-set, take-set-le, drop-set-lt, drop-set-add, get_or-set_same, get_or-drop, get_or-take, set_split, take-add, take-append-add, drop-drop, drop_at}
+use lib.Seq.{take-take, length-take-le, set_split, take-add, take-append-add, take_at, drop_at, paste, length-paste}
 use borrow.Author.Tests.{ltb-true, lt-ltb, le-ltb, le-leb, lt-leb}
 use Rattle.periods.specs.declared.Period.{Period}
 use Rattle.periods.specs.Periods.{period}
 use Rattle.table.specs.declared.Widened.{Widened}
 use Rattle.table.specs.Inserting.{absorbed, inserted}
 use Rattle.table.specs.Tables.{rows, listed, Added}
-use Rattle.table.specs.Columns.{ends_before, Passed, TookIn, Spliced, Moved}
+use Rattle.table.specs.Columns.{ends_before, Passed, TookIn, Spliced}
 use Rattle.table.proofs.Tables.{take_next, take_end, rows_take, rows_drop, rows_append, rows_next}
 
 -- the ends that lie before a second
@@ -89,9 +89,9 @@ module _ {es : List ℕ} {n a i : ℕ} (p : Passing es n a i) where
   passing_found h k l =
       rw (← p.count, take_next es n i 0 h (omega arith)) (omega (arith, ends_after_holds a (get_or es i 0) (drop (i + 1) (take n es)) l))
 
-  pub passing_end : n ≤ i → i ≡ ends_before a (take n es)
+  pub passing_end : n ≤ i → n ≡ ends_before a (take n es)
   unfolding ends_before
-  passing_end h = rw (← p.count, take_end es n i h) (omega arith)
+  passing_end h = rw (← p.count, take_end es n i h) (omega (arith, p.upto))
 
 -- adding passes the rows that end before, and takes in from there on
 pub passes : (a b : ℕ) (ss es : List ℕ) → length ss ≡ length es
@@ -133,7 +133,7 @@ module _ {ss es : List ℕ} {n i a b next start end : ℕ} where
       }
 
   pub taking_stop : Taking ss es n i a b next start end → next < n → n ≤ length ss → n ≤ length es → end < get_or ss next 0
-      → TookIn ss es n i a b (record { next = next; start = start; end = end })
+      → TookIn ss es n i a b (record { next = next; span = record { start = start; end = end } })
   unfolding absorbed
   taking_stop t h k l m =
       record {
@@ -143,20 +143,25 @@ module _ {ss es : List ℕ} {n i a b next start end : ℕ} where
             sym t.list ∙ rw (rows_next ss es n next h (omega arith) (omega arith), lt-leb (get_or ss next 0) end m, absorbed);
       }
 
-  pub taking_end : Taking ss es n i a b next start end → n ≤ next → TookIn ss es n i a b (record { next = next; start = start; end = end })
+  pub taking_end : Taking ss es n i a b next start end → n ≤ next → TookIn ss es n i a b (record { next = n; span = record { start = start; end = end } })
   unfolding absorbed
-  taking_end t h = record { from = t.from; upto = t.upto; list = sym t.list ∙ rw (take_end (rows ss es) n next h) }
+  taking_end t h =
+      record {
+        from = omega (arith, t.from, t.upto);
+        upto = le_refl n;
+        list = sym t.list ∙ rw (take_end (rows ss es) n next h, take_end (rows ss es) n n (le_refl n));
+      }
 
 -- the rows that end before, the widened span, and the rows behind what it took in
 pub added_rows : {ss es us vs : List ℕ} {n i a b : ℕ} {w : Widened}
     → n ≤ length ss → n ≤ length es → i ≡ ends_before a (take n es) → TookIn ss es n i a b w
-    → Spliced ss us i w.next n w.start → Spliced es vs i w.next n w.end
+    → Spliced ss us i w.next n w.span.start → Spliced es vs i w.next n w.span.end
     → take (i + 1 + (n - w.next)) (rows us vs) ≡ inserted a b (take n (rows ss es))
 unfolding rows
 added_rows {ss} {es} {us} {vs} {n} {i} {a} {b} {w} h k e t p q =
     rows_take (i + 1 + (n - w.next)) us vs
     ∙ rw (p.list, q.list)
-    (rows_append (take i ss) (take i es) (w.start ∷ drop w.next (take n ss)) (w.end ∷ drop w.next (take n es)) lengths
+    (rows_append (take i ss) (take i es) (w.span.start ∷ drop w.next (take n ss)) (w.span.end ∷ drop w.next (take n es)) lengths
     ∙ rw (← rows_take i ss es, ← rows_drop w.next (take n ss) (take n es), ← rows_take n ss es, ← t.list, ← take-take i n (rows ss es) few)
     (rw (rows_take n ss es, e) (sym (passes a b (take n ss) (take n es) (length-take-le n ss h ∙ sym (length-take-le n es k))))))
   where
@@ -165,99 +170,6 @@ added_rows {ss} {es} {us} {vs} {n} {i} {a} {b} {w} h k e t p q =
 
     lengths : length (take i ss) ≡ length (take i es)
     lengths = omega (arith, length-take i ss, length-take i es, few)
-
--- the first m are at their place, and what is still to move stands where it stood
-pub record MovingLeft (c d : List ℕ) (to from m : ℕ) : Type 0 where
-  pub before : take to d ≡ take to c
-  pub moved : take m (drop to d) ≡ take m (drop from c)
-  pub rest : drop (from + m) d ≡ drop (from + m) c
-  pub long : length d ≡ length c
-
-pub left_start : (c : List ℕ) (to from : ℕ) → MovingLeft c c to from 0
-left_start c to from = record { before = refl; moved = refl; rest = refl; long = refl }
-
--- the element at a place is the first of what is left there
-at_drop : (c d : List ℕ) (k : ℕ) → drop k d ≡ drop k c → get_or d k 0 ≡ get_or c k 0
-at_drop c d k e = ap (λ (x : ℕ). get_or d x 0) (omega arith) ∙ sym (get_or-drop k d 0 0) ∙ ap (λ (l : List ℕ). get_or l 0 0) e ∙ get_or-drop k c 0 0 ∙ ap (λ (x : ℕ). get_or c x 0) (omega arith)
-
-after_drop : (c d : List ℕ) (k x : ℕ) → k + 1 ≡ x → drop k d ≡ drop k c → drop x d ≡ drop x c
-after_drop c d k x q e = rw (← q) (sym (drop-drop 1 k d) ∙ ap (λ (l : List ℕ). drop 1 l) e ∙ drop-drop 1 k c)
-
-pub left_more : {c d : List ℕ} {to from m : ℕ} → MovingLeft c d to from m → to ≤ from → from + m < length c
-    → MovingLeft c (set d (to + m) (get_or d (from + m) 0)) to from (m + 1)
-left_more {c} {d} {to} {from} {m} s h k =
-    record {
-      before = take-set-le to d (to + m) (get_or d (from + m) 0) (omega arith) ∙ s.before;
-      moved =
-          rw (drop-set-add to d m (get_or d (from + m) 0), add-one m)
-          (take-suc-set (drop to d) m (get_or d (from + m) 0) room
-          ∙ rw (s.moved, at_drop c d (from + m) s.rest, ← get_or-drop from c m 0)
-          (sym (take-suc (drop from c) m 0 there)));
-      rest =
-          drop-set-lt (from + (m + 1)) d (to + m) (get_or d (from + m) 0) (omega arith)
-          ∙ after_drop c d (from + m) (from + (m + 1)) (omega arith) s.rest;
-      long = length-set d (to + m) (get_or d (from + m) 0) ∙ s.long;
-    }
-  where
-    room : m < length (drop to d)
-    room = omega (arith, length-drop to d, s.long)
-
-    there : m < length (drop from c)
-    there = omega (arith, length-drop from c)
-
-pub left_end : {c d : List ℕ} {to from m many : ℕ} → MovingLeft c d to from m → m ≡ many → Moved c d to from many
-left_end s e = rw (← e) (record { before = s.before; moved = s.moved; long = s.long })
-
--- x are at the place after their own, and all up to k stand where they stood
-pub record MovingRight (c d : List ℕ) (k x : ℕ) : Type 0 where
-  pub rest : take (suc k) d ≡ take (suc k) c
-  pub moved : take x (drop (suc k) d) ≡ take x (drop k c)
-  pub long : length d ≡ length c
-
-pub right_start : (c : List ℕ) (k : ℕ) {x : ℕ} → x ≡ 0 → MovingRight c c k x
-right_start c k e = record { rest = refl; moved = rw e; long = refl }
-
-drop_set : (d : List ℕ) (k v : ℕ) → k < length d → drop k (set d k v) ≡ v ∷ drop (suc k) d
-drop_set d k v h =
-    drop-cons (set d k v) k 0 (omega (arith, length-set d k v))
-    ∙ rw (get_or-set_same d k v 0 h, drop-set-lt (suc k) d k v (omega arith))
-
-right_step : {c d : List ℕ} {k x : ℕ} → MovingRight c d (suc k) x → suc k < length c → MovingRight c (set d (suc k) (get_or d k 0)) k (suc x)
-right_step {c} {d} {k} {x} s h =
-    record {
-      rest =
-          take-set-le (suc k) d (suc k) (get_or d k 0) (omega arith)
-          ∙ sym (take-take (suc k) (suc (suc k)) d (omega arith))
-          ∙ ap (λ (l : List ℕ). take (suc k) l) s.rest
-          ∙ take-take (suc k) (suc (suc k)) c (omega arith);
-      moved =
-          rw (drop_set d (suc k) (get_or d k 0) (omega (arith, s.long)), drop-cons c k 0 (omega arith))
-          (rw (s.moved, same) refl);
-      long = length-set d (suc k) (get_or d k 0) ∙ s.long;
-    }
-  where
-    same : get_or d k 0 ≡ get_or c k 0
-    same =
-        sym (get_or-take (suc (suc k)) d k 0 (omega arith))
-        ∙ ap (λ (l : List ℕ). get_or l k 0) s.rest
-        ∙ get_or-take (suc (suc k)) c k 0 (omega arith)
-
-pub right_more : {c d : List ℕ} (k : ℕ) {x y : ℕ} → MovingRight c d k x → 0 < k → k < length c → suc x ≡ y
-    → MovingRight c (set d k (get_or d (k - 1) 0)) (k - 1) y
-right_more zero s h i e = absurd (omega arith)
-right_more (suc k) {x} {y} s h i e = rw (back, ← e) (right_step s i)
-  where
-    back : suc k - 1 ≡ k
-    back = omega arith
-
-pub right_end : {c d : List ℕ} {k x from many : ℕ} → MovingRight c d k x → k ≡ from → x ≡ many → Moved c d (from + 1) from many
-right_end {k = k} s p q = rw (← p, ← q, add-one k) (record { before = s.rest; moved = s.moved; long = s.long })
-
--- where i and j are one place
-pub next_place : {c d : List ℕ} {i j m : ℕ} → i ≤ j → j ≤ i → Moved c d (j + 1) j m → Moved c d (i + 1) j m
-next_place {i = i} {j = j} h k s =
-    let same : i ≡ j = omega arith in
-    rw same s
 
 drop_take : (j n : ℕ) (c : List ℕ) → j ≤ n → n ≤ length c → drop j (take n c) ≡ take (n - j) (drop j c)
 drop_take j n c h k =
@@ -268,28 +180,46 @@ drop_take j n c h k =
     whole : n ≡ j + (n - j)
     whole = omega arith
 
--- the rest was moved next to place i, and v is stored there
-pub spliced : {c d : List ℕ} {i j n : ℕ} (v : ℕ) → Moved c d (i + 1) j (n - j) → i ≤ j → j ≤ n → n < length c → Spliced c (set d i v) i j n v
-spliced {c} {d} {i} {j} {n} v m h k l =
+-- the elements from j up to n were copied to the place behind i, and v is stored at i
+pub spliced : {c d : List ℕ} {i j n : ℕ} (v : ℕ) → d ≡ paste c (i + 1) (drop j c) (n - j) → i ≤ j → j ≤ n → n < length c
+    → Spliced c (set d i v) i j n v
+spliced {c} {d} {i} {j} {n} v e h k l =
     record {
       list =
           rw (set_split d i v inside, many)
           (take-append-add (take i d) (v ∷ drop (suc i) d) (suc (n - j))
-          ∙ rw (drop_take j n c k (omega arith), before, ← add-one i, m.moved));
-      long = length-set d i v ∙ m.long;
+          ∙ rw (drop_take j n c k (omega arith), before, ← add-one i, moved));
+      long = length-set d i v ∙ long;
     }
   where
+    front : length (take (i + 1) c) ≡ i + 1
+    front = length-take-le (i + 1) c (omega arith)
+
+    copied : length (take (n - j) (drop j c)) ≡ n - j
+    copied = length-take-le (n - j) (drop j c) (omega (arith, length-drop j c))
+
+    long : length d ≡ length c
+    long = rw e (length-paste c (i + 1) (drop j c) (n - j) (omega arith) (omega (arith, length-drop j c)))
+
+    parts : d ≡ take (i + 1) c ++ (take (n - j) (drop j c) ++ drop (i + 1 + (n - j)) c)
+    parts = e ∙ append_assoc (take (i + 1) c) (take (n - j) (drop j c)) (drop (i + 1 + (n - j)) c)
+
     inside : i < length d
-    inside = omega (arith, m.long)
+    inside = omega (arith, long)
 
     many : i + 1 + (n - j) ≡ length (take i d) + suc (n - j)
-    many = omega (arith, length-take-le i d (omega (arith, m.long)))
+    many = omega (arith, length-take-le i d (omega (arith, long)))
 
     before : take i d ≡ take i c
     before =
         sym (take-take i (i + 1) d (omega arith))
-        ∙ ap (λ (x : List ℕ). take i x) m.before
-        ∙ take-take i (i + 1) c (omega arith)
+        ∙ rw (parts, take_at (take (i + 1) c) (take (n - j) (drop j c) ++ drop (i + 1 + (n - j)) c) (i + 1) front)
+        (take-take i (i + 1) c (omega arith))
+
+    moved : take (n - j) (drop (i + 1) d) ≡ take (n - j) (drop j c)
+    moved =
+        rw (parts, drop_at (take (i + 1) c) (take (n - j) (drop j c) ++ drop (i + 1 + (n - j)) c) (i + 1) front)
+        (take_at (take (n - j) (drop j c)) (drop (i + 1 + (n - j)) c) (n - j) copied)
 
 -- rows that end before still do where others follow them
 ends_kept : (a : ℕ) (es rest : List ℕ) → ends_before a es ≤ ends_before a (take (ends_before a es) es ++ rest)
@@ -316,7 +246,7 @@ passed a {es} {vs} {i} {j} {n} {v} e p =
 -- the rows that end before, the widened span, and the rows behind it are the list with the span added
 pub added : (n : ℕ) {ss es : List ℕ} → n < length ss → length es ≡ length ss → {a b i : ℕ} {w : Widened} {us vs : List ℕ}
     → i ≡ ends_before a (take n es) → TookIn ss es n i a b w
-    → Spliced ss us i w.next n w.start → Spliced es vs i w.next n w.end
+    → Spliced ss us i w.next n w.span.start → Spliced es vs i w.next n w.span.end
     → Added (record { count = n; starts = ss; ends = es }) a b (record { count = i + 1 + (n - w.next); starts = us; ends = vs })
 unfolding listed
 added n room even e took p q =

@@ -4,3 +4,4 @@ pub mod Tables
 pub mod Columns
 pub mod SecondsLaws
 pub mod Examples
+pub mod Spans

@@ -102,7 +102,7 @@ module _ (k n : ℕ) (ss es : List ℕ) where
   table_fits g h = omega (arith, g.few, length-drop k ss)
 
   -- rows are the first ones of what is left from their place on
-  listed_at : listed (table_at k n ss es) ≡ rows (take n (drop k ss)) (take n (drop k es))
+  pub listed_at : listed (table_at k n ss es) ≡ rows (take n (drop k ss)) (take n (drop k es))
   unfolding listed
   listed_at = rows_take n (drop k ss) (drop k es)
 

@@ -19,13 +19,7 @@ Passed t es = t.passed ≤ ends_before t.start (take t.count es)
 pub record TookIn (ss es : List ℕ) (n i a b : ℕ) (w : Widened) : Type 0 where
   pub from : i ≤ w.next
   pub upto : w.next ≤ n
-  pub list : absorbed a b (drop i (take n (rows ss es))) ≡ period w.start w.end ∷ drop w.next (take n (rows ss es))
-
--- elements of a column were moved: as many as told, to one place from another
-pub record Moved (c d : List ℕ) (to from many : ℕ) : Type 0 where
-  pub before : take to d ≡ take to c
-  pub moved : take many (drop to d) ≡ take many (drop from c)
-  pub long : length d ≡ length c
+  pub list : absorbed a b (drop i (take n (rows ss es))) ≡ period w.span.start w.span.end ∷ drop w.next (take n (rows ss es))
 
 -- of the first n of a column, v stands for those from i up to j
 pub record Spliced (c d : List ℕ) (i j n v : ℕ) : Type 0 where

@@ -1,8 +1,9 @@
 -- The period table of one busy type: how two columns are a list of periods.
-use Rattle.std.specs.Prelude.{ℕ, ◌+◌, ◌≤◌, ◌≡◌, List, [], ◌∷◌, length, take, drop}
+use Rattle.std.specs.Prelude.{ℕ, ◌+◌, ◌≤◌, ◌≡◌, List, [], ◌∷◌, map, length, take, drop}
 use Rattle.periods.specs.declared.Period.{Period}
 use Rattle.periods.specs.Periods.{period}
 use Rattle.table.specs.Inserting.{inserted}
+use Rattle.table.specs.declared.Span.{Span}
 use Rattle.table.specs.declared.Table.{Table}
 
 -- the periods of two columns, row by row
@@ -11,13 +12,20 @@ rows [] es = []
 rows (s ∷ ss) [] = []
 rows (s ∷ ss) (e ∷ es) = period s e ∷ rows ss es
 
+-- the two columns of spans
+abbrev pub starts_of : List Span → List ℕ
+starts_of = map (λ (s : Span). s.start)
+
+abbrev pub ends_of : List Span → List ℕ
+ends_of = map (λ (s : Span). s.end)
+
 -- a table with its columns: the first rows, as many as it counts
 pub record PeriodTable : Type 0 where
   pub count : ℕ
   pub starts : List ℕ
   pub ends : List ℕ
 
--- the code's table, with the columns that are lent beside it
+-- the code's table, with the columns of the spans that are lent beside it
 abbrev pub table_of : Table → List ℕ → List ℕ → PeriodTable
 table_of t ss es = record { count = t.count; starts = ss; ends = es }
 

@@ -4,12 +4,19 @@
 
 pub mod seconds;
 
-ghost use Rattle.std.specs.Prelude.{◌≡◌, ◌+◌, ◌-◌, ◌≤◌, ◌<◌, min, max, length, take};
-ghost use Rattle.table.specs.Tables.{table_of, Added};
-ghost use Rattle.table.specs.Columns.{ends_before, Passed, TookIn, Moved, Spliced};
+ghost use Rattle.std.specs.Prelude.{◌≡◌, ◌+◌, ◌-◌, ◌≤◌, ◌<◌, length, take};
+ghost use Rattle.table.specs.Tables.{starts_of, ends_of, table_of, Added};
+ghost use Rattle.table.specs.Columns.{ends_before, Passed, TookIn, Spliced};
 
-// So many periods, which stand first in two columns: of starts and of ends. The columns are lent beside the table,
-// since a table that held them would be copied whole each time it is handed over.
+// A span of seconds, up to, but not including, its end: four bytes each, since every report call clears room for 512.
+#[derive(Clone, Copy)]
+pub struct Span {
+    pub start: u32,
+    pub end: u32,
+}
+
+// So many periods, which stand first in a slice of spans. The slice is lent beside the table,
+// since a table that held it would be copied whole each time it is handed over.
 // The span added last went behind the first `passed` periods, which end before its start: one that starts no sooner
 // is looked for from there on.
 #[derive(Clone, Copy)]
@@ -23,119 +30,71 @@ pub struct Table {
 #[derive(Clone, Copy)]
 struct Widened {
     next: usize,
-    start: u32,
-    end: u32,
-}
-
-fn lesser_of(a: u32, b: u32) -> u32
-    ensures { result ≡ min a b }
-{
-    if b < a { b } else { a }
-}
-
-fn greater_of(a: u32, b: u32) -> u32
-    ensures { result ≡ max a b }
-{
-    if a < b { b } else { a }
+    span: Span,
 }
 
 // How many of the first n rows end before a second, where `passed` are known to end before `start`.
-fn skip(ends: &[u32], n: usize, passed: usize, start: u32, from: u32) -> usize
-    requires n_in_bounds { n ≤ length ends.now }
-    requires passed_bound { passed ≤ ends_before start (take n ends.now) }
-    ensures { result ≡ ends_before from (take n ends.now) }
+// A walk and no `partition_point`: the contract of `add`, which may not ask more, does not say that the ends rise.
+fn skip(spans: &[Span], n: usize, passed: usize, start: u32, from: u32) -> usize
+    requires n_in_bounds { n ≤ length spans.now }
+    requires passed_bound { passed ≤ ends_before start (take n (ends_of spans.now)) }
+    ensures { result ≡ ends_before from (take n (ends_of spans.now)) }
 {
-    let mut i = 0;
-    if start <= from {
-        i = passed;
-    }
-    while i < n {
-        if from <= ends[i] {
+    let first = if start <= from { passed } else { 0 };
+    for i in first..n {
+        if from <= spans[i].end {
             return i;
         }
-        i += 1;
     }
-    i
+    n
 }
 
 // Rows from i on that the span overlaps or touches become one with it.
-fn take_in(starts: &[u32], ends: &[u32], n: usize, i: usize, from: u32, to: u32) -> Widened
-    requires { (i ≤ n) × (n ≤ length starts.now) × (n ≤ length ends.now) }
-    ensures { TookIn starts.now ends.now n i from to result }
+fn take_in(spans: &[Span], n: usize, i: usize, from: u32, to: u32) -> Widened
+    requires { (i ≤ n) × (n ≤ length spans.now) }
+    ensures { TookIn (starts_of spans.now) (ends_of spans.now) n i from to result }
 {
-    let mut next = i;
     let mut start = from;
     let mut end = to;
-    while next < n {
-        if end < starts[next] {
-            return Widened { next, start, end };
+    for next in i..n {
+        let row = spans[next];
+        if end < row.start {
+            return Widened {
+                next,
+                span: Span { start, end },
+            };
         }
-        start = lesser_of(start, starts[next]);
-        end = greater_of(end, ends[next]);
-        next += 1;
+        start = start.min(row.start);
+        end = end.max(row.end);
     }
-    Widened { next, start, end }
-}
-
-// Elements to an earlier place, first to last.
-fn move_left(column: &mut [u32], to: usize, from: usize, many: usize)
-    requires { (to ≤ from) × (from + many ≤ length column.old) }
-    ensures { Moved column.old column.new to from many }
-{
-    let mut m = 0;
-    while m < many {
-        column[to + m] = column[from + m];
-        m += 1;
+    Widened {
+        next: n,
+        span: Span { start, end },
     }
 }
 
-// Elements to the next place, last to first.
-fn move_right(column: &mut [u32], from: usize, many: usize)
-    requires { from + many < length column.old }
-    ensures { Moved column.old column.new (from + 1) from many }
+// Of the first n rows, one stands for those from i up to j.
+fn splice(spans: &mut [Span], i: usize, j: usize, n: usize, v: Span)
+    requires { (i ≤ j) × (j ≤ n) × (n < length spans.old) }
+    ensures { Spliced (starts_of spans.old) (starts_of spans.new) i j n v.start × Spliced (ends_of spans.old) (ends_of spans.new) i j n v.end }
 {
-    let mut k = from + many;
-    while from < k {
-        column[k] = column[k - 1];
-        k -= 1;
-    }
-}
-
-// Of the first n elements, those from j on go to the place behind i.
-fn make_room(column: &mut [u32], i: usize, j: usize, n: usize)
-    requires { (i ≤ j) × (j ≤ n) × (n < length column.old) }
-    ensures { Moved column.old column.new (i + 1) j (n - j) }
-{
-    if i < j {
-        move_left(column, i + 1, j, n - j);
-        return;
-    }
-    move_right(column, j, n - j)
-}
-
-// Of the first n elements, one stands for those from i up to j.
-fn splice(column: &mut [u32], i: usize, j: usize, n: usize, v: u32)
-    requires { (i ≤ j) × (j ≤ n) × (n < length column.old) }
-    ensures { Spliced column.old column.new i j n v }
-{
-    make_room(column, i, j, n);
-    column[i] = v;
+    spans.copy_within(j..n, i + 1);
+    spans[i] = v;
 }
 
 impl Table {
     // A span of seconds put in: rows that it overlaps or touches become one with it.
-    pub fn add(mut self, starts: &mut [u32], ends: &mut [u32], from: u32, to: u32) -> Table
-        requires count_in_bounds { (self.count < length starts.old) × (length ends.old ≡ length starts.old) }
-        requires passed { Passed self ends.old }
-        ensures added { Added (table_of self starts.old ends.old) from to (table_of result starts.new ends.new) }
-        ensures passed_2 { Passed result ends.new }
+    pub fn add(mut self, spans: &mut [Span], from: u32, to: u32) -> Table
+        requires count_in_bounds { self.count < length spans.old }
+        requires passed { Passed self (ends_of spans.old) }
+        ensures added { Added (table_of self (starts_of spans.old) (ends_of spans.old)) from to (table_of result (starts_of spans.new) (ends_of spans.new)) }
+        ensures passed_2 { Passed result (ends_of spans.new) }
     {
         let n = self.count;
-        let i = skip(ends, n, self.passed, self.start, from);
-        let w = take_in(starts, ends, n, i, from, to);
+        let i = skip(spans, n, self.passed, self.start, from);
+        let w = take_in(spans, n, i, from, to);
         let j = w.next;
-        splice(starts, i, j, n, w.start);
-        splice(ends, i, j, n, w.end);
+        splice(spans, i, j, n, w.span);
         self.count = i + 1 + (n - j);
         self.passed = i;
         self.start = from;

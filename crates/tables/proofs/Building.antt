@@ -1,7 +1,7 @@
 -- Going over the pieces in a column makes the table of a type, and what that lists: the runs of the seconds that its pieces cover.
 use Prim.Native.Nat.{ℕ, zero, suc, ◌+◌, ◌-◌, ◌*◌, ◌≤◌, ◌<◌}
 use mathlib.Core.Path.{◌≡◌, refl, sym, ap, ◌∙◌}
-use mathlib.Core.List.{List, [], ◌∷◌, ◌++◌, append-nil, Memᴰ}
+use mathlib.Core.List.{List, [], ◌∷◌, ◌++◌, append-nil, map, Memᴰ}
 use native.Mathlib.Numerals.{unary_clauses}
 use native.Mathlib.Omega.{arith}
 use lib.ListN.{length, take, drop, get_or, length-drop, drop_of_length-le}
@@ -10,7 +10,10 @@ use Rattle.ascii.proofs.Lists.{drop_next}
 use Rattle.periods.specs.declared.Period.{Period}
 use Rattle.periods.specs.Periods.{period}
 use Rattle.table.specs.Inserting.{inserted_all}
-use Rattle.table.specs.Tables.{PeriodTable, listed, Sound, Added}
+use Rattle.std.proofs.lemmas.List.{take-map, drop-map}
+use Rattle.table.specs.declared.Span.{Span}
+use Rattle.table.proofs.Spans.{starts_long, ends_long}
+use Rattle.table.specs.Tables.{starts_of, ends_of, PeriodTable, listed, Sound, Added}
 use Rattle.tables.specs.Building.{periods_at, Built, BuiltAt}
 use mathlib.Core.Bool.{Bool, true, false}
 use lib.Dec.{eqb}
@@ -69,6 +72,9 @@ building_start {c} {n} {k} ss es e =
     }
 
 module _ {c : List ℕ} {n k m : ℕ} {t : PeriodTable} {i at : ℕ} (b : Building c n k m t i at) where
+  next : 3 * (i + 1) ≡ at + 3
+  next = omega (arith, b.place)
+
   -- the next piece is inside the column
   building_room : i < n → 3 * n ≤ length c → at + 3 ≤ length c
   building_room h l = omega (arith, b.place)
@@ -78,10 +84,11 @@ module _ {c : List ℕ} {n k m : ℕ} {t : PeriodTable} {i at : ℕ} (b : Buildi
   building_asks h l e r = (omega (arith, b.count, ap length (periods_here c k n i at h (building_room h l) e), b.long), b.sound.even)
 
   pub building_added : i < n → 3 * n ≤ length c → get_or c (at + 2) 0 ≡ k → {r : PeriodTable} → Added t (get_or c at 0) (get_or c (at + 1) 0) r
-      → length r.starts ≡ m → Building c n k m r (i + 1) (at + 3)
+      → length r.starts ≡ m → Building c n k m r (i + 1) (3 * (i + 1))
   unfolding inserted_all
   building_added h l e d q =
-      record {
+      rw next
+      (record {
         upto = omega arith;
         place = omega (arith, b.place);
         list = ap (λ (qs : List Period). inserted_all qs (periods_at k (n - (i + 1)) (drop (at + 3) c))) d.list
@@ -90,18 +97,19 @@ module _ {c : List ℕ} {n k m : ℕ} {t : PeriodTable} {i at : ℕ} (b : Buildi
         count = omega (arith, b.count, d.count, ap length (periods_here c k n i at h (building_room h l) e));
         sound = d.sound;
         long = q;
-      }
+      })
 
-  pub building_passed : i < n → 3 * n ≤ length c → (get_or c (at + 2) 0 ≡ k → ⊥) → Building c n k m t (i + 1) (at + 3)
+  pub building_passed : i < n → 3 * n ≤ length c → (get_or c (at + 2) 0 ≡ k → ⊥) → Building c n k m t (i + 1) (3 * (i + 1))
   building_passed h l e =
-      record {
+      rw next
+      (record {
         upto = omega arith;
         place = omega (arith, b.place);
         list = sym (ap (λ (ps : List Period). inserted_all (listed t) ps) (periods_other c k n i at h (building_room h l) e)) ∙ b.list;
         count = omega (arith, b.count, ap length (periods_other c k n i at h (building_room h l) e));
         sound = b.sound;
         long = b.long;
-      }
+      })
 
   pub building_end : n ≤ i → Built c n k t
   unfolding periods_at inserted_all
@@ -115,32 +123,38 @@ module _ {c : List ℕ} {n k m : ℕ} {t : PeriodTable} {i at : ℕ} (b : Buildi
 -- ---- from a row on
 
 -- what a part from row k on became, behind the rows before it
-abbrev whole : List ℕ → List ℕ → ℕ → List ℕ
-whole s ys k = take k s ++ (ys ++ drop (length s - k) (drop k s))
+module _ {A : Type 0} where
+  abbrev whole : List A → List A → ℕ → List A
+  whole s ys k = take k s ++ (ys ++ drop (length s - k) (drop k s))
 
-module _ (s ys : List ℕ) (k : ℕ) (h : k ≤ length s) where
-  part_left : drop k (whole s ys k) ≡ ys
-  part_left =
-      let none : length (drop k s) ≤ length s - k = omega (arith, length-drop k s) in
-      drop_at (take k s) (ys ++ drop (length s - k) (drop k s)) k (length-take-le k s h)
-      ∙ ap (λ (l : List ℕ). ys ++ l) (drop_of_length-le (drop k s) none)
-      ∙ append-nil ys
+  module _ (s ys : List A) (k : ℕ) (h : k ≤ length s) where
+    part_left : drop k (whole s ys k) ≡ ys
+    part_left =
+        let none : length (drop k s) ≤ length s - k = omega (arith, length-drop k s) in
+        drop_at (take k s) (ys ++ drop (length s - k) (drop k s)) k (length-take-le k s h)
+        ∙ ap (λ (l : List A). ys ++ l) (drop_of_length-le (drop k s) none)
+        ∙ append-nil ys
 
-  part_before : take k (whole s ys k) ≡ take k s
-  part_before = take_at (take k s) (ys ++ drop (length s - k) (drop k s)) k (length-take-le k s h)
+    part_before : take k (whole s ys k) ≡ take k s
+    part_before = take_at (take k s) (ys ++ drop (length s - k) (drop k s)) k (length-take-le k s h)
 
-pub built_at : {c : List ℕ} {n k : ℕ} (first m : ℕ) (ss es ys zs : List ℕ) → first ≤ length ss → length es ≡ length ss
-    → length (whole ss ys first) ≡ length ss → length (whole es zs first) ≡ length es
-    → Built c n k (record { count = m; starts = ys; ends = zs })
-    → BuiltAt c n k first ss es m (whole ss ys first) (whole es zs first)
-built_at {c} {n} {k} first m ss es ys zs h e p q d =
+pub built_at : {c : List ℕ} {n k : ℕ} (first m : ℕ) (ss ys : List Span) → first ≤ length ss → length (whole ss ys first) ≡ length ss
+    → Built c n k (record { count = m; starts = starts_of ys; ends = ends_of ys })
+    → BuiltAt c n k first (starts_of ss) (ends_of ss) m (starts_of (whole ss ys first)) (ends_of (whole ss ys first))
+built_at {c} {n} {k} first m ss ys h long d =
     record {
-      built = rw (part_left ss ys first h, part_left es zs first (omega arith)) d;
-      starts_before_holds = part_before ss ys first h;
-      ends_before_holds = part_before es zs first (omega arith);
-      starts_long = p;
-      ends_long = q;
+      built = rw (left (λ (s : Span). s.start), left (λ (s : Span). s.end)) d;
+      starts_before_holds = before (λ (s : Span). s.start);
+      ends_before_holds = before (λ (s : Span). s.end);
+      starts_long = starts_long (whole ss ys first) ∙ long ∙ sym (starts_long ss);
+      ends_long = ends_long (whole ss ys first) ∙ long ∙ sym (ends_long ss);
     }
+  where
+    left : (f : Span → ℕ) → drop first (map f (whole ss ys first)) ≡ map f ys
+    left f = drop-map f first (whole ss ys first) ∙ ap (map f) (part_left ss ys first h)
+
+    before : (f : Span → ℕ) → take first (map f (whole ss ys first)) ≡ take first (map f ss)
+    before f = take-map f first (whole ss ys first) ∙ ap (map f) (part_before ss ys first h) ∙ sym (take-map f first ss)
 
 -- the order of two numbers does not matter to their equality
 eqb_turned : (a b : ℕ) → eqb a b ≡ eqb b a

@@ -1,4 +1,5 @@
 -- Laws of content lines: where each line ends, that cutting loses no byte, and that lines written with CR LF are read back.
+use Rattle.std.specs.Prelude.{None, Option, Some}
 use Prim.Native.Nat.{ℕ, zero, suc, ◌+◌, ◌-◌, ◌≤◌, ◌<◌}
 use mathlib.Core.Path.{◌≡◌, refl, sym, ap, subst, ◌∙◌}
 use mathlib.Core.Bool.{Bool, true, false, not}
@@ -11,11 +12,7 @@ use borrow.Author.Tests.{eqb-true, not-true, ne_eqb, ltb-true, ltb-false}
 use Rattle.ascii.proofs.Bools.{and_left, and_right, and_both, not_so}
 use Rattle.ascii.proofs.Lists.{drop_next, drop_end}
 use Rattle.text.specs.Unfolding.{is_break, is_blank, is_fold, unfolded, Nowhere, no_fold}
-use Rattle.text.specs.Lines.{CutLines, end, unended, line, grow, cut, break_at, part, LineAt, UnendedAt, NothingAt, EndsAt, line_count, bytes_of, joined, lines_of, all_lines, content_lines, LineFrom, NoLineFrom, StepsTo, every_line, holds_no_cr, no_leading_blank, is_whole_line}
-use Rattle.text.specs.declared.LineEnd.{LineEnd}
-use Rattle.text.specs.declared.LineEnd.TheVariants.{At, Unended, None}
-use Rattle.text.specs.declared.Span.{Span}
-use Rattle.text.specs.declared.Span.TheVariants.{Line, End}
+use Rattle.text.specs.Lines.{CutLines, end, unended, line, grow, cut, break_at, part, LineAt, UnendedAt, NothingAt, line_count, bytes_of, joined, lines_of, all_lines, content_lines, LineFrom, NoLineFrom, StepsTo, every_line, holds_no_cr, no_leading_blank, is_whole_line}
 use Rattle.text.proofs.Unfolding.{unfolded_same, get_d_inside, nowhere_next}
 
 -- at CR LF a line ends, and any other byte belongs to the first piece of what follows
@@ -103,8 +100,7 @@ no_break_pieces {s} {from} {i} p =
     passed_pieces s from (i - from) (omega (arith, p.inside)) (λ k a b. p.none k a (omega arith))
     ∙ ap (λ (k : ℕ). grown (part s from i) (cut (drop k s))) end
 
-pub searched_found : {s : List ℕ} {from i : ℕ} → Nowhere break_at s from i → break_at s i ≡ true → EndsAt s from (At i)
-unfolding EndsAt
+pub searched_found : {s : List ℕ} {from i : ℕ} → Nowhere break_at s from i → break_at s i ≡ true → LineAt s from i
 searched_found {s} {from} {i} p e = record {
   starts = p.order;
   inside = break_inside s i e;
@@ -116,8 +112,7 @@ searched_found {s} {from} {i} p e = record {
 }
 
 -- at the end all bytes belong to one piece; the last byte alone begins no CR LF
-searched_all : {s : List ℕ} {from i : ℕ} → from < length s → Nowhere break_at s from i → length s ≤ i → EndsAt s from Unended
-unfolding EndsAt
+searched_all : {s : List ℕ} {from i : ℕ} → from < length s → Nowhere break_at s from i → length s ≤ i → UnendedAt s from
 searched_all {s} {from} {i} g p h =
     let none : drop i s ≡ [] = drop_end s i h in
     let first : drop from s ≡ get_or s from 0 ∷ drop (from + 1) s = drop_next s from g in
@@ -134,29 +129,15 @@ searched_all {s} {from} {i} g p h =
           ∙ ap unended (sym first);
     }
 
-pub searched_end : {s : List ℕ} {from i : ℕ} → from < length s → Nowhere break_at s from i → length s ≤ i + 1 → EndsAt s from Unended
+pub searched_end : {s : List ℕ} {from i : ℕ} → from < length s → Nowhere break_at s from i → length s ≤ i + 1 → UnendedAt s from
 searched_end {s} {from} {i} g p h = go (ltb i (length s)) refl
   where
-    go : (t : Bool) → ltb i (length s) ≡ t → EndsAt s from Unended
+    go : (t : Bool) → ltb i (length s) ≡ t → UnendedAt s from
     go true q = searched_all g (nowhere_next p (ltb-true i (length s) q) (not_so (break_at s i) (λ e. omega (arith, break_inside s i e)))) h
     go false q = searched_all g p (ltb-false i (length s) q)
 
-pub searched_none : (s : List ℕ) (from : ℕ) → length s ≤ from → EndsAt s from None
-unfolding EndsAt
+pub searched_none : (s : List ℕ) (from : ℕ) → length s ≤ from → NothingAt s from
 searched_none s from h = record { past = h; cuts = ap cut (drop_end s from h) ∙ cut_none }
-
--- what a caller learns from each answer
-pub line_at : {s : List ℕ} {from : ℕ} {r : LineEnd} (e : ℕ) → EndsAt s from r → r ≡ At e → LineAt s from e
-unfolding EndsAt
-line_at {s} {from} e h q = subst (EndsAt s from) q h
-
-pub unended_at : {s : List ℕ} {from : ℕ} {r : LineEnd} → EndsAt s from r → r ≡ Unended → UnendedAt s from
-unfolding EndsAt
-unended_at {s} {from} h q = subst (EndsAt s from) q h
-
-pub nothing_at : {s : List ℕ} {from : ℕ} {r : LineEnd} → EndsAt s from r → r ≡ None → NothingAt s from
-unfolding EndsAt
-nothing_at {s} {from} h q = subst (EndsAt s from) q h
 
 -- the place where a line ends is the first CR LF: it stands there, and nowhere before
 pub record FirstBreak (s : List ℕ) (from e : ℕ) : Type 0 where
@@ -312,7 +293,7 @@ pub content_lines_none : content_lines [] ≡ []
 unfolding content_lines
 content_lines_none = ap all_lines cut_none
 
-pub steps_at : {s : List ℕ} {from e : ℕ} → LineAt s from e → StepsTo s from (Line e (e + 2))
+pub steps_at : {s : List ℕ} {from e : ℕ} → LineAt s from e → StepsTo s from (Some (e, (e + 2)))
 unfolding StepsTo content_lines
 steps_at {s} {from} {e} h =
     record {
@@ -323,7 +304,7 @@ steps_at {s} {from} {e} h =
       lines = ap all_lines h.cuts;
     }
 
-pub steps_last : {s : List ℕ} {from : ℕ} → UnendedAt s from → StepsTo s from (Line (length s) (length s))
+pub steps_last : {s : List ℕ} {from : ℕ} → UnendedAt s from → StepsTo s from (Some ((length s), (length s)))
 unfolding StepsTo content_lines
 steps_last {s} {from} h =
     let whole : part s from (length s) ≡ drop from s = take_all (length s - from) (drop from s) (simp length-drop (omega arith)) in
@@ -339,15 +320,15 @@ steps_last {s} {from} h =
           (sym (ap (λ (l : List ℕ). all_lines (cut l)) (drop_end s (length s) (omega arith)) ∙ ap all_lines cut_none));
     }
 
-pub steps_none : {s : List ℕ} {from : ℕ} → NothingAt s from → StepsTo s from End
+pub steps_none : {s : List ℕ} {from : ℕ} → NothingAt s from → StepsTo s from None
 unfolding StepsTo content_lines
 steps_none h = record { past = h.past; lines = ap all_lines h.cuts }
 
 -- what a caller knows of each answer
-pub line_from : {s : List ℕ} {from : ℕ} {r : Span} (e next : ℕ) → StepsTo s from r → r ≡ Line e next → LineFrom s from e next
+pub line_from : {s : List ℕ} {from : ℕ} {r : Option (ℕ × ℕ)} (e next : ℕ) → StepsTo s from r → r ≡ Some (e, next) → LineFrom s from e next
 unfolding StepsTo
-line_from {s} {from} e next h q = subst (λ (x : Span). StepsTo s from x) q h
+line_from {s} {from} e next h q = subst (λ (x : Option (ℕ × ℕ)). StepsTo s from x) q h
 
-pub no_line_from : {s : List ℕ} {from : ℕ} {r : Span} → StepsTo s from r → r ≡ End → NoLineFrom s from
+pub no_line_from : {s : List ℕ} {from : ℕ} {r : Option (ℕ × ℕ)} → StepsTo s from r → r ≡ None → NoLineFrom s from
 unfolding StepsTo
-no_line_from {s} {from} h q = subst (λ (x : Span). StepsTo s from x) q h
+no_line_from {s} {from} h q = subst (λ (x : Option (ℕ × ℕ)). StepsTo s from x) q h

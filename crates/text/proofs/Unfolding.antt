@@ -5,8 +5,10 @@ use mathlib.Core.Bool.{Bool, true, false, not, ◌||◌}
 use mathlib.Core.List.{List, [], ◌∷◌, ◌++◌, append-nil, append_assoc}
 use native.Mathlib.Omega.{arith}
 use lib.Dec.{ltb}
-use lib.ListN.{length, length-append, length-drop, take, drop, get_or, set, length-set, take-append-drop}
-use lib.Seq.{get_or-drop, length-take-le, drop-drop, take_at, paste, paste-zero, paste-suc, length-paste, take-paste, drop-paste}
+use lib.ListN.{length, length-append, length-drop, take, drop, get_or, take-append-drop}
+use lib.Seq.{get_or-drop, length-take-le, take-take, drop-drop, take_at, paste, length-paste, take-paste, drop-paste}
+use Rattle.std.proofs.lemmas.Slice.{put_mid-paste}
+use borrow.Rule.Slice.PartMut.{put_mid}
 use borrow.Author.Tests.{not-true, ne_eqb, ltb-true, ltb-false}
 use Rattle.ascii.proofs.Bools.{and_left, and_right, or_left, or_right, clash, not_so}
 use Rattle.ascii.proofs.Lists.{drop_next, drop_end}
@@ -215,34 +217,12 @@ unfolded_run s (suc m) i h f =
     ∙ ap (λ (l : List ℕ). get_or s i 0 ∷ l) (unfolded_run s m (i + 1) (omega arith) (λ k a b. f k (omega arith) (omega arith)))
     ∙ unfolded_kept_at s i (omega arith) (f i (omega arith) (omega arith))
 
--- the copy of a run: its first k bytes stand at their place
-pub record Copied (old : List ℕ) (at : ℕ) (src : List ℕ) (from many : ℕ) (out : List ℕ) (k : ℕ) : Type 0 where
-  pub most : k ≤ many
-  pub size : length out ≡ length old
-  pub bytes : out ≡ paste old at (drop from src) k
-
-pub copied_start : (old : List ℕ) (at : ℕ) (src : List ℕ) (from many : ℕ) → Copied old at src from many old 0
-copied_start old at src from many = record { most = omega arith; size = refl; bytes = paste-zero old at (drop from src) }
-
-pub copied_next : {old src out : List ℕ} {at from many k : ℕ} → at + many ≤ length old → from + many ≤ length src
-    → Copied old at src from many out k → k < many → Copied old at src from many (set out (at + k) (get_or src (from + k) 0)) (k + 1)
-copied_next {old} {src} {out} {at} {from} {many} {k} r q p h =
-    let next : suc k ≡ k + 1 = omega arith in
-    record {
-      most = omega arith;
-      size = length-set out (at + k) (get_or src (from + k) 0) ∙ p.size;
-      bytes =
-          ap (λ (l : List ℕ). set l (at + k) (get_or src (from + k) 0)) p.bytes
-          ∙ ap (λ (b : ℕ). set (paste old at (drop from src) k) (at + k) b) (sym (get_or-drop from src k 0))
-          ∙ paste-suc old at (drop from src) k 0 (omega arith) (rw length-drop (omega arith))
-          ∙ ap (paste old at (drop from src)) next;
-    }
-
-pub copied_end : {old src out : List ℕ} {at from many k : ℕ} → Copied old at src from many out k → many ≤ k
-    → out ≡ paste old at (drop from src) many
-copied_end {old} {src} {out} {at} {from} {many} {k} p h =
-    let all : k ≡ many = omega (arith, p.most) in
-    p.bytes ∙ ap (paste old at (drop from src)) all
+-- the copy of a run to its place
+pub run_copied : (work cal run : List ℕ) (n i e : ℕ) → i ≤ e → e ≤ length cal → run ≡ take (e - i) (drop i cal)
+    → put_mid n (n + (e - i) - n) work run ≡ paste work n (take (e - i) (drop i cal)) (e - i)
+run_copied work cal run n i e o h q =
+    let some : e - i ≤ length (drop i cal) = rw length-drop (omega arith) in
+    put_mid-paste n (n + (e - i) - n) work run (take (e - i) (drop i cal)) (e - i) q (omega arith) (sym (length-take-le (e - i) (drop i cal) some))
 
 -- the pass: the first n bytes of the buffer are what was unfolded of the i bytes passed, and the later ones are as they were
 pub record Passed (cal old work : List ℕ) (n i : ℕ) : Type 0 where
@@ -265,29 +245,32 @@ passed_fold {cal} {old} {work} {n} {i} p e = record {
 }
 
 passed_run : {cal old work left : List ℕ} {n i e : ℕ} → length cal ≤ length old → Passed cal old work n i → NextFold cal i e
-    → left ≡ paste work n (drop i cal) (e - i) → Passed cal old left (n + (e - i)) e
+    → left ≡ paste work n (take (e - i) (drop i cal)) (e - i) → Passed cal old left (n + (e - i)) e
 passed_run {cal} {old} {work} {left} {n} {i} {e} r p f q =
     let o : i ≤ e = f.before.order in
     let m : ℕ = e - i in
     let end : e ≡ i + m = omega (arith, o) in
     let room : n + m ≤ length work = omega (arith, p.order, p.size, o, f.before.inside) in
-    let some : m ≤ length (drop i cal) = rw length-drop (omega (arith, f.before.inside)) in
+    let fits : m ≤ length (drop i cal) = rw length-drop (omega (arith, f.before.inside)) in
+    let long : m ≡ length (take m (drop i cal)) = sym (length-take-le m (drop i cal) fits) in
+    let some : m ≤ length (take m (drop i cal)) = omega (arith, long) in
     let run : take m (drop i cal) ++ unfolded (drop e cal) ≡ unfolded (drop i cal) =
     ap (λ (k : ℕ). take m (drop i cal) ++ unfolded (drop k cal)) end
     ∙ unfolded_run cal m i (omega (arith, f.before.inside)) (λ k a b. f.before.none k a (omega arith)) in
     record {
       order = omega (arith, p.order, o);
       inside = f.before.inside;
-      size = ap length q ∙ length-paste work n (drop i cal) m room some ∙ p.size;
+      size = ap length q ∙ length-paste work n (take m (drop i cal)) m room some ∙ p.size;
       front =
           ap (λ (l : List ℕ). take (n + m) l ++ unfolded (drop e cal)) q
-          ∙ ap (λ (l : List ℕ). l ++ unfolded (drop e cal)) (take-paste work n (drop i cal) m (omega arith) some)
-          ∙ append_assoc (take n work) (take m (drop i cal)) (unfolded (drop e cal))
+          ∙ ap (λ (l : List ℕ). l ++ unfolded (drop e cal)) (take-paste work n (take m (drop i cal)) m (omega arith) some)
+          ∙ append_assoc (take n work) (take m (take m (drop i cal))) (unfolded (drop e cal))
+          ∙ ap (λ (l : List ℕ). take n work ++ (l ++ unfolded (drop e cal))) (take-take m m (drop i cal) (omega arith))
           ∙ ap (λ (l : List ℕ). take n work ++ l) run
           ∙ p.front;
       rest =
           ap (drop (n + m)) q
-          ∙ drop-paste work n (drop i cal) m (omega arith) some
+          ∙ drop-paste work n (take m (drop i cal)) m (omega arith) some
           ∙ sym (drop-drop m n work)
           ∙ ap (drop m) p.rest
           ∙ drop-drop m n old;
@@ -314,11 +297,11 @@ passed_all {cal} {old} {work} {n} {i} r p h =
 
 -- a turn of the pass copies the run up to the next fold and drops the fold, or ends with the run
 pub passed_next : {cal old work left : List ℕ} {n i e : ℕ} → length cal ≤ length old → Passed cal old work n i → NextFold cal i e
-    → left ≡ paste work n (drop i cal) (e - i) → e < length cal → Passed cal old left (n + (e - i)) (e + 3)
+    → left ≡ paste work n (take (e - i) (drop i cal)) (e - i) → e < length cal → Passed cal old left (n + (e - i)) (e + 3)
 passed_next r p f q h = passed_fold (passed_run r p f q) (f.here h)
 
 pub passed_end : {cal old work left : List ℕ} {n i e : ℕ} → length cal ≤ length old → Passed cal old work n i → NextFold cal i e
-    → left ≡ paste work n (drop i cal) (e - i) → length cal ≤ e → Unfolded cal old left (n + (e - i))
+    → left ≡ paste work n (take (e - i) (drop i cal)) (e - i) → length cal ≤ e → Unfolded cal old left (n + (e - i))
 passed_end r p f q h = passed_all r (passed_run r p f q) h
 
 -- what a caller learns of the buffer: the unfolded calendar stands first, and every later byte is as it was

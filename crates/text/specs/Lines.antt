@@ -1,11 +1,7 @@
 -- Content lines (document 01, Lines): the unfolded bytes cut at each CR LF.
-use Rattle.std.specs.Prelude.{ℕ, suc, ◌+◌, ◌-◌, ◌≤◌, ◌<◌, ◌≡◌, Bool, true, false, not, ◌&&◌, List, [], ◌∷◌, ◌++◌, eqb, length, take, drop, get_or}
+use Rattle.std.specs.Prelude.{ℕ, suc, ◌+◌, ◌-◌, ◌≤◌, ◌<◌, ◌≡◌, Bool, true, false, not, ◌&&◌, List, [], ◌∷◌, ◌++◌, eqb, length, take, drop, get_or, None, Option, Some}
 use Rattle.ascii.specs.Names.{every}
 use Rattle.text.specs.Unfolding.{is_break, is_blank}
-use Rattle.text.specs.declared.LineEnd.{LineEnd}
-use Rattle.text.specs.declared.LineEnd.TheVariants.{At, Unended, None}
-use Rattle.text.specs.declared.Span.{Span}
-use Rattle.text.specs.declared.Span.TheVariants.{Line, End}
 
 -- the pieces of a file in order: lines that CR LF ends, then perhaps a last piece that it does not end, which is badly formed
 pub data CutLines : Type 0 where
@@ -49,12 +45,6 @@ pub record NothingAt (s : List ℕ) (from : ℕ) : Type 0 where
   pub past : length s ≤ from
   pub cuts : cut (drop from s) ≡ end
 
--- what a search for the end of the line at `from` answers
-unfoldable pub EndsAt : List ℕ → ℕ → LineEnd → Type 0
-EndsAt s from (At e) = LineAt s from e
-EndsAt s from Unended = UnendedAt s from
-EndsAt s from None = NothingAt s from
-
 -- every line of a file in order, a last piece that CR LF does not end among them
 abbrev pub all_lines : CutLines → List (List ℕ)
 all_lines end = []
@@ -78,9 +68,9 @@ pub record NoLineFrom (s : List ℕ) (from : ℕ) : Type 0 where
   pub lines : content_lines (drop from s) ≡ []
 
 -- what a step from line to line answers
-unfoldable pub StepsTo : List ℕ → ℕ → Span → Type 0
-StepsTo s from (Line e next) = LineFrom s from e next
-StepsTo s from End = NoLineFrom s from
+unfoldable pub StepsTo : List ℕ → ℕ → Option (ℕ × ℕ) → Type 0
+StepsTo s from (Some (e, next)) = LineFrom s from e next
+StepsTo s from None = NoLineFrom s from
 
 -- how many lines end in CR LF
 abbrev pub line_count : CutLines → ℕ

@@ -1,12 +1,13 @@
 // Unfolding, content lines and text match: what is done to bytes before a line is read.
 // Each function equals one definition of specs/.
+// Searches take a slice and a place in it, not the rest of the slice, since they answer places in the whole. Those by blocks stay apart
+// (here two, others in `line::check` and `fingerprints`): each tests other bytes in blocks of another size, so one over the test would be no shorter.
 #![tactic(auto)]
 
-ghost use Rattle.std.specs.Prelude.{◌≡◌, ◌+◌, ◌≤◌, ◌<◌, length, drop};
-ghost use Rattle.std.proofs.Math.Seq.{paste};
+ghost use Rattle.std.specs.Prelude.{◌≡◌, ◌+◌, ◌≤◌, ◌<◌, length};
 ghost use Rattle.text.specs.TextMatch.{folded_by, starts_at};
 ghost use Rattle.text.specs.Unfolding.{fold_at, Nowhere, Excludes, NextFold, Unfolded};
-ghost use Rattle.text.specs.Lines.{break_at, EndsAt, StepsTo};
+ghost use Rattle.text.specs.Lines.{break_at, StepsTo};
 
 // How bytes are compared: as they are, or with a to z read as A to Z.
 #[derive(Clone, Copy)]
@@ -15,27 +16,8 @@ pub enum Collation {
     AsciiCasemap,
 }
 
-// Where the line that starts at a place ends.
-#[derive(Clone, Copy)]
-pub enum LineEnd {
-    // Its CR LF stands here.
-    At(usize),
-    // No CR LF follows, and bytes are left.
-    Unended,
-    // No bytes are left.
-    None,
-}
-
-// The line at a place.
-#[derive(Clone, Copy)]
-pub enum Span {
-    // It ends before the first place, and the next line begins at the second.
-    Line(usize, usize),
-    // There is none.
-    End,
-}
-
 // The byte as the collation compares it.
+// The collation stays an argument: docs/TRACE.md names this function, and definition `folded_by` takes it.
 pub fn fold(b: u8, c: Collation) -> u8
     ensures { result ≡ folded_by c b }
 {
@@ -50,12 +32,10 @@ pub fn starts_at(value: &[u8], text: &[u8], at: usize, collation: Collation) -> 
     requires { at + length text.now ≤ length value.now }
     ensures { result ≡ starts_at collation value.now text.now at }
 {
-    let mut i = 0;
-    while i < text.len() {
-        if fold(value[at + i], collation) != fold(text[i], collation) {
+    for (i, &b) in text.iter().enumerate() {
+        if fold(value[at + i], collation) != fold(b, collation) {
             return false;
         }
-        i += 1;
     }
     true
 }
@@ -80,17 +60,16 @@ fn fold_near(s: &[u8], i: usize) -> bool
     ensures { Excludes fold_at s.now i (i + 16) result }
 {
     let mut found = false;
-    let mut k = 0;
-    while k < 16 {
+    for k in 0..16 {
         let at = i + k;
         found = found
             | ((s[at] == 13) & (s[at + 1] == 10) & ((s[at + 2] == 32) | (s[at + 2] == 9)));
-        k += 1;
     }
     found
 }
 
 // A place up to which no fold begins, sixteen by sixteen.
+// A `while`, since it steps by sixteen and the place that it stops at is the answer: `step_by` would hide that place.
 fn skip_unfolded(s: &[u8], from: usize) -> usize
     requires { from ≤ length s.now }
     ensures { Nowhere fold_at s.now from result }
@@ -110,30 +89,17 @@ fn next_fold(s: &[u8], from: usize) -> usize
     requires { from ≤ length s.now }
     ensures { NextFold s.now from result }
 {
-    let mut i = skip_unfolded(s, from);
-    while i + 2 < s.len() {
+    for i in skip_unfolded(s, from)..s.len() {
         if fold_at(s, i) {
             return i;
         }
-        i += 1;
     }
     s.len()
 }
 
-// Copies so many bytes from a place of src to a place of out.
-fn copy_run(out: &mut [u8], at: usize, src: &[u8], from: usize, many: usize)
-    requires many_in_bounds { at + many ≤ length out.old }
-    requires many_in_bounds_2 { from + many ≤ length src.now }
-    ensures { out.new ≡ paste out.old at (drop from src.now) many }
-{
-    let mut k = 0;
-    while k < many {
-        out[at + k] = src[from + k];
-        k += 1;
-    }
-}
-
 // Writes the unfolded calendar to the front of the work buffer, and answers how many bytes that is.
+// A `loop`, since each turn goes on where the fold ends that it found.
+// The bound of the work buffer stays a clause: the caller of the public calls lends it (C interface), and docs/TRACE.md names this function.
 pub fn unfold_into(work: &mut [u8], cal: &[u8]) -> usize
     requires { length cal.now ≤ length work.old }
     ensures { Unfolded cal.now work.old work.new result }
@@ -143,7 +109,7 @@ pub fn unfold_into(work: &mut [u8], cal: &[u8]) -> usize
     loop {
         let e = next_fold(cal, i);
         let many = e - i;
-        copy_run(work, n, cal, i, many);
+        work[n..n + many].copy_from_slice(&cal[i..e]);
         n += many;
         if cal.len() <= e {
             return n;
@@ -163,14 +129,6 @@ fn break_at(s: &[u8], i: usize) -> bool
     s[i + 1] == 10
 }
 
-// The lesser of two counts.
-pub fn lesser(a: u8, b: u8) -> u8
-    ensures upper_bound { result ≤ a }
-    ensures upper_bound_2 { result ≤ b }
-{
-    if a < b { a } else { b }
-}
-
 // How many of the 64 places from this one on come before the first CR LF that begins there? 64, where none does.
 // No early return and counts of one byte, so that the machine tests sixteen places at once and no branch depends on where a line ends.
 // 64 turns, not 16: so few would be written out one by one before they could be done sixteen at once. Most lines end within 64 bytes.
@@ -179,21 +137,20 @@ fn break_in(s: &[u8], i: usize) -> u8
     ensures { Nowhere break_at s.now i (i + result) }
 {
     let mut first: u8 = 64;
-    let mut k: u8 = 0;
-    while k < 64 {
-        let at = i + (k as usize);
+    for k in 0..64u8 {
+        let at = i + usize::from(k);
         let here = if (s[at] == 13) & (s[at + 1] == 10) {
             k
         } else {
             64
         };
-        first = lesser(here, first);
-        k += 1;
+        first = first.min(here);
     }
     first
 }
 
 // A place up to which no CR LF begins: there one begins, or fewer than 65 bytes are left.
+// A `while`, since it steps by 64 and the place that it stops at is the answer.
 fn skip_unbroken(s: &[u8], from: usize) -> usize
     requires { from ≤ length s.now }
     ensures { Nowhere break_at s.now from result }
@@ -206,38 +163,25 @@ fn skip_unbroken(s: &[u8], from: usize) -> usize
         }
         let k = break_in(s, i);
         if k < 64 {
-            return i + (k as usize);
+            return i + usize::from(k);
         }
         i += 64;
     }
     i
 }
 
-// Where does the line that starts at this place end?
-fn line_end(s: &[u8], from: usize) -> LineEnd
-    ensures { EndsAt s.now from result }
-{
-    if s.len() <= from {
-        return LineEnd::None;
-    }
-    let last = s.len() - 1;
-    let mut i = skip_unbroken(s, from);
-    while i < last {
-        if break_at(s, i) {
-            return LineEnd::At(i);
-        }
-        i += 1;
-    }
-    LineEnd::Unended
-}
-
 // The line that starts at this place, ended or not, and where the next one starts.
-pub fn next_line(s: &[u8], from: usize) -> Span
+pub fn next_line(s: &[u8], from: usize) -> Option<(usize, usize)>
     ensures { StepsTo s.now from result }
 {
-    match line_end(s, from) {
-        LineEnd::At(e) => Span::Line(e, e + 2),
-        LineEnd::Unended => Span::Line(s.len(), s.len()),
-        LineEnd::None => Span::End,
+    if s.len() <= from {
+        return None;
     }
+    let last = s.len() - 1;
+    for i in skip_unbroken(s, from)..last {
+        if break_at(s, i) {
+            return Some((i, i + 2));
+        }
+    }
+    Some((s.len(), s.len()))
 }

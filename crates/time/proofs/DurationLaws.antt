@@ -1,4 +1,5 @@
 -- The fold that reads a DURATION: its ways out, and how large what it reads can be.
+use Rattle.std.specs.Prelude.{None, Option, Some}
 use Prim.Native.Nat.{ℕ, ◌+◌, ◌-◌, ◌*◌, ◌^◌, ◌≤◌, ◌<◌}
 use mathlib.Core.Path.{◌≡◌, refl, ap, ◌∙◌}
 use mathlib.Core.Bool.{Bool, true, false, cond, ◌&&◌, ◌||◌}
@@ -17,7 +18,6 @@ use Rattle.time.specs.declared.duration.Stage.TheVariants.{Start, Sign, Period, 
 use Rattle.time.specs.declared.duration.Weight.{Weight}
 use Rattle.time.specs.declared.duration.Reading.{Reading}
 use Rattle.time.specs.declared.duration.Duration.{Duration}
-use Rattle.time.specs.declared.duration.DurationRead.{DurationRead}
 use Rattle.time.specs.Duration.{on, time_start, next_stage, weight_of, blank, with_digit, fitting, unit_to, with_unit, step, runs, finish, duration_text, duration_seconds, within_limit, limited, read_duration, rank, EventSmall}
 use Rattle.time.proofs.DateTime.{digit_range}
 use Rattle.time.proofs.Below as tables
@@ -141,11 +141,11 @@ step_high r b h = step_plain r b (above 48 57 b (omega arith)) (above 97 122 b h
 
 -- whole, or not
 pub finish_of : (r : Reading) (w : Weight) → w ≡ weight_of r.stage → (ltb 0 (w.0 + w.1) && ltb r.digits 1) ≡ true
-    → DurationRead.Of (record { days = r.days; seconds = r.seconds; timed = r.timed }) ≡ finish r
+    → Some (record { days = r.days; seconds = r.seconds; timed = r.timed }) ≡ finish r
 unfolding finish
 finish_of r w e t = rw (← e, t)
 
-pub finish_bad : (r : Reading) (w : Weight) → w ≡ weight_of r.stage → (ltb 0 (w.0 + w.1) && ltb r.digits 1) ≡ false → DurationRead.Bad ≡ finish r
+pub finish_bad : (r : Reading) (w : Weight) → w ≡ weight_of r.stage → (ltb 0 (w.0 + w.1) && ltb r.digits 1) ≡ false → None ≡ finish r
 unfolding finish
 finish_bad r w e t = rw (← e, t)
 
@@ -244,48 +244,48 @@ runs_small r [] h = h
 runs_small r (b ∷ l) h = runs_small (step r b) l (step_small r b h)
 
 -- a text read is small, and one within the limit is what is answered
-pub duration_text_small : (l : List ℕ) (d : Duration) → duration_text l ≡ DurationRead.Of d → (d.days ≤ 55999944) × (d.seconds ≤ 28799971200)
+pub duration_text_small : (l : List ℕ) (d : Duration) → duration_text l ≡ Some d → (d.days ≤ 55999944) × (d.seconds ≤ 28799971200)
 unfolding duration_text finish
 duration_text_small l d e = go (runs (blank Start) l) (runs_small (blank Start) l (blank_small Start)) e
   where
-    answer : (r : Reading) (t : Bool) → EventSmall r → cond t (DurationRead.Of (record { days = r.days; seconds = r.seconds; timed = r.timed })) DurationRead.Bad ≡ DurationRead.Of d
+    answer : (r : Reading) (t : Bool) → EventSmall r → cond t (Some (record { days = r.days; seconds = r.seconds; timed = r.timed })) None ≡ Some d
         → (d.days ≤ 55999944) × (d.seconds ≤ 28799971200)
     answer r true h e =
         let z : record { days = r.days; seconds = r.seconds; timed = r.timed } ≡ d = cc in
         rw (← z) (sums_small r h)
     answer r false h e = let z : ◌≡◌ {A = ℕ} 0 1 = cc in absurd (omega arith)
 
-    go : (r : Reading) → EventSmall r → finish r ≡ DurationRead.Of d → (d.days ≤ 55999944) × (d.seconds ≤ 28799971200)
+    go : (r : Reading) → EventSmall r → finish r ≡ Some d → (d.days ≤ 55999944) × (d.seconds ≤ 28799971200)
     go r h e = answer r (ltb 0 ((weight_of r.stage).0 + (weight_of r.stage).1) && ltb r.digits 1) h e
 
-pub read_duration_bad : (l : List ℕ) → duration_text l ≡ DurationRead.Bad → DurationRead.Bad ≡ read_duration l
+pub read_duration_bad : (l : List ℕ) → duration_text l ≡ None → None ≡ read_duration l
 unfolding read_duration limited
 read_duration_bad l e = rw e
 
-pub read_duration_of : (l : List ℕ) (d : Duration) (n : ℕ) → duration_text l ≡ DurationRead.Of d → n ≡ duration_seconds d → n ≤ 315360000 → DurationRead.Of d ≡ read_duration l
+pub read_duration_of : (l : List ℕ) (d : Duration) (n : ℕ) → duration_text l ≡ Some d → n ≡ duration_seconds d → n ≤ 315360000 → Some d ≡ read_duration l
 unfolding read_duration limited within_limit
 read_duration_of l d n e f h = rw (e, ← f, le-leb n 315360000 h)
 
-pub read_duration_over : (l : List ℕ) (d : Duration) (n : ℕ) → duration_text l ≡ DurationRead.Of d → n ≡ duration_seconds d → 315360000 < n → DurationRead.Bad ≡ read_duration l
+pub read_duration_over : (l : List ℕ) (d : Duration) (n : ℕ) → duration_text l ≡ Some d → n ≡ duration_seconds d → 315360000 < n → None ≡ read_duration l
 unfolding read_duration limited within_limit
 read_duration_over l d n e f h = rw (e, ← f, lt-leb n 315360000 h)
 
 -- a duration read is within the limit, and is what its text says
-pub read_duration_in : (l : List ℕ) (d : Duration) → read_duration l ≡ DurationRead.Of d → (duration_text l ≡ DurationRead.Of d) × (duration_seconds d ≤ 315360000)
+pub read_duration_in : (l : List ℕ) (d : Duration) → read_duration l ≡ Some d → (duration_text l ≡ Some d) × (duration_seconds d ≤ 315360000)
 unfolding read_duration limited within_limit
 read_duration_in l d e = go (duration_text l) refl e
   where
-    known : (c : Duration) (t : Bool) → leb (duration_seconds c) 315360000 ≡ t → cond t (DurationRead.Of c) DurationRead.Bad ≡ DurationRead.Of d → (c ≡ d) × (duration_seconds d ≤ 315360000)
+    known : (c : Duration) (t : Bool) → leb (duration_seconds c) 315360000 ≡ t → cond t (Some c) None ≡ Some d → (c ≡ d) × (duration_seconds d ≤ 315360000)
     known c true h e = let z : c ≡ d = cc in (z, rw (← z) (leb-true (duration_seconds c) 315360000 h))
     known c false h e = let z : ◌≡◌ {A = ℕ} 0 1 = cc in absurd (omega arith)
 
-    go : (t : DurationRead) → duration_text l ≡ t → limited t ≡ DurationRead.Of d → (duration_text l ≡ DurationRead.Of d) × (duration_seconds d ≤ 315360000)
-    go DurationRead.Bad p e = let z : ◌≡◌ {A = ℕ} 0 1 = cc in absurd (omega arith)
-    go (DurationRead.Of c) p e =
+    go : (t : Option Duration) → duration_text l ≡ t → limited t ≡ Some d → (duration_text l ≡ Some d) × (duration_seconds d ≤ 315360000)
+    go None p e = let z : ◌≡◌ {A = ℕ} 0 1 = cc in absurd (omega arith)
+    go (Some c) p e =
         let k : (c ≡ d) × (duration_seconds d ≤ 315360000) = known c (leb (duration_seconds c) 315360000) refl e in
-        (p ∙ ap DurationRead.Of k.0, k.1)
+        (p ∙ ap Some k.0, k.1)
 
 -- so its parts are small
-pub read_duration_small : (l : List ℕ) (d : Duration) → read_duration l ≡ DurationRead.Of d → (d.days ≤ 3650) × (d.seconds ≤ 315360000)
+pub read_duration_small : (l : List ℕ) (d : Duration) → read_duration l ≡ Some d → (d.days ≤ 3650) × (d.seconds ≤ 315360000)
 unfolding duration_seconds
 read_duration_small l d e = omega (arith, (read_duration_in l d e).1)

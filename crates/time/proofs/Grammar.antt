@@ -1,4 +1,5 @@
 -- The fold that reads a DURATION reads exactly what the grammar has.
+use Rattle.std.specs.Prelude.{None, Some}
 use Prim.Native.Nat.{ℕ, suc, ◌+◌, ◌-◌, ◌*◌, ◌≤◌, ◌<◌}
 use mathlib.Core.Path.{◌≡◌, refl, sym, ap, ◌∙◌, subst}
 use mathlib.Core.Bool.{Bool, true, false, cond, ◌&&◌, ◌||◌}
@@ -18,7 +19,6 @@ use Rattle.time.specs.declared.duration.Stage.{Stage}
 use Rattle.time.specs.declared.duration.Stage.TheVariants.{Start, Sign, Period, Weeks, Days, Time, Hours, Minutes, Seconds, Wrong}
 use Rattle.time.specs.declared.duration.Reading.{Reading}
 use Rattle.time.specs.declared.duration.Duration.{Duration}
-use Rattle.time.specs.declared.duration.DurationRead.{DurationRead}
 use Rattle.time.specs.Duration.{on, time_start, next_stage, weight_of, blank, with_digit, fitting, unit_to, with_unit, step, runs, finish, duration_text, duration_seconds, read_duration}
 use Rattle.time.specs.Grammar.{decimal, Counted, lasting, DurSecond, Followed, DurMinute, DurHour, DurTime, DurBody, DurationGrammar}
 use Rattle.time.proofs.DateTime.{digit_range}
@@ -34,7 +34,7 @@ size s = (weight_of s).0 + (weight_of s).1
 
 -- from a stage, with these sums, the text ends as this duration
 abbrev Ends : Stage → ℕ → ℕ → Bool → List ℕ → Duration → Type 0
-Ends s d c x l out = finish (runs (reading s 0 0 d c x) l) ≡ DurationRead.Of out
+Ends s d c x l out = finish (runs (reading s 0 0 d c x) l) ≡ Some out
 
 -- a byte whose capital is past the digits is no digit
 no_digit : (b letter : ℕ) → 58 ≤ letter → upper b ≡ letter → is_digit b ≡ false
@@ -125,8 +125,8 @@ mark_ends s t d c x b letter k out p h e f rest =
     ∙ (rw p rest)
 
 -- equal sums, the same duration
-same_sum : (d c c' : ℕ) → c ≡ c' → DurationRead.Of (lasting d c true) ≡ DurationRead.Of (lasting d c' true)
-same_sum d c c' e = ap (λ (a : ℕ). DurationRead.Of (lasting d a true)) e
+same_sum : (d c c' : ℕ) → c ≡ c' → Some (lasting d c true) ≡ Some (lasting d c' true)
+same_sum d c c' e = ap (λ (a : ℕ). Some (lasting d a true)) e
 
 -- what the grammar has, the fold reads
 second_ends : {l : List ℕ} {n : ℕ} → DurSecond l n → (s : Stage) (d c : ℕ) → next_stage s 83 ≡ Seconds → Ends s d c true l (lasting d (c + n) true)
@@ -177,7 +177,7 @@ body_ends (DurBody.time q) = time_ends q Period 0 refl
 body_ends (DurBody.week {n} {l} p) =
     counted_ends Period Weeks 0 0 (n * 7) 0 false 87 n l [] _ p (omega arith) refl (omega arith) (omega arith) (omega arith) (stop Weeks (n * 7) 0 false (omega arith))
 
-pub grammar_read : {l : List ℕ} {out : Duration} → DurationGrammar l out → duration_text l ≡ DurationRead.Of out
+pub grammar_read : {l : List ℕ} {out : Duration} → DurationGrammar l out → duration_text l ≡ Some out
 unfolding duration_text blank weight_of next_stage upper is_digit
 grammar_read (DurationGrammar.plain {b} {l} {d} p q) = mark_ends Start Period 0 0 false b 80 l d p (omega arith) refl (omega arith) (body_ends q)
 grammar_read (DurationGrammar.signed {b} {l} {d} p q) =
@@ -222,13 +222,13 @@ unfolding blank
 blank_wrong = refl
 
 -- what ends as a duration stopped behind a unit
-finish_in : (r : Reading) (out : Duration) → finish r ≡ DurationRead.Of out
+finish_in : (r : Reading) (out : Duration) → finish r ≡ Some out
     → (0 < size r.stage) × (r.digits < 1) × (out ≡ lasting r.days r.seconds r.timed)
 unfolding finish
 finish_in r out e = go (ltb 0 (size r.stage) && ltb r.digits 1) refl e
   where
     go : (t : Bool) → (ltb 0 (size r.stage) && ltb r.digits 1) ≡ t
-        → cond t (DurationRead.Of (lasting r.days r.seconds r.timed)) DurationRead.Bad ≡ DurationRead.Of out
+        → cond t (Some (lasting r.days r.seconds r.timed)) None ≡ Some out
         → (0 < size r.stage) × (r.digits < 1) × (out ≡ lasting r.days r.seconds r.timed)
     go true p e = (
       ltb-true 0 (size r.stage) (and_left (ltb 0 (size r.stage)) (ltb r.digits 1) p),
@@ -241,7 +241,7 @@ wrong_size : (s : Stage) → s ≡ Wrong → 0 < size s → ⊥
 unfolding weight_of
 wrong_size s e h = let k : 0 < size Wrong = subst (λ (z : Stage). 0 < size z) e h in omega arith
 
-wrong_ends : (r : Reading) (l : List ℕ) (out : Duration) → r.stage ≡ Wrong → finish (runs r l) ≡ DurationRead.Of out → ⊥
+wrong_ends : (r : Reading) (l : List ℕ) (out : Duration) → r.stage ≡ Wrong → finish (runs r l) ≡ Some out → ⊥
 unfolding runs
 wrong_ends r [] out e f = wrong_size r.stage e (finish_in r out f).0
 wrong_ends r (b ∷ l) out e f = wrong_ends (step r b) l out (step_wrong r b e) f
@@ -293,7 +293,7 @@ module _ (s : Stage) (d c : ℕ) (x : Bool) (out : Duration) (w : List ℕ) wher
   -- what holds where the digits ds were read and l is left
   abbrev Left : List ℕ → List ℕ → Type 0
   Left ds l =
-      w ≡ ds ++ l → every is_digit ds ≡ true → length ds ≤ 6 → finish (runs (reading s (length ds) (decimal 0 ds) d c x) l) ≡ DurationRead.Of out → Ahead s d c x out w
+      w ≡ ds ++ l → every is_digit ds ≡ true → length ds ≤ 6 → finish (runs (reading s (length ds) (decimal 0 ds) d c x) l) ≡ Some out → Ahead s d c x out w
 
   scan_end : (ds : List ℕ) → Left ds []
   unfolding runs decimal
@@ -324,7 +324,7 @@ module _ (s : Stage) (d c : ℕ) (x : Bool) (out : Duration) (w : List ℕ) wher
           f)
 
   scan_unit : (ds : List ℕ) (b : ℕ) (l : List ℕ) (t : Stage) → w ≡ ds ++ (b ∷ l) → every is_digit ds ≡ true → length ds ≤ 6 → next_stage s (upper b) ≡ t
-      → finish (runs (reading t 0 0 (d + decimal 0 ds * (weight_of t).0) (c + decimal 0 ds * (weight_of t).1) (x || eqb (upper b) 84)) l) ≡ DurationRead.Of out
+      → finish (runs (reading t 0 0 (d + decimal 0 ds * (weight_of t).0) (c + decimal 0 ds * (weight_of t).1) (x || eqb (upper b) 84)) l) ≡ Some out
       → ((0 < size t) × (0 < length ds)) ⊎ ((size t < 1) × (length ds < 1)) → Ahead s d c x out w
   scan_unit ds b l t q e h n g (inl p) =
       united (upper b) (decimal 0 ds) l
@@ -562,7 +562,7 @@ plus_is b e = go (between 97 122 b) refl e
     go true p e = absurd (omega (arith, leb-true 97 b (and_left (leb 97 b) (leb b 122) p)))
     go false p e = sym e
 
-pub read_grammar : (l : List ℕ) (out : Duration) → duration_text l ≡ DurationRead.Of out → DurationGrammar l out
+pub read_grammar : (l : List ℕ) (out : Duration) → duration_text l ≡ Some out → DurationGrammar l out
 unfolding duration_text blank next_stage weight_of
 read_grammar l out f = go (ahead Start 0 0 false out l f)
   where
@@ -582,11 +582,11 @@ read_grammar l out f = go (ahead Start 0 0 false out l f)
         (on_case (UnitTo 0 0 false out l n k) a 43 Sign _ u)
 
 -- the text of a duration reads as one exactly where the grammar has it
-pub duration_text_iff : (l : List ℕ) (out : Duration) → (duration_text l ≡ DurationRead.Of out) ↔ DurationGrammar l out
+pub duration_text_iff : (l : List ℕ) (out : Duration) → (duration_text l ≡ Some out) ↔ DurationGrammar l out
 duration_text_iff l out = (λ e. read_grammar l out e, λ g. grammar_read g)
 
 -- and is a DURATION where it is within the limit too
-pub read_duration_iff : (l : List ℕ) (out : Duration) → (read_duration l ≡ DurationRead.Of out) ↔ (DurationGrammar l out × (duration_seconds out ≤ 315360000))
+pub read_duration_iff : (l : List ℕ) (out : Duration) → (read_duration l ≡ Some out) ↔ (DurationGrammar l out × (duration_seconds out ≤ 315360000))
 read_duration_iff l out = (
   λ e. (read_grammar l out (read_duration_in l out e).0, (read_duration_in l out e).1),
   λ p. sym (read_duration_of l out (duration_seconds out) (grammar_read p.0) refl p.1),

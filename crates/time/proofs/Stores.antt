@@ -1,10 +1,14 @@
--- Bytes stored one after the other: what is left to store, and two runs as one.
+-- Bytes stored one after the other: what is left to store, one part copied over, and two runs as one.
 use Prim.Native.Nat.{ℕ, suc, ◌+◌, ◌≤◌, ◌<◌}
-use mathlib.Core.Path.{◌≡◌, refl, ap, ◌∙◌}
+use mathlib.Core.Path.{◌≡◌, refl, sym, ap, ◌∙◌}
 use mathlib.Core.List.{List, [], ◌∷◌, ◌++◌}
 use native.Mathlib.Omega.{arith}
-use lib.ListN.{length, drop, get_or, set}
+use lib.ListN.{length, take, drop, get_or, set}
 use lib.Seq.{sets}
+use borrow.Rule.Slice.PartMut.{put_mid}
+use Rattle.std.proofs.Common.{append_assoc}
+use Rattle.std.proofs.lemmas.List.{drop-drop}
+use Rattle.std.proofs.lemmas.List.Edits.{sets-eq}
 use Rattle.ascii.proofs.Lists.{drop_next, drop_end}
 
 -- the loop that stores s from a on: all is left at the start, one less after each store, none at the end
@@ -18,6 +22,13 @@ sets_next o s a i h =
 
 pub sets_end : (o s : List ℕ) (a i : ℕ) → length s ≤ i → sets o (a + i) (drop i s) ≡ o
 sets_end o s a i h = rw (drop_end s i h)
+
+-- a part of k bytes from a on that becomes s
+pub sets_part : (o s : List ℕ) (a : ℕ) {k : ℕ} {w : List ℕ} → k ≡ length s → w ≡ s → a + length s ≤ length o → put_mid a k o w ≡ sets o a s
+sets_part o s a {k} {w} e f h =
+    ap (λ l. take a o ++ (w ++ l)) (drop-drop k a o)
+    ∙ rw (f, e) (sym (append_assoc (take a o) s _))
+    ∙ sym (sets-eq s o a h)
 
 -- one run behind another
 pub sets_append : (o x y : List ℕ) (a n : ℕ) → length x ≡ n → sets (sets o a x) (a + n) y ≡ sets o a (x ++ y)

@@ -1,5 +1,6 @@
 -- A second written as a UTC DATE-TIME: year, month and day of its day, its length and bytes,
 -- and that it reads as that second.
+use Rattle.std.specs.Prelude.{Option, Some}
 use Prim.Native.Nat.{ℕ, zero, suc, ◌+◌, ◌-◌, ◌*◌, ◌/◌, ◌≤◌, ◌<◌, ◌%◌}
 use mathlib.Core.Path.{◌≡◌, refl, sym, ap, subst, ◌∙◌}
 use mathlib.Core.Bool.{Bool, true, false, cond, not, ◌&&◌, ◌||◌}
@@ -15,7 +16,6 @@ use Rattle.ascii.specs.Bytes.{is_digit, upper}
 use Rattle.ascii.specs.Names.{every}
 use Rattle.ascii.proofs.Bools.{and_left, and_right}
 use Rattle.ascii.proofs.Bytes.{inside}
-use Rattle.time.specs.declared.date_time.Number.{Number}
 use Rattle.time.specs.declared.date_time.DateTime.{DateTime}
 use Rattle.time.specs.declared.date_time.Kind.{Kind}
 use Rattle.time.specs.declared.writing.Day.{Day}
@@ -240,9 +240,9 @@ pair_value : (n : ℕ) → n ≤ 99 → (digit (n / 10) - 48) * 10 + (digit n - 
 unfolding digit
 pair_value n h = omega arith
 
-pair_read : (n : ℕ) → n ≤ 99 → digit_pair (digit (n / 10)) (digit n) ≡ Number.Of n
+pair_read : (n : ℕ) → n ≤ 99 → digit_pair (digit (n / 10)) (digit n) ≡ Some n
 unfolding digit_pair
-pair_read n h = rw (digit_is (n / 10), digit_is n) (ap Number.Of (pair_value n h))
+pair_read n h = rw (digit_is (n / 10), digit_is n) (ap Some (pair_value n h))
 
 -- a date written reads as its day's number, whatever follows
 date_read : (d : Day) (l : List ℕ) → d.year ≤ 9999 → d.month ≤ 99 → d.day ≤ 99 → date_at (date_text d ++ l) ≡ checked_day d.year d.month d.day
@@ -255,25 +255,25 @@ date_read d l h k m =
 time_sum : (s : ℕ) → s / 3600 * 3600 + s / 60 % 60 * 60 + s % 60 ≡ s
 time_sum s = omega arith
 
-time_checked : (s : ℕ) → s < 86400 → checked_time (s / 3600) (s / 60 % 60) (s % 60) ≡ Number.Of s
+time_checked : (s : ℕ) → s < 86400 → checked_time (s / 3600) (s / 60 % 60) (s % 60) ≡ Some s
 unfolding checked_time
 time_checked s h =
     rw (le-leb (s / 3600) 23 (omega arith), le-leb (s / 60 % 60) 59 (omega arith), le-leb (s % 60) 60 (omega arith), ne_eqb (s % 60) 60 (omega arith))
-    (ap Number.Of (time_sum s))
+    (ap Some (time_sum s))
 
-time_read : (d : Day) (s : ℕ) → s < 86400 → time_at (date_text d ++ time_text s) ≡ Number.Of s
+time_read : (d : Day) (s : ℕ) → s < 86400 → time_at (date_text d ++ time_text s) ≡ Some s
 unfolding time_at pair_at date_text time_text three
 time_read d s h =
     rw (pair_read (s / 3600) (omega arith), pair_read (s / 60 % 60) (omega arith), pair_read (s % 60) (omega arith)) (time_checked s h)
 
 -- n days into a year: a day of the month that they reach, with its own number
-day_there : (y m n : ℕ) → Reached (is_leap y) n m → checked_day y m (n - days_before_month y m + 1) ≡ Number.Of (days_before_year y + n)
+day_there : (y m n : ℕ) → Reached (is_leap y) n m → checked_day y m (n - days_before_month y m + 1) ≡ Some (days_before_year y + n)
 unfolding checked_day is_day day_number month_days days_before_month
 day_there y m n h =
     let p : 1 ≤ n - before_in (is_leap y) m + 1 = omega arith in
     let q : n - before_in (is_leap y) m + 1 ≤ length_in (is_leap y) m = omega (arith, h.has_begun, h.not_over) in
     let z : days_before_year y + before_in (is_leap y) m + (n - before_in (is_leap y) m + 1 - 1) ≡ days_before_year y + n = omega (arith, h.has_begun) in
-    rw (le-leb 1 (n - before_in (is_leap y) m + 1) p, le-leb (n - before_in (is_leap y) m + 1) (length_in (is_leap y) m) q) (ap Number.Of z)
+    rw (le-leb 1 (n - before_in (is_leap y) m + 1) p, le-leb (n - before_in (is_leap y) m + 1) (length_in (is_leap y) m) q) (ap Some z)
 
 day_small : (y m n : ℕ) → Reached (is_leap y) n m → n - days_before_month y m + 1 ≤ 31
 unfolding month_days days_before_month
@@ -292,7 +292,7 @@ record Proper (d : ℕ) : Type 0 where
   year_small : (day_of d).year ≤ 9999
   month_small : (day_of d).month ≤ 99
   day_small : (day_of d).day ≤ 99
-  numbered : checked_day (day_of d).year (day_of d).month (day_of d).day ≡ Number.Of (d + 719528)
+  numbered : checked_day (day_of d).year (day_of d).month (day_of d).day ≡ Some (d + 719528)
 
 day_of_proper : (d : ℕ) → d ≤ 47481 → Proper d
 unfolding day_of
@@ -303,12 +303,12 @@ day_of_proper d h =
       year_small = omega (arith, y.to_2099);
       month_small = omega (arith, r.last);
       day_small = omega (arith, day_small (year_of d) (month_in (is_leap (year_of d)) (day_of_year d)) (day_of_year d) r);
-      numbered = day_there (year_of d) (month_in (is_leap (year_of d)) (day_of_year d)) (day_of_year d) r ∙ ap Number.Of (from_start d h);
+      numbered = day_there (year_of d) (month_in (is_leap (year_of d)) (day_of_year d)) (day_of_year d) r ∙ ap Some (from_start d h);
     }
 
 -- a date, T, a time and Z
-clock_read : (d : Day) (s n : ℕ) → date_at (date_text d ++ time_text s) ≡ Number.Of n → time_at (date_text d ++ time_text s) ≡ Number.Of s
-    → DateTime.At Kind.Utc (n * 86400 + s) ≡ read_date_time (date_text d ++ time_text s)
+clock_read : (d : Day) (s n : ℕ) → date_at (date_text d ++ time_text s) ≡ Some n → time_at (date_text d ++ time_text s) ≡ Some s
+    → Some (record { kind = Kind.Utc; clock = n * 86400 + s }) ≡ read_date_time (date_text d ++ time_text s)
 unfolding upper date_text time_text
 clock_read d s n e f =
     clock_at_of Kind.Utc (date_text d ++ time_text s) 84 n s refl refl e f
@@ -318,20 +318,22 @@ clock_sum : (t : ℕ) → (t / 86400 + 719528) * 86400 + t % 86400 ≡ t + epoch
 clock_sum t = omega (arith, epoch_number)
 
 -- what is written of a second reads as its clock
-pub read_written : (t : ℕ) → t ≤ last_second → read_date_time (utc_text t) ≡ DateTime.At Kind.Utc (t + epoch)
+pub read_written : (t : ℕ) → t ≤ last_second → read_date_time (utc_text t) ≡ Some (record { kind = Kind.Utc; clock = t + epoch })
 unfolding utc_text
 read_written t h =
     let d : t / 86400 ≤ 47481 = omega arith in
     let p : Proper (t / 86400) = day_of_proper (t / 86400) d in
     let s : t % 86400 < 86400 = omega arith in
-    let e : date_at (date_text (day_of (t / 86400)) ++ time_text (t % 86400)) ≡ Number.Of (t / 86400 + 719528) =
+    let e : date_at (date_text (day_of (t / 86400)) ++ time_text (t % 86400)) ≡ Some (t / 86400 + 719528) =
     date_read (day_of (t / 86400)) (time_text (t % 86400)) p.year_small p.month_small p.day_small ∙ p.numbered in
     sym (clock_read (day_of (t / 86400)) (t % 86400) (t / 86400 + 719528) e (time_read (day_of (t / 86400)) (t % 86400) s))
-    ∙ ap (λ (c : ℕ). DateTime.At Kind.Utc c) (clock_sum t)
+    ∙ ap (λ (c : ℕ). Some (record { kind = Kind.Utc; clock = c })) (clock_sum t)
 
 -- a text that reads as one second is no other second's
 pub utc_text_one : (t u : ℕ) → t ≤ last_second → u ≤ last_second → utc_text t ≡ utc_text u → t ≡ u
 utc_text_one t u h k e =
-    let z : DateTime.At Kind.Utc (t + epoch) ≡ DateTime.At Kind.Utc (u + epoch) = sym (read_written t h) ∙ ap read_date_time e ∙ read_written u k in
-    let w : t + epoch ≡ u + epoch = cc in
+    let z : ◌≡◌ {A = Option DateTime} (Some (record { kind = Kind.Utc; clock = t + epoch })) (Some (record { kind = Kind.Utc; clock = u + epoch })) =
+    sym (read_written t h) ∙ ap read_date_time e ∙ read_written u k in
+    let d : ◌≡◌ {A = DateTime} (record { kind = Kind.Utc; clock = t + epoch }) (record { kind = Kind.Utc; clock = u + epoch }) = cc in
+    let w : t + epoch ≡ u + epoch = ap (λ (x : DateTime). x.clock) d in
     omega arith

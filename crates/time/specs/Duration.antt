@@ -1,12 +1,11 @@
 -- DURATION values (document 01, Values; RFC 5545, dur-value): a fold over the bytes that keeps what was read before.
-use Rattle.std.specs.Prelude.{ℕ, ◌+◌, ◌-◌, ◌*◌, ◌^◌, ◌≤◌, ◌<◌, Bool, false, cond, ◌&&◌, ◌||◌, List, [], ◌∷◌, eqb, ltb, leb}
+use Rattle.std.specs.Prelude.{ℕ, ◌+◌, ◌-◌, ◌*◌, ◌^◌, ◌≤◌, ◌<◌, Bool, false, cond, ◌&&◌, ◌||◌, List, [], ◌∷◌, eqb, ltb, leb, None, Option, Some}
 use Rattle.ascii.specs.Bytes.{is_digit, upper}
 use Rattle.time.specs.declared.duration.Stage.{Stage}
 use Rattle.time.specs.declared.duration.Stage.TheVariants.{Start, Sign, Period, Weeks, Days, Time, Hours, Minutes, Seconds, Wrong}
 use Rattle.time.specs.declared.duration.Weight.{Weight}
 use Rattle.time.specs.declared.duration.Reading.{Reading}
 use Rattle.time.specs.declared.duration.Duration.{Duration}
-use Rattle.time.specs.declared.duration.DurationRead.{DurationRead}
 
 -- this letter leads to this stage
 abbrev pub on : ℕ → ℕ → Stage → Stage → Stage
@@ -86,14 +85,14 @@ runs r [] = r
 runs r (b ∷ l) = runs (step r b) l
 
 -- whole where a unit stands last
-unfoldable pub finish : Reading → DurationRead
+unfoldable pub finish : Reading → Option Duration
 finish r =
     cond (ltb 0 ((weight_of r.stage).0 + (weight_of r.stage).1) && ltb r.digits 1)
-    (DurationRead.Of (record { days = r.days; seconds = r.seconds; timed = r.timed }))
-    DurationRead.Bad
+    (Some (record { days = r.days; seconds = r.seconds; timed = r.timed }))
+    None
 
 -- a text of the grammar (specs/Grammar), whatever it lasts
-unfoldable pub duration_text : List ℕ → DurationRead
+unfoldable pub duration_text : List ℕ → Option Duration
 duration_text l = finish (runs (blank Start) l)
 
 -- a day is 86,400 seconds
@@ -105,12 +104,12 @@ unfoldable pub within_limit : Duration → Bool
 within_limit d = leb (duration_seconds d) 315360000
 
 -- what is past the limit is bad
-unfoldable pub limited : DurationRead → DurationRead
-limited DurationRead.Bad = DurationRead.Bad
-limited (DurationRead.Of d) = cond (within_limit d) (DurationRead.Of d) DurationRead.Bad
+unfoldable pub limited : Option Duration → Option Duration
+limited None = None
+limited (Some d) = cond (within_limit d) (Some d) None
 
 -- a DURATION
-unfoldable pub read_duration : List ℕ → DurationRead
+unfoldable pub read_duration : List ℕ → Option Duration
 read_duration l = limited (duration_text l)
 
 -- how far in the grammar a stage is: every letter leads on

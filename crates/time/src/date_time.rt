@@ -5,15 +5,8 @@ ghost use Rattle.time.specs.DateTime.{digit_pair, pair_at, year_at, checked_day,
 
 use crate::days;
 
-// A number read from digits.
-#[derive(Clone, Copy)]
-pub enum Number {
-    Of(u64),
-    Bad,
-}
-
 // What a value's clock shows: UTC, a floating time, or the midnight of a DATE.
-#[derive(Clone, Copy)]
+#[derive(Clone, Copy, PartialEq, Eq)]
 pub enum Kind {
     Utc,
     Floating,
@@ -22,23 +15,23 @@ pub enum Kind {
 
 // A value read: its kind and the seconds since 00000101T000000 by its own clock.
 #[derive(Clone, Copy)]
-pub enum DateTime {
-    At(Kind, u64),
-    Bad,
+pub struct DateTime {
+    pub kind: Kind,
+    pub clock: u64,
 }
 
 // The number of two digits.
-fn digit_pair(a: u8, b: u8) -> Number
+fn digit_pair(a: u8, b: u8) -> Option<u64>
     ensures { result ≡ digit_pair a b }
 {
     if ascii::is_digit(a) & ascii::is_digit(b) {
-        return Number::Of((a as u64 - 48) * 10 + (b as u64 - 48));
+        return Some((a as u64 - 48) * 10 + (b as u64 - 48));
     }
-    Number::Bad
+    None
 }
 
 // The number of the two digits at a place.
-pub fn pair_at(s: &[u8], at: usize) -> Number
+pub fn pair_at(s: &[u8], at: usize) -> Option<u64>
     requires { at + 2 ≤ length s.now }
     ensures { result ≡ pair_at s.now at }
 {
@@ -46,92 +39,62 @@ pub fn pair_at(s: &[u8], at: usize) -> Number
 }
 
 // The number of the four digits at the start.
-fn year_at(s: &[u8]) -> Number
+fn year_at(s: &[u8]) -> Option<u64>
     requires { 8 ≤ length s.now }
     ensures { result ≡ year_at s.now }
 {
-    let hundreds = pair_at(s, 0);
-    match hundreds {
-        Number::Bad => Number::Bad,
-        Number::Of(h) => {
-            let rest = pair_at(s, 2);
-            match rest {
-                Number::Bad => Number::Bad,
-                Number::Of(n) => Number::Of(h * 100 + n),
-            }
-        }
-    }
+    let hundreds = pair_at(s, 0)?;
+    let rest = pair_at(s, 2)?;
+    Some(hundreds * 100 + rest)
 }
 
-// The day's number, where there is such a day.
-fn checked_day(y: u64, m: u64, d: u64) -> Number
+// The day's number, where there is such a day. The year stays a number, as days_before_year, which docs/TRACE.md names, takes it.
+fn checked_day(y: u64, m: u64, d: u64) -> Option<u64>
     requires { y ≤ 9999 }
     ensures { result ≡ checked_day y m d }
 {
     if d < 1 {
-        return Number::Bad;
+        return None;
     }
     if days::month_days(y, m) < d {
-        return Number::Bad;
+        return None;
     }
-    Number::Of(days::days_before_year(y) + days::days_before_month(y, m) + (d - 1))
+    Some(days::days_before_year(y) + days::days_before_month(y, m) + (d - 1))
 }
 
 // The day's number of the YYYYMMDD at the start.
-fn date_at(s: &[u8]) -> Number
+fn date_at(s: &[u8]) -> Option<u64>
     requires { 8 ≤ length s.now }
     ensures { result ≡ date_at s.now }
 {
-    let year = year_at(s);
-    match year {
-        Number::Bad => Number::Bad,
-        Number::Of(y) => {
-            let month = pair_at(s, 4);
-            match month {
-                Number::Bad => Number::Bad,
-                Number::Of(m) => {
-                    let day = pair_at(s, 6);
-                    match day {
-                        Number::Bad => Number::Bad,
-                        Number::Of(d) => checked_day(y, m, d),
-                    }
-                }
-            }
-        }
-    }
+    let year = year_at(s)?;
+    let month = pair_at(s, 4)?;
+    let day = pair_at(s, 6)?;
+    checked_day(year, month, day)
 }
 
 // The second of the day, where there is such a time; the second 60 reads as 59.
-fn checked_time(h: u64, m: u64, s: u64) -> Number
+fn checked_time(h: u64, m: u64, s: u64) -> Option<u64>
     ensures { result ≡ checked_time h m s }
 {
     if (h <= 23) & (m <= 59) & (s <= 60) {
         if s == 60 {
-            return Number::Of(h * 3600 + m * 60 + 59);
+            return Some(h * 3600 + m * 60 + 59);
         }
-        return Number::Of(h * 3600 + m * 60 + s);
+        return Some(h * 3600 + m * 60 + s);
     }
-    Number::Bad
+    None
 }
 
 // The second of the day of an hour, a minute and a second, where each was read.
-pub fn time_of(hour: Number, minute: Number, second: Number) -> Number
+pub fn time_of(hour: Option<u64>, minute: Option<u64>, second: Option<u64>) -> Option<u64>
     ensures { result ≡ three checked_time hour minute second }
 {
-    match hour {
-        Number::Bad => Number::Bad,
-        Number::Of(h) => match minute {
-            Number::Bad => Number::Bad,
-            Number::Of(m) => match second {
-                Number::Bad => Number::Bad,
-                Number::Of(n) => checked_time(h, m, n),
-            },
-        },
-    }
+    checked_time(hour?, minute?, second?)
 }
 
 // The second of the day of the HHMMSS at the ninth byte.
-fn time_at(s: &[u8]) -> Number
+fn time_at(s: &[u8]) -> Option<u64>
     requires { 15 ≤ length s.now }
     ensures { result ≡ time_at s.now }
 {
@@ -139,54 +102,47 @@ fn time_at(s: &[u8]) -> Number
 }
 
 // A DATE: its midnight.
-pub fn read_date(s: &[u8]) -> DateTime
+pub fn read_date(s: &[u8]) -> Option<DateTime>
     ensures { result ≡ read_date s.now }
 {
     if s.len() != 8 {
-        return DateTime::Bad;
+        return None;
     }
-    let date = date_at(s);
-    match date {
-        Number::Bad => DateTime::Bad,
-        Number::Of(n) => DateTime::At(Kind::Date, n * 86400),
-    }
+    let day = date_at(s)?;
+    Some(DateTime {
+        kind: Kind::Date,
+        clock: day * 86400,
+    })
 }
 
 // The clock of the YYYYMMDDTHHMMSS at the start.
-fn clock_at(kind: Kind, s: &[u8]) -> DateTime
+fn clock_at(kind: Kind, s: &[u8]) -> Option<DateTime>
     requires { 15 ≤ length s.now }
     ensures { result ≡ clock_at kind s.now }
 {
     if ascii::upper(s[8]) != 84 {
-        return DateTime::Bad;
+        return None;
     }
-    let date = date_at(s);
-    match date {
-        Number::Bad => DateTime::Bad,
-        Number::Of(n) => {
-            let time = time_at(s);
-            match time {
-                Number::Bad => DateTime::Bad,
-                Number::Of(t) => DateTime::At(kind, n * 86400 + t),
-            }
-        }
-    }
+    let day = date_at(s)?;
+    let second = time_at(s)?;
+    Some(DateTime {
+        kind,
+        clock: day * 86400 + second,
+    })
 }
 
 // A DATE-TIME: UTC with Z at its end, else floating. The clock is read in one place, so that its reader is compiled into this one.
-pub fn read_date_time(s: &[u8]) -> DateTime
+pub fn read_date_time(s: &[u8]) -> Option<DateTime>
     ensures { result ≡ read_date_time s.now }
 {
     let mut kind = Kind::Floating;
     if s.len() == 16 {
         if ascii::upper(s[15]) != 90 {
-            return DateTime::Bad;
+            return None;
         }
         kind = Kind::Utc;
-    } else {
-        if s.len() != 15 {
-            return DateTime::Bad;
-        }
+    } else if s.len() != 15 {
+        return None;
     }
     clock_at(kind, s)
 }

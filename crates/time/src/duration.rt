@@ -1,5 +1,6 @@
 // DURATION values: a fold over the bytes that keeps what was read before.
 // Days and seconds are answered apart, and whether there was a time part.
+// EventSmall stays in three contracts: an invariant of Reading would be that bound again, proved at each place that builds one.
 ghost use Rattle.std.specs.Prelude.{◌≡◌, ◌≤◌};
 ghost use Rattle.time.specs.Duration.{EventSmall, time_start, next_stage, weight_of, blank, with_digit, with_unit, step, finish, duration_text, duration_seconds, read_duration};
 
@@ -39,12 +40,6 @@ pub struct Duration {
     pub days: u64,
     pub seconds: u64,
     pub timed: bool,
-}
-
-#[derive(Clone, Copy)]
-pub enum DurationRead {
-    Of(Duration),
-    Bad,
 }
 
 // A time begins with hours, minutes or seconds.
@@ -135,16 +130,11 @@ fn with_digit(r: Reading, b: u8) -> Reading
     requires le_b { (48 ≤ b) × (b ≤ 57) }
     ensures { result ≡ with_digit r b }
 {
-    let stage = r.stage;
-    let digits = r.digits;
-    if digits < 6 {
+    if r.digits < 6 {
         return Reading {
-            stage,
-            digits: digits + 1,
+            digits: r.digits + 1,
             number: r.number * 10 + (b as u64 - 48),
-            days: r.days,
-            seconds: r.seconds,
-            timed: r.timed,
+            ..r
         };
     }
     blank(Stage::Wrong)
@@ -189,8 +179,8 @@ fn step(r: Reading, b: u8) -> Reading
     }
 }
 
-// At the end a unit was read last.
-fn finish(r: Reading) -> DurationRead
+// At the end a unit was read last. A From for the answer would be the same three fields, away from the test.
+fn finish(r: Reading) -> Option<Duration>
     ensures { result ≡ finish r }
 {
     let stage = r.stage;
@@ -199,24 +189,22 @@ fn finish(r: Reading) -> DurationRead
     let days = one.0;
     let seconds = one.1;
     if (0 < days + seconds) & (digits < 1) {
-        return DurationRead::Of(Duration {
+        return Some(Duration {
             days: r.days,
             seconds: r.seconds,
             timed: r.timed,
         });
     }
-    DurationRead::Bad
+    None
 }
 
 // The text of a duration, whatever its length.
-fn duration_text(s: &[u8]) -> DurationRead
+fn duration_text(s: &[u8]) -> Option<Duration>
     ensures { result ≡ duration_text s.now }
 {
     let mut r = blank(Stage::Start);
-    let mut i = 0;
-    while i < s.len() {
-        r = step(r, s[i]);
-        i += 1;
+    for &b in s {
+        r = step(r, b);
     }
     finish(r)
 }
@@ -230,18 +218,13 @@ pub fn duration_seconds(d: Duration) -> u64
 }
 
 // A DURATION within the limit.
-pub fn read_duration(s: &[u8]) -> DurationRead
+pub fn read_duration(s: &[u8]) -> Option<Duration>
     ensures { result ≡ read_duration s.now }
 {
-    let text = duration_text(s);
-    match text {
-        DurationRead::Bad => DurationRead::Bad,
-        DurationRead::Of(d) => {
-            if duration_seconds(d) <= 315360000 {
-                DurationRead::Of(d)
-            } else {
-                DurationRead::Bad
-            }
-        }
+    let d = duration_text(s)?;
+    if duration_seconds(d) <= 315360000 {
+        Some(d)
+    } else {
+        None
     }
 }

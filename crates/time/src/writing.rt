@@ -21,11 +21,7 @@ pub fn put_bytes(out: &mut [u8], at: usize, src: &[u8])
     requires { at + length src.now ≤ length out.old }
     ensures { out.new ≡ sets out.old at src.now }
 {
-    let mut i = 0;
-    while i < src.len() {
-        out[at + i] = src[i];
-        i += 1;
-    }
+    out[at..at + src.len()].copy_from_slice(src);
 }
 
 // The month that has begun last after n days of a year, a day being 67 / 2048 of a month.
@@ -98,6 +94,7 @@ fn put_time(out: &mut [u8], at: usize, s: u64)
 }
 
 // The sixteen bytes of a second within the limits, so of 32 bits: the compiler then knows how short each number is.
+// The bound stays in the contract: docs/TRACE.md names this function, and its argument may not change.
 pub fn write_utc(out: &mut [u8], at: usize, t: u64)
     requires { (at + 16 ≤ length out.old) × (t ≤ last_second) }
     ensures { out.new ≡ sets out.old at (utc_text t) }

@@ -3,3 +3,5 @@ pub mod RuleLaws
 pub mod RuleGrammar
 pub mod PeriodLaws
 pub mod TimeLists
+pub mod Splits
+pub mod GivenLaws

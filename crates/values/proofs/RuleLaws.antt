@@ -1,5 +1,8 @@
 -- The parts of a rule: the digits of a number, the parts one after the other, and how large what they make can be.
+use Rattle.std.specs.Prelude.{Err, None, Ok, Option, Result, Some}
 use Prim.Native.Nat.{ℕ, ◌+◌, ◌-◌, ◌*◌, ◌^◌, ◌≤◌, ◌<◌, max}
+use Rattle.values.specs.declared.rule.ValueError.{ValueError}
+use Rattle.values.specs.declared.rule.Part.{Part}
 use mathlib.Core.Path.{◌≡◌, refl, sym, ap, ◌∙◌}
 use mathlib.Core.Bool.{Bool, true, false, cond, ◌&&◌, ◌||◌}
 use mathlib.Core.List.{List, [], ◌∷◌, map}
@@ -17,21 +20,19 @@ use Rattle.ascii.proofs.Bools.{and_left, and_right}
 use Rattle.ascii.proofs.Lists.{drop_next, drop_end}
 use Rattle.ascii.proofs.Names.{every_next, every_stop, every_end}
 use Rattle.line.specs.Splitting.{first_outside, next_place, before, after, plain_split}
-use Rattle.line.proofs.Splitting.{next_place_first, after_part, item_at, item_more, item_last, taken_before}
+use Rattle.line.proofs.Splitting.{next_place_first, after_part, taken_before}
 use Rattle.time.proofs.DateTime.{digit_range}
 use Rattle.time.specs.Limits.{last_second}
-use Rattle.time.specs.declared.date_time.Number.{Number}
 use Rattle.values.specs.Times.{read_time}
 use Rattle.time.specs.Grammar.{decimal}
 use Rattle.values.specs.Rule.{number_to, frequency_part, interval_by, count_by, until_by, until_part, named_part, part_of, no_parts, with_part, with_parts, rule_by, rule_of, LimitSmall, RuleSmall}
 use Rattle.values.specs.declared.times.Context.{Context}
 use Rattle.values.specs.declared.times.Time.{Time}
-use Rattle.values.specs.declared.times.TimeRead.{TimeRead}
 use Rattle.values.specs.declared.times.Form.{Form}
+use Rattle.values.specs.declared.rule.Limit.{Limit}
 use Rattle.values.specs.declared.rule.Rule.{Rule}
-use Rattle.values.specs.declared.rule.Part.{Part}
+use Rattle.std.specs.Option.{unwrap_or}
 use Rattle.values.specs.declared.rule.Parts.{Parts}
-use Rattle.values.specs.declared.rule.RuleRead.{RuleRead}
 use Rattle.values.proofs.TimesLaws.{read_time_small}
 use Rattle.time.proofs.Below as tables
 
@@ -52,7 +53,7 @@ within lo hi n e = go (ltb n lo) refl e
     go true p q = let z : ◌≡◌ {A = ℕ} 0 1 = cc in absurd (omega arith)
     go false p q = (ltb-false n lo p, ltb-false hi n q)
 
-pub number_length : (most : ℕ) (l : List ℕ) → (ltb (length l) 1 || ltb 4 (length l)) ≡ true → Number.Bad ≡ number_to most l
+pub number_length : (most : ℕ) (l : List ℕ) → (ltb (length l) 1 || ltb 4 (length l)) ≡ true → None ≡ number_to most l
 unfolding number_to
 number_length most l e = rw (outside 1 4 (length l) e)
 
@@ -95,7 +96,7 @@ digits_next {l} {n} {i} h d r =
       value = sym (rw (drop_next l i h)) ∙ r.value;
     }
 
-pub digits_stop : (most : ℕ) {l : List ℕ} {n i : ℕ} → i < length l → is_digit (get_or l i 0) ≡ false → Digits l n i → Number.Bad ≡ number_to most l
+pub digits_stop : (most : ℕ) {l : List ℕ} {n i : ℕ} → i < length l → is_digit (get_or l i 0) ≡ false → Digits l n i → None ≡ number_to most l
 unfolding number_to
 digits_stop most {l} {n} {i} h d r =
     rw (inside 1 4 (length l) r.some r.few, sym r.digits ∙ every_stop is_digit l i h d)
@@ -105,13 +106,13 @@ digits_all : {l : List ℕ} {n i : ℕ} → length l ≤ i → Digits l n i → 
 unfolding decimal
 digits_all {l} {n} {i} h r = sym r.value ∙ rw (drop_end l i h)
 
-pub digits_over : (most : ℕ) {l : List ℕ} {n i : ℕ} → length l ≤ i → Digits l n i → (ltb n 1 || ltb most n) ≡ true → Number.Bad ≡ number_to most l
+pub digits_over : (most : ℕ) {l : List ℕ} {n i : ℕ} → length l ≤ i → Digits l n i → (ltb n 1 || ltb most n) ≡ true → None ≡ number_to most l
 unfolding number_to
 digits_over most {l} {n} {i} h r e =
     rw
     (inside 1 4 (length l) r.some r.few, sym r.digits ∙ every_end is_digit l i h, digits_all h r, outside 1 most n e)
 
-pub digits_of : (most : ℕ) {l : List ℕ} {n i : ℕ} → length l ≤ i → Digits l n i → (ltb n 1 || ltb most n) ≡ false → Number.Of n ≡ number_to most l
+pub digits_of : (most : ℕ) {l : List ℕ} {n i : ℕ} → length l ≤ i → Digits l n i → (ltb n 1 || ltb most n) ≡ false → Some n ≡ number_to most l
 unfolding number_to
 digits_of most {l} {n} {i} h r e =
     let w : (1 ≤ n) × (n ≤ most) = within 1 most n e in
@@ -125,7 +126,7 @@ module _ (c : Context) (l : List ℕ) (k : ℕ) (q : k ≡ next_place false 61 l
   sign_test : ltb (first_outside false 61 false l) (length l) ≡ ltb k (length l)
   sign_test = ap (λ (i : ℕ). ltb i (length l)) (sym (q ∙ next_place_first false 61 l))
 
-  pub part_of_unsigned : length l ≤ k → Part.Bad ≡ part_of c l
+  pub part_of_unsigned : length l ≤ k → Err ValueError.Bad ≡ part_of c l
   unfolding part_of
   part_of_unsigned h = rw (sign_test ∙ le-ltb k (length l) h)
 
@@ -141,67 +142,34 @@ module _ (c : Context) (l : List ℕ) (k : ℕ) (q : k ≡ next_place false 61 l
     unfolding part_of
     part_of_named t = rw (name_test ∙ t, taken_before 61 l k q, after_part false 61 l k q)
 
-    pub part_of_unnamed : y ≡ false → Part.Bad ≡ part_of c l
+    pub part_of_unnamed : y ≡ false → Err ValueError.Bad ≡ part_of c l
     unfolding part_of
     part_of_unnamed t = rw (name_test ∙ t)
 
 -- ---- the rule that the parts make
 
 module _ (p : Parts) where
-  pub rule_by_unsupported : p.unsupported ≡ true → RuleRead.Unsupported ≡ rule_by p
+  pub rule_by_unsupported : p.unsupported ≡ true → Err ValueError.Unsupported ≡ rule_by p
   unfolding rule_by
   rule_by_unsupported u = rw u
 
-  pub rule_by_bad : p.unsupported ≡ false → (p.bad || eqb p.days 0) ≡ true → RuleRead.Bad ≡ rule_by p
+  pub rule_by_bad : p.unsupported ≡ false → (p.bad || eqb p.days 0) ≡ true → Err ValueError.Bad ≡ rule_by p
   unfolding rule_by
   rule_by_bad u b = rw (u, b)
 
-  pub rule_by_of : (n : ℕ) → p.unsupported ≡ false → (p.bad || eqb p.days 0) ≡ false → n ≡ max 1 p.interval
-      → RuleRead.Of (record { days = p.days; interval = n; limit = p.limit }) ≡ rule_by p
+  pub rule_by_of : (n : ℕ) → p.unsupported ≡ false → (p.bad || eqb p.days 0) ≡ false → n ≡ max 1 p.interval → {l : Limit} → l ≡ unwrap_or p.limit Limit.Forever
+      → Ok (record { days = p.days; interval = n; limit = l }) ≡ rule_by p
   unfolding rule_by
-  rule_by_of n u b e = rw (u, b, e)
-
--- ---- the loop over the parts: with those before `from`, the rest gives all
-
-abbrev parts_from : Context → List ℕ → ℕ → List Part
-parts_from c v from = map (part_of c) (plain_split 59 (drop from v))
-
-pub record PartsRead (c : Context) (v : List ℕ) (p : Parts) (from : ℕ) : Type 0 where
-  pub inside_value : from ≤ length v
-  pub rest : with_parts p (parts_from c v from) ≡ with_parts no_parts (parts_from c v 0)
-
-pub parts_start : (c : Context) (v : List ℕ) (p : Parts) → p ≡ no_parts → PartsRead c v p 0
-parts_start c v p e = record { inside_value = omega arith; rest = ap (λ (q : Parts). with_parts q (parts_from c v 0)) e }
-
-module _ {c : Context} {v : List ℕ} {p : Parts} {from : ℕ} (q : Parts) (x : Part) (e : ℕ) where
-  pub parts_next : e ≡ next_place false 59 v from → e < length v → x ≡ part_of c (item_at v from e) → q ≡ with_part p x → PartsRead c v p from
-      → PartsRead c v q (e + 1)
-  unfolding with_parts
-  parts_next k h f g r =
-      record {
-        inside_value = omega arith;
-        rest =
-            ap (λ (y : Parts). with_parts y (parts_from c v (e + 1))) (g ∙ ap (with_part p) f)
-            ∙ ap (λ (ts : List (List ℕ)). with_parts p (map (part_of c) ts)) (sym (item_more 59 v from e r.inside_value k h))
-            ∙ r.rest;
-      }
-
-  pub parts_end : e ≡ next_place false 59 v from → length v ≤ e → x ≡ part_of c (item_at v from e) → q ≡ with_part p x → PartsRead c v p from
-      → rule_by q ≡ rule_of c v
-  unfolding with_parts rule_of
-  parts_end k h f g r =
-      ap rule_by (g ∙ ap (with_part p) f
-      ∙ ap (λ (ts : List (List ℕ)). with_parts p (map (part_of c) ts)) (sym (item_last 59 v from e r.inside_value k h))
-      ∙ r.rest)
+  rule_by_of n u b e f = rw (u, b, e, f)
 
 -- ---- how large a rule can be
 
-pub number_to_small : (most : ℕ) (l : List ℕ) (n : ℕ) → number_to most l ≡ Number.Of n → (1 ≤ n) × (n ≤ most)
+pub number_to_small : (most : ℕ) (l : List ℕ) (n : ℕ) → number_to most l ≡ Some n → (1 ≤ n) × (n ≤ most)
 unfolding number_to
 number_to_small most l n e = go (between 1 4 (length l) && every is_digit l && between 1 most (decimal 0 l)) refl e
   where
     go : (t : Bool) → (between 1 4 (length l) && every is_digit l && between 1 most (decimal 0 l)) ≡ t
-        → cond t (Number.Of (decimal 0 l)) Number.Bad ≡ Number.Of n → (1 ≤ n) × (n ≤ most)
+        → cond t (Some (decimal 0 l)) None ≡ Some n → (1 ≤ n) × (n ≤ most)
     go true p k =
         let z : decimal 0 l ≡ n = cc in
         let w : between 1 most (decimal 0 l) ≡ true = and_right (between 1 4 (length l) && every is_digit l) _ p in
@@ -209,41 +177,41 @@ number_to_small most l n e = go (between 1 4 (length l) && every is_digit l && b
     go false p k = let z : ◌≡◌ {A = ℕ} 0 1 = cc in absurd (omega arith)
 
 -- what one part adds
-abbrev PartSmall : Part → Type 0
-PartSmall (Part.Frequency d) = d ≤ 7
-PartSmall (Part.Interval n) = n ≤ 999
-PartSmall (Part.Limit l) = LimitSmall l
-PartSmall Part.Unsupported = Unit {0}
-PartSmall Part.Bad = Unit {0}
+abbrev PartSmall : Result Part ValueError → Type 0
+PartSmall (Ok (Part.Frequency d)) = d ≤ 7
+PartSmall (Ok (Part.Interval n)) = n ≤ 999
+PartSmall (Ok (Part.Limit l)) = LimitSmall l
+PartSmall (Err ValueError.Unsupported) = Unit {0}
+PartSmall (Err ValueError.Bad) = Unit {0}
 
 record PartsSmall (p : Parts) : Type 0 where
   few_days : p.days ≤ 7
   few_interval : p.interval ≤ 999
-  limit_small : LimitSmall p.limit
+  limit_small : LimitSmall (unwrap_or p.limit Limit.Forever)
 
 frequency_small : (v : List ℕ) → PartSmall (frequency_part v)
 unfolding frequency_part
 frequency_small v = go (same_name v (ascii "DAILY")) (same_name v (ascii "WEEKLY"))
   where
-    go : (s t : Bool) → PartSmall (cond s (Part.Frequency 1) (cond t (Part.Frequency 7) Part.Unsupported))
+    go : (s t : Bool) → PartSmall (cond s (Ok (Part.Frequency 1)) (cond t (Ok (Part.Frequency 7)) (Err ValueError.Unsupported)))
     go true t = omega arith
     go false true = omega arith
     go false false = tt
 
-interval_small : (v : List ℕ) (n : Number) → number_to 999 v ≡ n → PartSmall (interval_by n)
+interval_small : (v : List ℕ) (n : Option ℕ) → number_to 999 v ≡ n → PartSmall (interval_by n)
 unfolding interval_by
-interval_small v (Number.Of n) e = (number_to_small 999 v n e).1
-interval_small v Number.Bad e = tt
+interval_small v (Some n) e = (number_to_small 999 v n e).1
+interval_small v None e = tt
 
-counted_small : (v : List ℕ) (n : Number) → number_to 9999 v ≡ n → PartSmall (count_by n)
+counted_small : (v : List ℕ) (n : Option ℕ) → number_to 9999 v ≡ n → PartSmall (count_by n)
 unfolding count_by
-counted_small v (Number.Of n) e = number_to_small 9999 v n e
-counted_small v Number.Bad e = tt
+counted_small v (Some n) e = number_to_small 9999 v n e
+counted_small v None e = tt
 
-until_by_small : (r : TimeRead) → ((t : Time) → r ≡ TimeRead.Of t → t.second ≤ last_second) → PartSmall (until_by r)
+until_by_small : (r : Option Time) → ((t : Time) → r ≡ Some t → t.second ≤ last_second) → PartSmall (until_by r)
 unfolding until_by
-until_by_small (TimeRead.Of t) h = h t refl
-until_by_small TimeRead.Bad h = tt
+until_by_small (Some t) h = h t refl
+until_by_small None h = tt
 
 until_part_small : (c : Context) (v : List ℕ) → PartSmall (until_part c v)
 unfolding until_part
@@ -257,7 +225,7 @@ unfolding named_part
 named_small c n v = go (same_name n (ascii "FREQ")) (same_name n (ascii "INTERVAL")) (same_name n (ascii "COUNT")) (same_name n (ascii "UNTIL"))
   where
     go : (f i k u : Bool)
-        → PartSmall (cond f (frequency_part v) (cond i (interval_by (number_to 999 v)) (cond k (count_by (number_to 9999 v)) (cond u (until_part c v) Part.Unsupported))))
+        → PartSmall (cond f (frequency_part v) (cond i (interval_by (number_to 999 v)) (cond k (count_by (number_to 9999 v)) (cond u (until_part c v) (Err ValueError.Unsupported)))))
     go true i k u = frequency_small v
     go false true k u = interval_small v (number_to 999 v) refl
     go false false true u = counted_small v (number_to 9999 v) refl
@@ -268,17 +236,17 @@ part_small : (c : Context) (l : List ℕ) → PartSmall (part_of c l)
 unfolding part_of
 part_small c l = go (ltb (first_outside false 61 false l) (length l) && is_name (before false 61 l))
   where
-    go : (t : Bool) → PartSmall (cond t (named_part c (before false 61 l) (after false 61 l)) Part.Bad)
+    go : (t : Bool) → PartSmall (cond t (named_part c (before false 61 l) (after false 61 l)) (Err ValueError.Bad))
     go true = named_small c (before false 61 l) (after false 61 l)
     go false = tt
 
-with_small : (p : Parts) (x : Part) → PartsSmall p → PartSmall x → PartsSmall (with_part p x)
+with_small : (p : Parts) (x : Result Part ValueError) → PartsSmall p → PartSmall x → PartsSmall (with_part p x)
 unfolding with_part
-with_small p (Part.Frequency d) h k = record { few_days = k; few_interval = h.few_interval; limit_small = h.limit_small }
-with_small p (Part.Interval n) h k = record { few_days = h.few_days; few_interval = k; limit_small = h.limit_small }
-with_small p (Part.Limit l) h k = record { few_days = h.few_days; few_interval = h.few_interval; limit_small = k }
-with_small p Part.Unsupported h k = record { few_days = h.few_days; few_interval = h.few_interval; limit_small = h.limit_small }
-with_small p Part.Bad h k = record { few_days = h.few_days; few_interval = h.few_interval; limit_small = h.limit_small }
+with_small p (Ok (Part.Frequency d)) h k = record { few_days = k; few_interval = h.few_interval; limit_small = h.limit_small }
+with_small p (Ok (Part.Interval n)) h k = record { few_days = h.few_days; few_interval = k; limit_small = h.limit_small }
+with_small p (Ok (Part.Limit l)) h k = record { few_days = h.few_days; few_interval = h.few_interval; limit_small = k }
+with_small p (Err ValueError.Unsupported) h k = record { few_days = h.few_days; few_interval = h.few_interval; limit_small = h.limit_small }
+with_small p (Err ValueError.Bad) h k = record { few_days = h.few_days; few_interval = h.few_interval; limit_small = h.limit_small }
 
 all_small : (c : Context) (p : Parts) (ts : List (List ℕ)) → PartsSmall p → PartsSmall (with_parts p (map (part_of c) ts))
 unfolding with_parts
@@ -289,18 +257,18 @@ none_small : PartsSmall no_parts
 unfolding no_parts
 none_small = record { few_days = omega arith; few_interval = omega arith; limit_small = tt }
 
-by_small : (p : Parts) (r : Rule) → PartsSmall p → rule_by p ≡ RuleRead.Of r → RuleSmall r
+by_small : (p : Parts) (r : Rule) → PartsSmall p → rule_by p ≡ Ok r → RuleSmall r
 unfolding rule_by
 by_small p r h e = go p.unsupported p.bad (eqb p.days 0) refl e
   where
     go : (u b z : Bool) → eqb p.days 0 ≡ z
-        → cond u RuleRead.Unsupported (cond (b || z) RuleRead.Bad (RuleRead.Of (record { days = p.days; interval = max 1 p.interval; limit = p.limit }))) ≡ RuleRead.Of r
+        → cond u (Err ValueError.Unsupported) (cond (b || z) (Err ValueError.Bad) (Ok (record { days = p.days; interval = max 1 p.interval; limit = unwrap_or p.limit Limit.Forever }))) ≡ Ok r
         → RuleSmall r
     go true b z q k = let w : ◌≡◌ {A = ℕ} 0 1 = cc in absurd (omega arith)
     go false true z q k = let w : ◌≡◌ {A = ℕ} 0 1 = cc in absurd (omega arith)
     go false false true q k = let w : ◌≡◌ {A = ℕ} 0 1 = cc in absurd (omega arith)
     go false false false q k =
-        let w : record { days = p.days; interval = max 1 p.interval; limit = p.limit } ≡ r = cc in
+        let w : record { days = p.days; interval = max 1 p.interval; limit = unwrap_or p.limit Limit.Forever } ≡ r = cc in
         rw (← w) (record {
           some_days = omega (arith, eqb-false p.days 0 q);
           few_days = h.few_days;
@@ -310,6 +278,6 @@ by_small p r h e = go p.unsupported p.bad (eqb p.days 0) refl e
         })
 
 -- a rule that is read is small
-pub rule_of_small : (c : Context) (v : List ℕ) (r : Rule) → rule_of c v ≡ RuleRead.Of r → RuleSmall r
+pub rule_of_small : (c : Context) (v : List ℕ) (r : Rule) → rule_of c v ≡ Ok r → RuleSmall r
 unfolding rule_of
 rule_of_small c v r e = by_small (with_parts no_parts (map (part_of c) (plain_split 59 v))) r (all_small c no_parts (plain_split 59 v) none_small) e

@@ -1,5 +1,6 @@
 -- Lists of times: how long an item is, how late a second can be, what the kinds of a list say of its times,
 -- and the loop that stores a value's times: what is left to store makes the whole.
+use Rattle.std.specs.Prelude.{None, Option, Some}
 use Prim.Native.Nat.{ℕ, suc, ◌+◌, ◌*◌, ◌≤◌, ◌<◌}
 use mathlib.Core.Path.{◌≡◌, refl, sym, ap, subst, ◌∙◌}
 use mathlib.Core.Bool.{Bool, true, false, cond}
@@ -7,49 +8,52 @@ use mathlib.Core.Logic.{⊎_elim}
 use mathlib.Core.List.Memᴰ
 use mathlib.Core.List.{List, [], ◌∷◌, ◌++◌, map, Memᴰ}
 use native.Mathlib.Omega.{arith}
-use lib.Dec.{ltb}
-use lib.ListN.{length, drop, set, length-take, length-set}
+use denote.Enum.Bare.{sameb}
+use lib.Dec.{eqb, ltb}
+use lib.ListN.{length, set, length-set}
 use lib.Seq.{sets, length-sets}
 use borrow.Author.Tests.{ltb-true, ltb-false, eq-eqb, eqb-true}
-use Rattle.line.specs.Splitting.{next_place, split_after, plain_split}
-use Rattle.line.proofs.Splitting.{parts_end, item_at, item_inside, item_first, item_more, item_last}
+use Rattle.std.specs.Iterator.{AlwaysYields}
+use Rattle.std.specs.List.{slice_split, onto_first}
+use Rattle.line.specs.Splitting.{plain_split}
+use Rattle.line.proofs.Splitting.{parts_end}
 use Rattle.time.specs.Limits.{last_second}
 use Rattle.time.specs.declared.date_time.Kind.{Kind}
+use Rattle.time.specs.contracts.date_time.Kind.{the_type}
 use Rattle.time.proofs.DateTime.{read_date_length, read_date_time_length}
 use Rattle.values.specs.Times.{time_by, read_time}
 use Rattle.values.specs.TimeLists.{time_items, all_times, good_times, seconds_of, kind_number, same_kind, with_kind, with_kinds, TimesAre, times_good, times_bad}
 use Rattle.values.specs.declared.times.Context.{Context}
 use Rattle.values.specs.declared.times.Time.{Time}
-use Rattle.values.specs.declared.times.TimeRead.{TimeRead}
 use Rattle.values.specs.declared.times.Form.{Form}
 use Rattle.values.specs.declared.time_lists.Kinds.{Kinds}
-use Rattle.values.specs.declared.time_lists.TimesStored.{TimesStored}
 use Rattle.values.proofs.TimesLaws.{read_time_small}
+use Rattle.values.proofs.Splits.{split_same}
 
 -- ---- one item
 
 -- fewer than eight bytes are no time
-few_bad : (c : Context) (f : Form) (l : List ℕ) → length l < 8 → TimeRead.Bad ≡ read_time c f l
+few_bad : (c : Context) (f : Form) (l : List ℕ) → length l < 8 → None ≡ read_time c f l
 unfolding read_time time_by
 few_bad c Form.DateTime l h = ap (time_by c) (read_date_time_length l (λ e. omega arith) (λ e. omega arith))
 few_bad c Form.Date l h = ap (time_by c) (read_date_length l (λ e. omega arith))
 few_bad c Form.Wrong l h = refl
 
 -- a time that is read has eight bytes or more
-pub read_time_long : (c : Context) (f : Form) (l : List ℕ) (t : Time) → read_time c f l ≡ TimeRead.Of t → 8 ≤ length l
+pub read_time_long : (c : Context) (f : Form) (l : List ℕ) (t : Time) → read_time c f l ≡ Some t → 8 ≤ length l
 read_time_long c f l t e = go (ltb (length l) 8) refl
   where
     go : (b : Bool) → ltb (length l) 8 ≡ b → 8 ≤ length l
     go true k =
-        let bad : TimeRead.Bad ≡ read_time c f l = few_bad c f l (ltb-true _ _ k) in
+        let bad : None ≡ read_time c f l = few_bad c f l (ltb-true _ _ k) in
         let z : ◌≡◌ {A = ℕ} 0 1 = cc in
         absurd (omega arith)
     go false k = ltb-false _ _ k
 
 -- a list that begins with an empty item is bad, and so is an empty value
-empty_item : (c : Context) (f : Form) (rs : List TimeRead) → all_times (read_time c f [] ∷ rs) ≡ false
+empty_item : (c : Context) (f : Form) (rs : List (Option Time)) → all_times (read_time c f [] ∷ rs) ≡ false
 unfolding all_times
-empty_item c f rs = sym (ap (λ (r : TimeRead). all_times (r ∷ rs)) (few_bad c f [] (omega arith)))
+empty_item c f rs = sym (ap (λ (r : Option Time). all_times (r ∷ rs)) (few_bad c f [] (omega arith)))
 
 pub empty_value : (c : Context) (f : Form) → all_times (time_items c f []) ≡ false
 unfolding time_items plain_split
@@ -62,11 +66,11 @@ unfolding seconds_of good_times
 items_small c f [] s m = absurd (Memᴰ.not-nil m)
 items_small c f (l ∷ ts) s m = go (read_time c f l) refl m (items_small c f ts s)
   where
-    go : (r : TimeRead) → read_time c f l ≡ r → Memᴰ s (seconds_of (good_times (r ∷ map (read_time c f) ts)))
+    go : (r : Option Time) → read_time c f l ≡ r → Memᴰ s (seconds_of (good_times (r ∷ map (read_time c f) ts)))
         → (Memᴰ s (seconds_of (good_times (map (read_time c f) ts))) → s ≤ last_second) → s ≤ last_second
-    go (TimeRead.Of t) e (Memᴰ.head q) rest = omega (arith, read_time_small c f l t e)
-    go (TimeRead.Of t) e (Memᴰ.tail w) rest = rest w
-    go TimeRead.Bad e w rest = rest w
+    go (Some t) e (Memᴰ.head q) rest = omega (arith, read_time_small c f l t e)
+    go (Some t) e (Memᴰ.tail w) rest = rest w
+    go None e w rest = rest w
 
 -- every second of a value is within the limits
 pub times_small : (c : Context) (f : Form) (v : List ℕ) (s : ℕ) → Memᴰ s (seconds_of (good_times (time_items c f v))) → s ≤ last_second
@@ -87,6 +91,19 @@ kind_is Kind.Floating Kind.Date e = absurd (omega arith)
 kind_is Kind.Date Kind.Utc e = absurd (omega arith)
 kind_is Kind.Date Kind.Floating e = absurd (omega arith)
 kind_is Kind.Date Kind.Date e = refl
+
+-- as the code compares them
+pub kind_eq : (a b : Kind) → sameb the_type a b ≡ same_kind a b
+unfolding same_kind kind_number
+kind_eq Kind.Utc Kind.Utc = refl
+kind_eq Kind.Utc Kind.Floating = refl
+kind_eq Kind.Utc Kind.Date = refl
+kind_eq Kind.Floating Kind.Utc = refl
+kind_eq Kind.Floating Kind.Floating = refl
+kind_eq Kind.Floating Kind.Date = refl
+kind_eq Kind.Date Kind.Utc = refl
+kind_eq Kind.Date Kind.Floating = refl
+kind_eq Kind.Date Kind.Date = refl
 
 same_kind_is : (a b : Kind) → same_kind a b ≡ true → a ≡ b
 unfolding same_kind
@@ -132,138 +149,140 @@ with_kinds_append ks (t ∷ a) b = with_kinds_append (with_kind ks t.kind) a b
 
 -- ---- the loop over a value
 
--- every item before `from` is a time, and the seconds of those from there on are left to store behind n in o
-pub record StoringTimes (c : Context) (f : Form) (v : List ℕ) (ks₀ : Kinds) (o₀ : List ℕ) (n₀ : ℕ) (ks : Kinds) (o : List ℕ) (n from : ℕ) : Type 0 where
-  pub inside_value : from ≤ length v
+-- the bytes of the pieces and of what cuts them, with one more
+unfoldable pub span : List (List ℕ) → ℕ
+span [] = 0
+span (t ∷ ts) = length t + 1 + span ts
+
+span_split : (sep : ℕ) (s : List ℕ) → span (slice_split (λ b. eqb b sep) s) ≡ length s + 1
+unfolding span
+span_split sep [] = refl
+span_split sep (b ∷ s) = go (eqb b sep) (slice_split (λ x. eqb x sep) s) (span_split sep s)
+  where
+    go : (t : Bool) (ts : List (List ℕ)) → span ts ≡ length s + 1 → span (cond t ([] ∷ ts) (onto_first b ts)) ≡ length (b ∷ s) + 1
+    go true ts e = omega (arith, e)
+    go false [] e = absurd (omega (arith, e))
+    go false (t ∷ ts) e = omega (arith, e)
+
+-- a pass over the pieces: the next of them, and none
+module _ {S A B : Type 0} (steps : S → Option A → S → Type 0) (g : A → B) where
+  pub next_piece : (left : List B) {s t : S} {x : A} → AlwaysYields steps g s left → steps s (Some x) t → (rest : List B) × (left ≡ g x ∷ rest) × AlwaysYields steps g t rest
+  next_piece [] {s} {t} {x} y h = absurd (y x t h)
+  next_piece (b ∷ left) {s} {t} {x} y h = (left, sym (ap (λ (z : B). z ∷ left) (y.1 x t h).0), (y.1 x t h).1)
+
+  pub no_piece : (left : List B) {s t : S} → AlwaysYields steps g s left → steps s None t → left ≡ []
+  no_piece [] y h = refl
+  no_piece (b ∷ left) {s} {t} y h = absurd (y.0 t h)
+
+-- every piece before those left is a time, and the seconds of these are left to store behind n in o
+pub record StoringTimes (c : Context) (f : Form) (v : List ℕ) (ks₀ : Kinds) (o₀ : List ℕ) (n₀ : ℕ) (ks : Kinds) (o : List ℕ) (n : ℕ) (left : List (List ℕ)) : Type 0 where
   pub room : 8 * n₀ + length v ≤ 8 * length o₀
   pub long : length o ≡ length o₀
-  pub few : 8 * n ≤ 8 * n₀ + from
-  pub good : all_times (time_items c f (drop from v)) ≡ all_times (time_items c f v)
-  pub seconds : sets o n (seconds_of (good_times (time_items c f (drop from v)))) ≡ sets o₀ n₀ (seconds_of (good_times (time_items c f v)))
-  pub count : n + length (good_times (time_items c f (drop from v))) ≡ n₀ + length (good_times (time_items c f v))
-  pub kinds : with_kinds ks (good_times (time_items c f (drop from v))) ≡ with_kinds ks₀ (good_times (time_items c f v))
+  pub behind : n₀ ≤ n
+  pub few : 9 * n + span left ≤ 9 * n₀ + length v + 1
+  pub good : all_times (map (read_time c f) left) ≡ all_times (time_items c f v)
+  pub seconds : sets o n (seconds_of (good_times (map (read_time c f) left))) ≡ sets o₀ n₀ (seconds_of (good_times (time_items c f v)))
+  pub count : n + length (good_times (map (read_time c f) left)) ≡ n₀ + length (good_times (time_items c f v))
+  pub kinds : with_kinds ks (good_times (map (read_time c f) left)) ≡ with_kinds ks₀ (good_times (time_items c f v))
 
 pub storing_start : (c : Context) (f : Form) (v : List ℕ) (ks : Kinds) (o : List ℕ) (n : ℕ) → 8 * n + length v ≤ 8 * length o
-    → StoringTimes c f v ks o n ks o n 0
+    → StoringTimes c f v ks o n ks o n (slice_split (λ b. eqb b 44) v)
+unfolding time_items
 storing_start c f v ks o n h =
-    record { inside_value = omega arith; room = h; long = refl; few = omega arith; good = refl; seconds = refl; count = refl; kinds = refl }
+    rw (split_same 44 v)
+    (record {
+      room = h;
+      long = refl;
+      behind = omega arith;
+      few = omega (arith, span_split 44 v, ap span (split_same 44 v));
+      good = refl;
+      seconds = refl;
+      count = refl;
+      kinds = refl;
+    })
 
--- an item that is a time, or is bad, with those behind it
-module _ (c : Context) (f : Form) (v : List ℕ) {from e : ℕ} {x : TimeRead} (inside : from ≤ length v) (q : e ≡ next_place false 44 v from) (w : x ≡ read_time c f (item_at v from e)) where
-  first_item : {r : TimeRead} → x ≡ r → time_items c f (drop from v) ≡ r ∷ map (read_time c f) (split_after false 44 v e)
-  unfolding time_items
-  first_item k =
-      ap (map (read_time c f)) (item_first 44 v from e inside q)
-      ∙ ap (λ (y : TimeRead). y ∷ map (read_time c f) (split_after false 44 v e)) (sym w ∙ k)
+module _ {c : Context} {f : Form} {v : List ℕ} {ks₀ : Kinds} {o₀ : List ℕ} {n₀ : ℕ} {ks : Kinds} {o : List ℕ} {n : ℕ} {left : List (List ℕ)} (z : StoringTimes c f v ks₀ o₀ n₀ ks o n left) where
+  -- no piece is left
+  pub storing_ends : left ≡ [] → TimesAre c f v ks₀ o₀ n₀ o (Some (n, ks))
+  unfolding all_times good_times seconds_of with_kinds span
+  storing_ends p =
+      times_good {m = n}
+      (sym z.good ∙ ap (λ (l : List (List ℕ)). all_times (map (read_time c f) l)) p)
+      (sym (ap (λ (l : List (List ℕ)). sets o n (seconds_of (good_times (map (read_time c f) l)))) p) ∙ z.seconds)
+      (omega (arith, z.count, ap (λ (l : List (List ℕ)). length (good_times (map (read_time c f) l))) p))
+      (sym (ap (λ (l : List (List ℕ)). with_kinds ks (good_times (map (read_time c f) l))) p) ∙ z.kinds)
+      (omega (arith, z.few, z.behind))
 
-  more_items : {r : TimeRead} → x ≡ r → e < length v → time_items c f (drop from v) ≡ r ∷ time_items c f (drop (e + 1) v)
-  unfolding time_items
-  more_items k h =
-      ap (map (read_time c f)) (item_more 44 v from e inside q h)
-      ∙ ap (λ (y : TimeRead). y ∷ map (read_time c f) (plain_split 44 (drop (e + 1) v))) (sym w ∙ k)
+  -- the next piece is a time, or is bad
+  module _ {item : List ℕ} {rest : List (List ℕ)} (p : left ≡ item ∷ rest) {x : Option Time} (w : x ≡ read_time c f item) where
+    read_first : {r : Option Time} → x ≡ r → map (read_time c f) left ≡ r ∷ map (read_time c f) rest
+    read_first k = ap (map (read_time c f)) p ∙ ap (λ (y : Option Time). y ∷ map (read_time c f) rest) (sym w ∙ k)
 
-  last_item : {r : TimeRead} → x ≡ r → length v ≤ e → time_items c f (drop from v) ≡ r ∷ []
-  unfolding time_items
-  last_item k h =
-      ap (map (read_time c f)) (item_last 44 v from e inside q h)
-      ∙ ap (λ (y : TimeRead). y ∷ []) (sym w ∙ k)
+    pub storing_stops : x ≡ None → TimesAre c f v ks₀ o₀ n₀ o None
+    unfolding all_times
+    storing_stops k = times_bad (sym z.good ∙ ap all_times (read_first k)) z.long
 
-  -- it has eight bytes or more
-  item_long : {t : Time} → x ≡ TimeRead.Of t → from + 8 ≤ e
-  item_long {t} k =
-      let h : 8 ≤ length (item_at v from e) = read_time_long c f (item_at v from e) t (sym w ∙ k) in
-      omega (arith, simp length-take at h)
+    module _ {t : Time} (k : x ≡ Some t) where
+      -- its second can be stored
+      pub storing_small : t.second ≤ last_second
+      storing_small = read_time_small c f item t (sym w ∙ k)
 
-module _ {c : Context} {f : Form} {v : List ℕ} {ks₀ : Kinds} {o₀ : List ℕ} {n₀ : ℕ} {ks : Kinds} {o : List ℕ} {n from : ℕ} (z : StoringTimes c f v ks₀ o₀ n₀ ks o n from)
-    {e : ℕ} {x : TimeRead} (q : e ≡ next_place false 44 v from) (w : x ≡ read_time c f (item_at v from e)) where
-  pub storing_stops : x ≡ TimeRead.Bad → TimesAre c f v ks₀ o₀ n₀ o TimesStored.Bad
-  unfolding all_times
-  storing_stops k = times_bad (sym z.good ∙ ap all_times (first_item c f v z.inside_value q w k)) z.long
+      fewer : 9 * n + (length item + 1 + span rest) ≤ 9 * n₀ + length v + 1
+      unfolding span
+      fewer = omega (arith, z.few, ap span p)
 
-  module _ {t : Time} (k : x ≡ TimeRead.Of t) where
-    -- its second can be stored
-    pub storing_small : t.second ≤ last_second
-    storing_small = read_time_small c f (item_at v from e) t (sym w ∙ k)
+      pub storing_room : n < length o
+      storing_room = omega (arith, z.room, z.long, z.behind, fewer, read_time_long c f item t (sym w ∙ k))
 
-    pub storing_room : n < length o
-    storing_room = omega (arith, z.room, z.long, z.few, item_long c f v z.inside_value q w k, item_inside 44 v from e z.inside_value q)
-
-    -- after it: what is left is one less
-    module _ {rest : List TimeRead} (p : time_items c f (drop from v) ≡ TimeRead.Of t ∷ rest) where
-      one_good : all_times rest ≡ all_times (time_items c f v)
-      unfolding all_times
-      one_good = sym (ap all_times p) ∙ z.good
-
-      one_second : sets (set o n t.second) (n + 1) (seconds_of (good_times rest)) ≡ sets o₀ n₀ (seconds_of (good_times (time_items c f v)))
-      unfolding seconds_of good_times
-      one_second =
-          ap (λ (i : ℕ). sets (set o n t.second) i (seconds_of (good_times rest))) (let one : n + 1 ≡ suc n = omega arith in one)
-          ∙ sym (ap (λ (l : List TimeRead). sets o n (seconds_of (good_times l))) p)
-          ∙ z.seconds
-
-      one_count : (n + 1) + length (good_times rest) ≡ n₀ + length (good_times (time_items c f v))
-      unfolding good_times
-      one_count = omega (arith, z.count, ap (λ (l : List TimeRead). length (good_times l)) p)
-
-      one_kind : {js : Kinds} → js ≡ with_kind ks t.kind → with_kinds js (good_times rest) ≡ with_kinds ks₀ (good_times (time_items c f v))
-      unfolding with_kinds good_times
-      one_kind g =
-          ap (λ (j : Kinds). with_kinds j (good_times rest)) g
-          ∙ sym (ap (λ (l : List TimeRead). with_kinds ks (good_times l)) p)
-          ∙ z.kinds
-
-    pub storing_next : {js : Kinds} → js ≡ with_kind ks t.kind → e < length v → StoringTimes c f v ks₀ o₀ n₀ js (set o n t.second) (n + 1) (e + 1)
-    storing_next g h =
-        let p = more_items c f v z.inside_value q w k h in
-        record {
-          inside_value = omega arith;
-          room = z.room;
-          long = length-set o n t.second ∙ z.long;
-          few = omega (arith, z.few, item_long c f v z.inside_value q w k);
-          good = one_good p;
-          seconds = one_second p;
-          count = one_count p;
-          kinds = one_kind p g;
-        }
-
-    pub storing_ends : {js : Kinds} → js ≡ with_kind ks t.kind → length v ≤ e → TimesAre c f v ks₀ o₀ n₀ (set o n t.second) (TimesStored.Of (n + 1) js)
-    unfolding all_times good_times seconds_of with_kinds
-    storing_ends g h =
-        let p = last_item c f v z.inside_value q w k h in
-        times_good {m = n + 1}
-        (sym (one_good p))
-        (one_second p)
-        (omega (arith, one_count p))
-        (one_kind p g)
-        (omega (arith, z.few, item_long c f v z.inside_value q w k, item_inside 44 v from e z.inside_value q))
+      -- after it: what is left is one less
+      pub storing_next : {js : Kinds} → js ≡ with_kind ks t.kind → StoringTimes c f v ks₀ o₀ n₀ js (set o n t.second) (n + 1) rest
+      unfolding all_times good_times seconds_of with_kinds
+      storing_next g =
+          let q = read_first k in
+          record {
+            room = z.room;
+            long = length-set o n t.second ∙ z.long;
+            behind = omega (arith, z.behind);
+            few = omega (arith, fewer, read_time_long c f item t (sym w ∙ k));
+            good = sym (ap all_times q) ∙ z.good;
+            seconds =
+                ap (λ (i : ℕ). sets (set o n t.second) i (seconds_of (good_times (map (read_time c f) rest)))) (let one : n + 1 ≡ suc n = omega arith in one)
+                ∙ sym (ap (λ (l : List (Option Time)). sets o n (seconds_of (good_times l))) q)
+                ∙ z.seconds;
+            count = omega (arith, z.count, ap (λ (l : List (Option Time)). length (good_times l)) q);
+            kinds =
+                ap (λ (j : Kinds). with_kinds j (good_times (map (read_time c f) rest))) g
+                ∙ sym (ap (λ (l : List (Option Time)). with_kinds ks (good_times l)) q)
+                ∙ z.kinds;
+          }
 
 -- ---- what a caller learns
-module _ {c : Context} {f : Form} {v : List ℕ} {kinds : Kinds} {o : List ℕ} {n : ℕ} {o' : List ℕ} {r : TimesStored} (h : TimesAre c f v kinds o n o' r) where
+module _ {c : Context} {f : Form} {v : List ℕ} {kinds : Kinds} {o : List ℕ} {n : ℕ} {o' : List ℕ} {r : Option (ℕ × Kinds)} (h : TimesAre c f v kinds o n o' r) where
   -- every item is a time
-  pub times_read : (m : ℕ) (ks : Kinds) → r ≡ TimesStored.Of m ks → all_times (time_items c f v) ≡ true
+  pub times_read : (m : ℕ) (ks : Kinds) → r ≡ Some (m, ks) → all_times (time_items c f v) ≡ true
   times_read m ks e = go (subst (TimesAre c f v kinds o n o') e h)
     where
-      go : TimesAre c f v kinds o n o' (TimesStored.Of m ks) → all_times (time_items c f v) ≡ true
+      go : TimesAre c f v kinds o n o' (Some (m, ks)) → all_times (time_items c f v) ≡ true
       go (times_good a b d g l) = a
 
-  pub times_stored : (m : ℕ) (ks : Kinds) → r ≡ TimesStored.Of m ks
+  pub times_stored : (m : ℕ) (ks : Kinds) → r ≡ Some (m, ks)
       → (o' ≡ sets o n (seconds_of (good_times (time_items c f v)))) × (m ≡ n + length (good_times (time_items c f v)))
       × (ks ≡ with_kinds kinds (good_times (time_items c f v))) × (8 * m ≤ 8 * n + length v)
   times_stored m ks e = go (subst (TimesAre c f v kinds o n o') e h)
     where
-      go : TimesAre c f v kinds o n o' (TimesStored.Of m ks)
+      go : TimesAre c f v kinds o n o' (Some (m, ks))
           → (o' ≡ sets o n (seconds_of (good_times (time_items c f v)))) × (m ≡ n + length (good_times (time_items c f v)))
           × (ks ≡ with_kinds kinds (good_times (time_items c f v))) × (8 * m ≤ 8 * n + length v)
       go (times_good a b d g l) = (b, d, g, l)
 
   -- or one is bad
-  pub times_unread : r ≡ TimesStored.Bad → all_times (time_items c f v) ≡ false
+  pub times_unread : r ≡ None → all_times (time_items c f v) ≡ false
   times_unread e = go (subst (TimesAre c f v kinds o n o') e h)
     where
-      go : TimesAre c f v kinds o n o' TimesStored.Bad → all_times (time_items c f v) ≡ false
+      go : TimesAre c f v kinds o n o' None → all_times (time_items c f v) ≡ false
       go (times_bad a l) = a
 
 -- the column keeps its length
-pub times_long : {c : Context} {f : Form} {v : List ℕ} {kinds : Kinds} {o : List ℕ} {n : ℕ} {o' : List ℕ} {r : TimesStored} → TimesAre c f v kinds o n o' r → length o' ≡ length o
+pub times_long : {c : Context} {f : Form} {v : List ℕ} {kinds : Kinds} {o : List ℕ} {n : ℕ} {o' : List ℕ} {r : Option (ℕ × Kinds)} → TimesAre c f v kinds o n o' r → length o' ≡ length o
 times_long {c} {f} {v} {o = o} {n = n} (times_good a b d g l) = ap length b ∙ length-sets o n (seconds_of (good_times (time_items c f v)))
 times_long (times_bad a l) = l

@@ -3,3 +3,4 @@ pub mod Rule
 pub mod RuleGrammar
 pub mod Period
 pub mod TimeLists
+pub mod Given

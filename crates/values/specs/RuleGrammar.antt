@@ -1,6 +1,6 @@
 -- What a value of RRULE must be (document 01, Values), for the reader: its parts, how often each name may stand, and what each value
 -- says. The code computes `rule_of`; the two are tied in proofs/RuleGrammar.antt.
-use Rattle.std.specs.Prelude.{ℕ, ◌≤◌, ◌≡◌, Bool, true, false, length}
+use Rattle.std.specs.Prelude.{ℕ, ◌≤◌, ◌≡◌, Bool, true, false, length, Some}
 use mathlib.Core.List.{List, [], ◌∷◌, ◌++◌, map, Memᴰ}
 use Rattle.ascii.specs.Bytes.{is_digit}
 use Rattle.ascii.specs.Names.{same_name, is_name, every}
@@ -10,7 +10,6 @@ use Rattle.line.specs.Splitting.{plain_split}
 use Rattle.values.specs.Times.{read_time}
 use Rattle.values.specs.declared.times.Context.{Context}
 use Rattle.values.specs.declared.times.Time.{Time}
-use Rattle.values.specs.declared.times.TimeRead.{TimeRead}
 use Rattle.values.specs.declared.times.Form.{Form}
 use Rattle.values.specs.declared.rule.Limit.{Limit}
 use Rattle.values.specs.declared.rule.Rule.{Rule}
@@ -66,8 +65,8 @@ pub record NumberIs (most : ℕ) (v : List ℕ) (n : ℕ) : Type 0 where
 
 -- eight bytes are a DATE, any other number of them a DATE-TIME
 pub data UntilIs (c : Context) (v : List ℕ) (t : Time) : Type 0 where
-  date : length v ≡ 8 → read_time c Form.Date v ≡ TimeRead.Of t → UntilIs c v t
-  date_time : (length v ≡ 8 → ⊥) → read_time c Form.DateTime v ≡ TimeRead.Of t → UntilIs c v t
+  date : length v ≡ 8 → read_time c Form.Date v ≡ Some t → UntilIs c v t
+  date_time : (length v ≡ 8 → ⊥) → read_time c Form.DateTime v ≡ Some t → UntilIs c v t
 
 -- ---- how often a name may stand, and what follows where it does not
 

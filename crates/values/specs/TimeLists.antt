@@ -1,36 +1,34 @@
 -- The value of EXDATE (request R-3): a comma list of times, each of them an exception,
 -- their seconds as they are stored one behind the other, and which kinds they have.
-use Rattle.std.specs.Prelude.{ℕ, ◌+◌, ◌*◌, ◌≤◌, ◌≡◌, Bool, true, false, cond, ◌&&◌, List, [], ◌∷◌, map, eqb, length}
+use Rattle.std.specs.Prelude.{ℕ, ◌+◌, ◌*◌, ◌≤◌, ◌≡◌, Bool, true, false, cond, ◌&&◌, List, [], ◌∷◌, map, eqb, length, None, Option, Some}
 use Rattle.std.proofs.lemmas.List.Edits.{sets}
 use Rattle.line.specs.Splitting.{plain_split}
 use Rattle.time.specs.declared.date_time.Kind.{Kind}
 use Rattle.values.specs.Times.{read_time}
 use Rattle.values.specs.declared.times.Context.{Context}
 use Rattle.values.specs.declared.times.Time.{Time}
-use Rattle.values.specs.declared.times.TimeRead.{TimeRead}
 use Rattle.values.specs.declared.times.Form.{Form}
 use Rattle.values.specs.declared.time_lists.Kinds.{Kinds}
-use Rattle.values.specs.declared.time_lists.TimesStored.{TimesStored}
 
 -- the times stand between commas, and each is read as DTSTART's value is; an empty item is bad
-unfoldable pub time_items : Context → Form → List ℕ → List TimeRead
+unfoldable pub time_items : Context → Form → List ℕ → List (Option Time)
 time_items c f v = map (read_time c f) (plain_split 44 v)
 
 -- is an item a time?
-abbrev pub is_time : TimeRead → Bool
-is_time (TimeRead.Of t) = true
-is_time TimeRead.Bad = false
+abbrev pub is_time : Option Time → Bool
+is_time (Some t) = true
+is_time None = false
 
 -- is each item a time?
-unfoldable pub all_times : List TimeRead → Bool
+unfoldable pub all_times : List (Option Time) → Bool
 all_times [] = true
 all_times (r ∷ rs) = is_time r && all_times rs
 
 -- the times of a list, those that are bad left out
-unfoldable pub good_times : List TimeRead → List Time
+unfoldable pub good_times : List (Option Time) → List Time
 good_times [] = []
-good_times (TimeRead.Of t ∷ rs) = t ∷ good_times rs
-good_times (TimeRead.Bad ∷ rs) = good_times rs
+good_times (Some t ∷ rs) = t ∷ good_times rs
+good_times (None ∷ rs) = good_times rs
 
 -- their seconds
 unfoldable pub seconds_of : List Time → List ℕ
@@ -60,8 +58,8 @@ with_kinds ks (t ∷ ts) = with_kinds (with_kind ks t.kind) ts
 
 -- what storing the times of the value v behind n others in o answers, and what it leaves in o'.
 -- All are times: there are m seconds now, and an item has eight bytes or more. Or one is bad: o' is as long as o was
-pub data TimesAre (c : Context) (f : Form) (v : List ℕ) (kinds : Kinds) (o : List ℕ) (n : ℕ) (o' : List ℕ) : TimesStored → Type 0 where
+pub data TimesAre (c : Context) (f : Form) (v : List ℕ) (kinds : Kinds) (o : List ℕ) (n : ℕ) (o' : List ℕ) : Option (ℕ × Kinds) → Type 0 where
   times_good : {m : ℕ} {ks : Kinds} → all_times (time_items c f v) ≡ true → o' ≡ sets o n (seconds_of (good_times (time_items c f v)))
       → m ≡ n + length (good_times (time_items c f v)) → ks ≡ with_kinds kinds (good_times (time_items c f v)) → 8 * m ≤ 8 * n + length v
-      → TimesAre c f v kinds o n o' (TimesStored.Of m ks)
-  times_bad : all_times (time_items c f v) ≡ false → length o' ≡ length o → TimesAre c f v kinds o n o' TimesStored.Bad
+      → TimesAre c f v kinds o n o' (Some (m, ks))
+  times_bad : all_times (time_items c f v) ≡ false → length o' ≡ length o → TimesAre c f v kinds o n o' None

@@ -2,6 +2,7 @@
 // Which lines have them read is decided above.
 #![tactic(auto)]
 
+pub mod given;
 pub mod period;
 pub mod rule;
 pub mod time_lists;

@@ -2,13 +2,13 @@
 // What is needed besides the text of a value is its context.
 ghost use Rattle.std.specs.Prelude.{◌≡◌};
 ghost use Rattle.line.specs.Reading.{line_of};
-ghost use Rattle.values.specs.Times.{utc_of, at_second, time_by, read_time, form_named, form_of, utc_only, ContextGood};
+ghost use Rattle.values.specs.Times.{utc_of, time_by, read_time, form_named, form_of, utc_only, ContextGood};
 
 use time::date_time::{DateTime, Kind};
-use time::limits::Second;
 use time::{date_time, limits};
 
 // What values are read by: today the offset, as 50,400 more than it.
+// ContextGood stays in the contracts: read_time, rule_of and store_times, which docs/TRACE.md names, take any Context.
 #[derive(Clone, Copy)]
 pub struct Context {
     pub shift: u64,
@@ -22,13 +22,7 @@ pub struct Time {
     pub second: u64,
 }
 
-#[derive(Clone, Copy)]
-pub enum TimeRead {
-    Of(Time),
-    Bad,
-}
-
-// The form that the parameter VALUE asks for.
+// The form that the parameter VALUE asks for. Wrong stays a form: read_time, which docs/TRACE.md names, takes it.
 #[derive(Clone, Copy)]
 pub enum Form {
     DateTime,
@@ -36,7 +30,7 @@ pub enum Form {
     Wrong,
 }
 
-// The form that a word names, ASCII case disregarded.
+// The form that a word names, ASCII case disregarded. It is no TryFrom, since every word has a form.
 fn form_named(w: &[u8]) -> Form
     ensures { result ≡ form_named w.now }
 {
@@ -66,7 +60,7 @@ pub fn form_of(line: &[u8]) -> Form
 }
 
 // The second of a wall clock.
-pub fn utc_of(c: Context, kind: Kind, clock: u64) -> Second
+pub fn utc_of(c: Context, kind: Kind, clock: u64) -> Option<u64>
     requires { ContextGood c }
     ensures { result ≡ utc_of c kind clock }
 {
@@ -74,55 +68,36 @@ pub fn utc_of(c: Context, kind: Kind, clock: u64) -> Second
     limits::utc_second(kind, clock, shift)
 }
 
-// A time of the kind and the clock, where its second is within the limits.
-fn at_second(kind: Kind, clock: u64, second: Second) -> TimeRead
-    ensures { result ≡ at_second kind clock second }
-{
-    match second {
-        Second::At(t) => TimeRead::Of(Time {
-            kind,
-            clock,
-            second: t,
-        }),
-        Second::Outside => TimeRead::Bad,
-    }
-}
-
-fn time_by(c: Context, read: DateTime) -> TimeRead
+fn time_by(c: Context, read: Option<DateTime>) -> Option<Time>
     requires { ContextGood c }
     ensures { result ≡ time_by c read }
 {
-    match read {
-        DateTime::At(kind, clock) => at_second(kind, clock, utc_of(c, kind, clock)),
-        DateTime::Bad => TimeRead::Bad,
-    }
+    let DateTime { kind, clock } = read?;
+    let second = utc_of(c, kind, clock)?;
+    Some(Time {
+        kind,
+        clock,
+        second,
+    })
 }
 
 // A value of the form that is asked for.
-pub fn read_time(c: Context, form: Form, s: &[u8]) -> TimeRead
+pub fn read_time(c: Context, form: Form, s: &[u8]) -> Option<Time>
     requires { ContextGood c }
     ensures { result ≡ read_time c form s.now }
 {
     match form {
         Form::DateTime => time_by(c, date_time::read_date_time(s)),
         Form::Date => time_by(c, date_time::read_date(s)),
-        Form::Wrong => TimeRead::Bad,
+        Form::Wrong => None,
     }
 }
 
 // A UTC time as it is, any other is bad.
-pub fn utc_only(r: TimeRead) -> TimeRead
+// No one function over the kind with `cli::arguments::utc_clock` and `zone_values::onset::floating_only`: each answers another value, and one `if` is all that is shared.
+pub fn utc_only(r: Option<Time>) -> Option<Time>
     ensures { result ≡ utc_only r }
 {
-    match r {
-        TimeRead::Of(t) => {
-            let kind = t.kind;
-            match kind {
-                Kind::Utc => TimeRead::Of(t),
-                Kind::Floating => TimeRead::Bad,
-                Kind::Date => TimeRead::Bad,
-            }
-        }
-        TimeRead::Bad => TimeRead::Bad,
-    }
+    let t = r?;
+    if t.kind == Kind::Utc { Some(t) } else { None }
 }

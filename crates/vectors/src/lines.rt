@@ -2,43 +2,40 @@
 // What they print is compared with stored output.
 ghost use Rattle.std.specs.Prelude.{◌≤◌, length};
 
-use crate::out::{print, print_number};
-use index::Filled;
+use arrayvec::ArrayVec;
+use index::IndexError;
 use line::check::Next;
 use std::io;
-use text::{Collation, Span};
+use text::Collation;
 
 // The number of a hex digit in lower case; any other byte is 0.
+// No Option: what a wrong byte counts as may not change, and both places that ask would turn none into 0.
 fn digit(b: u8) -> u8
     ensures { result ≤ 15 }
 {
     match b {
-        48..=57 => b - 48,
-        97..=102 => b - 87,
+        b'0'..=b'9' => b - b'0',
+        b'a'..=b'f' => b - b'a' + 10,
         _ => 0,
     }
 }
 
-// The bytes that a text in hex writes, as many as there is room for.
-pub fn decode(out: &mut [u8], hex: &[u8]) -> usize
-    ensures { result ≤ length out.new }
-{
-    let mut n = 0;
-    while n < out.len() {
-        let at = n * 2;
-        if hex.len() <= at + 1 {
-            return n;
+// The bytes that a text in hex writes, the first N of them.
+pub fn decode<const N: usize>(hex: &[u8]) -> ArrayVec<u8, N> {
+    let mut bytes = ArrayVec::new();
+    let (pairs, _) = hex.as_chunks::<2>();
+    for &[high, low] in pairs {
+        if bytes.try_push(digit(high) * 16 + digit(low)).is_err() {
+            break;
         }
-        out[n] = digit(hex[at]) * 16 + digit(hex[at + 1]);
-        n += 1;
     }
-    n
+    bytes
 }
 
 fn show_value(rt: &impl Print, v: &[u8]) -> io::Result<()> {
-    print(rt, b" <")?;
-    print(rt, v)?;
-    print(rt, b">")
+    rt.print(" <")?;
+    rt.write_all(v)?;
+    rt.print(">")
 }
 
 fn show_values(rt: &impl Print, p: &[u8]) -> io::Result<()> {
@@ -50,80 +47,57 @@ fn show_values(rt: &impl Print, p: &[u8]) -> io::Result<()> {
 }
 
 fn show_parameter(rt: &impl Print, p: &[u8]) -> io::Result<()> {
-    print(rt, b" parameter ")?;
-    print(rt, line::read::parameter_name(p))?;
+    rt.print(" parameter ")?;
+    rt.write_all(line::read::parameter_name(p))?;
     show_values(rt, p)
 }
 
 fn show_parameters(rt: &impl Print, l: &[u8]) -> io::Result<()> {
     let count = line::read::parameter_count(l);
-    let texts = line::split::after(line::read::head(l), 59, true);
+    let texts = line::split::after(line::read::head(l), b';', true);
     for i in 0..count {
-        show_parameter(rt, line::split::nth_part(texts, 59, true, i))?;
+        show_parameter(rt, line::split::nth_part(texts, b';', true, i))?;
     }
     Ok(())
 }
 
 fn show_parts(rt: &impl Print, l: &[u8]) -> io::Result<()> {
-    print(rt, b" [")?;
-    print(rt, line::split::before(line::read::head(l), 59, true))?;
+    rt.print(" [")?;
+    rt.write_all(line::split::before(line::read::head(l), b';', true))?;
     show_parameters(rt, l)?;
-    print(rt, b" value")?;
+    rt.print(" value")?;
     show_value(rt, line::read::value(l))?;
-    print(rt, b"]")
-}
-
-fn show_bad(rt: &impl Print, l: &[u8]) -> io::Result<()> {
-    print(rt, b" [bad ")?;
-    print_number(rt, l.len() as u64)?;
-    print(rt, b"]")
+    rt.print("]")
 }
 
 // The line l, which starts at this place of s.
 fn show_line(rt: &impl Print, s: &[u8], from: usize, l: &[u8]) -> io::Result<()> {
     match line::check::next_good(s, from) {
         Next::Line(_, _) => show_parts(rt, l),
-        Next::Bad => show_bad(rt, l),
+        Next::Bad => print!(rt; " [bad {}]", l.len()),
         Next::End => Ok(()),
     }
 }
 
 fn show_lines(rt: &impl Print, s: &[u8]) -> io::Result<()> {
     let mut from = 0;
-    loop {
-        match text::next_line(s, from) {
-            Span::Line(e, next) => {
-                show_line(rt, s, from, &s[from..e])?;
-                from = next;
-            }
-            Span::End => return Ok(()),
-        }
+    while let Some((e, next)) = text::next_line(s, from) {
+        show_line(rt, s, from, &s[from..e])?;
+        from = next;
     }
+    Ok(())
 }
 
+// The bound is that of `index::fill_index`, which docs/TRACE.md names.
 fn show_check(rt: &impl Print, s: &[u8]) -> io::Result<()>
     requires { length s.now ≤ 65536 }
 {
     let mut index = [0u32; 16385];
     match index::fill_index(&mut index, s) {
-        Filled::Lines(_) => print(rt, b" good"),
-        Filled::BadLine(n) => {
-            print(rt, b" bad line ")?;
-            print_number(rt, n as u64)
-        }
-        Filled::Full => print(rt, b" too many lines"),
+        Ok(_) => rt.print(" good"),
+        Err(IndexError::BadLine(n)) => print!(rt; " bad line {n}"),
+        Err(IndexError::Full) => rt.print(" too many lines"),
     }
-}
-
-fn show_unfolded(rt: &impl Print, cal: &[u8]) -> io::Result<()> {
-    let mut work = [0u8; 4096];
-    if work.len() < cal.len() {
-        return print(rt, b" too long");
-    }
-    let n = text::unfold_into(&mut work, cal);
-    print_number(rt, n as u64)?;
-    show_check(rt, &work[..n])?;
-    show_lines(rt, &work[..n])
 }
 
 fn show_contains(
@@ -133,23 +107,25 @@ fn show_contains(
     collation: Collation,
 ) -> io::Result<()> {
     if search::contains(value, wanted, collation) {
-        print(rt, b"contained")
+        rt.print("contained")
     } else {
-        print(rt, b"not contained")
+        rt.print("not contained")
     }
 }
 
 // Both texts, with a comma between them.
 pub fn compare(rt: &impl Print, hex: &[u8], collation: Collation) -> io::Result<()> {
-    let mut value = [0u8; 4096];
-    let mut wanted = [0u8; 4096];
-    let v = decode(&mut value, line::split::before(hex, 44, false));
-    let w = decode(&mut wanted, line::split::after(hex, 44, false));
-    show_contains(rt, &value[..v], &wanted[..w], collation)
+    let value = decode::<4096>(line::split::before(hex, b',', false));
+    let wanted = decode::<4096>(line::split::after(hex, b',', false));
+    show_contains(rt, &value, &wanted, collation)
 }
 
+// The calendar in hex is unfolded and cut into lines.
 pub fn unfold_hex(rt: &impl Print, hex: &[u8]) -> io::Result<()> {
-    let mut cal = [0u8; 4096];
-    let n = decode(&mut cal, hex);
-    show_unfolded(rt, &cal[..n])
+    let cal = decode::<4096>(hex);
+    let mut work = [0u8; 4096];
+    let n = text::unfold_into(&mut work, &cal);
+    rt.print(n)?;
+    show_check(rt, &work[..n])?;
+    show_lines(rt, &work[..n])
 }

@@ -7,10 +7,8 @@
 
 mod calendars;
 mod lines;
-mod out;
 mod times;
 
-use out::print;
 use std::alloc::Global;
 use std::io;
 use std::io::Read;
@@ -20,53 +18,45 @@ use times::show_time;
 
 fn answer(rt: &impl Print, kind: u8, text: &[u8]) -> io::Result<()> {
     match kind {
-        100 => show_time(rt, read_date(text), 50400),
-        112 => times::show_duration(rt, text),
-        119 => times::write_again(rt, text),
-        62 => show_time(rt, read_date_time(text), 50401),
-        60 => show_time(rt, read_date_time(text), 50399),
-        43 => show_time(rt, read_date_time(text), 100800),
-        45 => show_time(rt, read_date_time(text), 0),
-        48 => lines::compare(rt, text, Collation::Octet),
-        49 => lines::compare(rt, text, Collation::AsciiCasemap),
-        107 => calendars::check_hex(rt, text),
-        117 => lines::unfold_hex(rt, text),
+        b'd' => show_time(rt, read_date(text), 50400),
+        b'p' => times::show_duration(rt, text),
+        b'w' => times::write_again(rt, text),
+        b'>' => show_time(rt, read_date_time(text), 50401),
+        b'<' => show_time(rt, read_date_time(text), 50399),
+        b'+' => show_time(rt, read_date_time(text), 100800),
+        b'-' => show_time(rt, read_date_time(text), 0),
+        b'0' => lines::compare(rt, text, Collation::Octet),
+        b'1' => lines::compare(rt, text, Collation::AsciiCasemap),
+        b'k' => calendars::check_hex(rt, text),
+        b'u' => lines::unfold_hex(rt, text),
         _ => show_time(rt, read_date_time(text), 50400),
     }
 }
 
 // The line as it stands, and its answer.
 fn answer_line(rt: &impl Print, line: &[u8]) -> io::Result<()> {
-    if line.len() == 0 {
-        return Ok(());
+    match line {
+        [] => Ok(()),
+        [_] => rt.println("too short"),
+        &[kind, _, ref text @ ..] => {
+            if kind != b'k' {
+                rt.write_all(line)?;
+                rt.print(" is ")?;
+            }
+            answer(rt, kind, text)?;
+            rt.println("")
+        }
     }
-    if line.len() == 1 {
-        return print(rt, b"too short\n");
-    }
-    if line[0] != 107 {
-        print(rt, line)?;
-        print(rt, b" is ")?;
-    }
-    answer(rt, line[0], &line[2..])?;
-    print(rt, b"\n")
-}
-
-fn answer_all(rt: &impl Print, s: &[u8]) -> io::Result<()> {
-    let mut from = 0;
-    while from < s.len() {
-        let e = line::split::find(s, from, 10, false);
-        answer_line(rt, &s[from..e])?;
-        from = e + 1;
-    }
-    Ok(())
 }
 
 // Reads and answers one block of 65,536 bytes, in which whole lines stand, and says whether there was anything to read.
 fn answer_block(rt: &(impl Input + Print), alloc: Global) -> io::Result<bool> {
     let mut block = Vec::new(alloc);
     rt.reader().take(65536).read_to_end(&mut block)?;
-    answer_all(rt, &block)?;
-    Ok(0 < block.len())
+    for line in block.split(|&b| b == b'\n') {
+        answer_line(rt, line)?;
+    }
+    Ok(!block.is_empty())
 }
 
 fn main(rt: HostRuntime) -> io::Result<()> {

@@ -3,55 +3,46 @@
 ghost use Rattle.std.specs.Prelude.{◌≤◌};
 ghost use Rattle.time.specs.Limits.{last_second};
 
-use crate::out::{print, print_number};
 use std::io;
 use time::date_time::{DateTime, Kind};
-use time::duration::DurationRead;
-use time::limits::Second;
 
 // The second of a clock, or that it is outside the limits.
 fn show_second(rt: &impl Print, kind: Kind, clock: u64, shift: u64) -> io::Result<()>
     requires { shift ≤ 100800 }
 {
     match time::limits::utc_second(kind, clock, shift) {
-        Second::At(t) => print_number(rt, t),
-        Second::Outside => print(rt, b"outside"),
+        Some(t) => rt.print(t),
+        None => rt.print("outside"),
     }
 }
 
-fn show_kind(rt: &impl Print, kind: Kind) -> io::Result<()> {
+fn name_of(kind: Kind) -> &'static str {
     match kind {
-        Kind::Utc => print(rt, b"utc "),
-        Kind::Floating => print(rt, b"floating "),
-        Kind::Date => print(rt, b"date "),
+        Kind::Utc => "utc",
+        Kind::Floating => "floating",
+        Kind::Date => "date",
     }
 }
 
-pub fn show_time(rt: &impl Print, d: DateTime, shift: u64) -> io::Result<()>
+pub fn show_time(rt: &impl Print, read: Option<DateTime>, shift: u64) -> io::Result<()>
     requires { shift ≤ 100800 }
 {
-    match d {
-        DateTime::At(kind, clock) => {
-            show_kind(rt, kind)?;
+    match read {
+        Some(DateTime { kind, clock }) => {
+            print!(rt; "{} ", name_of(kind))?;
             show_second(rt, kind, clock, shift)
         }
-        DateTime::Bad => print(rt, b"bad"),
+        None => rt.print("bad"),
     }
 }
 
 pub fn show_duration(rt: &impl Print, text: &[u8]) -> io::Result<()> {
     match time::duration::read_duration(text) {
-        DurationRead::Of(d) => {
-            print_number(rt, d.days)?;
-            print(rt, b" days ")?;
-            print_number(rt, d.seconds)?;
-            if d.timed {
-                print(rt, b" seconds, timed")
-            } else {
-                print(rt, b" seconds")
-            }
+        Some(d) => {
+            let timed = if d.timed { ", timed" } else { "" };
+            print!(rt; "{} days {} seconds{timed}", d.days, d.seconds)
         }
-        DurationRead::Bad => print(rt, b"bad"),
+        None => rt.print("bad"),
     }
 }
 
@@ -60,16 +51,16 @@ fn show_written(rt: &impl Print, t: u64) -> io::Result<()>
 {
     let mut out = [0u8; 16];
     time::writing::write_utc(&mut out, 0, t);
-    print(rt, &out)
+    rt.write_all(&out)
 }
 
 // The value read, written and shown again.
 pub fn write_again(rt: &impl Print, text: &[u8]) -> io::Result<()> {
     match time::date_time::read_date_time(text) {
-        DateTime::At(kind, clock) => match time::limits::utc_second(kind, clock, 50400) {
-            Second::At(t) => show_written(rt, t),
-            Second::Outside => print(rt, b"outside"),
+        Some(DateTime { kind, clock }) => match time::limits::utc_second(kind, clock, 50400) {
+            Some(t) => show_written(rt, t),
+            None => rt.print("outside"),
         },
-        DateTime::Bad => print(rt, b"bad"),
+        None => rt.print("bad"),
     }
 }

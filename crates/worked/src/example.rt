@@ -1,128 +1,129 @@
 // An example as far as it has been read: its name, its calendar, and the buffers that are lent.
 // A line that cannot stand where it does is said to be so and passed over.
-use crate::answer::put;
-use crate::lines::{after_blank, first_word};
-use crate::out::malformed;
-use cli::arguments::{Number, decimal_of};
+use crate::lines::cut;
+use arrayvec::ArrayVec;
+use cli::arguments::decimal_of;
 use std::io;
 
+// The lengths of the buffers that a question lends.
 #[derive(Clone, Copy)]
-pub struct Example {
-    // The number of the line that is read, from 1.
-    pub line: u64,
-    // Where the line with the name stands in the file.
-    pub name: usize,
-    pub name_end: usize,
-    // The calendar's length, and those of the buffers.
-    pub length: usize,
+pub struct Lent {
     pub work: usize,
     pub output: usize,
-    // Has an example begun, has it a question, and may a line of an answer follow?
-    pub begun: bool,
-    pub asked: bool,
-    pub answering: bool,
-    // Is a query being passed over?
-    pub in_query: bool,
 }
 
-// No example yet.
-pub fn none(line: u64, in_query: bool) -> Example {
-    Example {
-        line,
-        name: 0,
-        name_end: 0,
-        length: 0,
-        work: 65536,
-        output: 65536,
-        begun: false,
-        asked: false,
-        answering: false,
-        in_query,
+// Where in an example the next line stands.
+#[derive(Clone, Copy, PartialEq, Eq)]
+pub enum Stage {
+    // Before any example, or behind a query.
+    Outside,
+    // In a query, which is passed over.
+    Query,
+    Calendar,
+    // Behind a question, where a line of its answer may follow.
+    Answer,
+    // Behind an answer, where only another question may follow.
+    Asked,
+}
+
+#[derive(Drop)]
+pub struct Example<'a> {
+    // The number of the line that is read, from 1.
+    pub line: u64,
+    pub name: &'a [u8],
+    pub cal: ArrayVec<u8, 131072>,
+    pub lent: Lent,
+    pub stage: Stage,
+}
+
+impl<'a> Example<'a> {
+    // No example yet.
+    pub fn new() -> Example<'a> {
+        Example {
+            line: 0,
+            name: &[],
+            cal: ArrayVec::new(),
+            lent: Lent {
+                work: 65536,
+                output: 65536,
+            },
+            stage: Stage::Outside,
+        }
     }
-}
 
-// The next example, whose name stands there.
-pub fn begin(line: u64, name: usize, name_end: usize) -> Example {
-    let mut n = none(line, false);
-    n.name = name;
-    n.name_end = name_end;
-    n.begun = true;
-    n
-}
-
-// Says what is wrong, and passes the line over.
-pub fn wrong(rt: &impl Print, e: Example, what: &[u8]) -> io::Result<Example> {
-    malformed(rt, e.line, what)?;
-    Ok(e)
-}
-
-// An empty line ends a query and an answer, and a comment ends an answer.
-pub fn pass(e: Example) -> Example {
-    let mut n = e;
-    n.in_query = false;
-    n.answering = false;
-    n
-}
-
-// A line of an answer was read with its question.
-pub fn pass_answer(rt: &impl Print, e: Example) -> io::Result<Example> {
-    if e.answering {
-        return Ok(e);
+    // The next example, or the next query, with that name.
+    pub fn begin(&mut self, stage: Stage, name: &'a [u8]) {
+        self.name = name;
+        self.cal.clear();
+        self.lent = Lent {
+            work: 65536,
+            output: 65536,
+        };
+        self.stage = stage;
     }
-    wrong(rt, e, b"an answer without a question")
-}
 
-// The lengths that the next questions lend, each at most that of a block.
-pub fn lend(rt: &impl Print, e: Example, words: &[u8]) -> io::Result<Example> {
-    let Number::Of(work) = decimal_of(first_word(words)) else {
-        return wrong(rt, e, b"the length of the work buffer is wanted");
-    };
-    let Number::Of(output) = decimal_of(after_blank(words)) else {
-        return wrong(rt, e, b"the length of the output buffer is wanted");
-    };
-    let mut n = e;
-    n.work = work as usize;
-    n.output = output as usize;
-    Ok(n)
-}
-
-// A line so many times, each with CR LF.
-fn add_lines(cal: &mut [u8], from: usize, line: &[u8], times: u64) -> usize {
-    let mut n = from;
-    for _ in 0..times {
-        n = put(cal, n, line);
-        n = put(cal, n, b"\r\n");
+    // Says what is wrong with the line, which is passed over.
+    pub fn malformed(&self, rt: &impl Print, what: &str) -> io::Result<()> {
+        let line = self.line;
+        println!(rt; "line {line} cannot be read: {what}")
     }
-    n
-}
 
-// A line of the calendar so many times, where one can stand.
-pub fn add_calendar(
-    rt: &impl Print,
-    cal: &mut [u8],
-    e: Example,
-    line: &[u8],
-    times: u64,
-) -> io::Result<Example> {
-    if e.asked | !e.begun {
-        return wrong(
-            rt,
-            e,
-            b"a calendar line that stands in no example's calendar",
-        );
+    // An empty line ends a query and an answer, and a comment ends an answer.
+    pub fn pass(&mut self) {
+        self.stage = match self.stage {
+            Stage::Query => Stage::Outside,
+            Stage::Answer => Stage::Asked,
+            stage => stage,
+        };
     }
-    let mut n = e;
-    n.length = add_lines(cal, e.length, line, times);
-    if cal.len() < n.length {
-        return wrong(rt, e, b"there is no room for so long a calendar");
-    }
-    Ok(n)
-}
 
-// A number of times, and the line.
-pub fn add_times(rt: &impl Print, cal: &mut [u8], e: Example, words: &[u8]) -> io::Result<Example> {
-    let Number::Of(times) = decimal_of(first_word(words)) else {
-        return wrong(rt, e, b"a number of times is wanted");
-    };
-    add_calendar(rt, cal, e, after_blank(words), times)
+    // A line of an answer was read with its question.
+    pub fn pass_answer(&self, rt: &impl Print) -> io::Result<()> {
+        if self.stage == Stage::Answer {
+            return Ok(());
+        }
+        self.malformed(rt, "an answer without a question")
+    }
+
+    // The lengths that the next questions lend, each at most that of a block.
+    pub fn lend(&mut self, rt: &impl Print, words: &[u8]) -> io::Result<()> {
+        let (work, output) = cut(words, b' ');
+        let Some(work) = decimal_of(work) else {
+            return self.malformed(rt, "the length of the work buffer is wanted");
+        };
+        let Some(output) = decimal_of(output) else {
+            return self.malformed(rt, "the length of the output buffer is wanted");
+        };
+        self.lent = Lent {
+            work: work as usize,
+            output: output as usize,
+        };
+        Ok(())
+    }
+
+    // A line of the calendar so many times, each with CR LF, where one can stand.
+    pub fn add_calendar(&mut self, rt: &impl Print, line: &[u8], times: u64) -> io::Result<()> {
+        if self.stage != Stage::Calendar {
+            return self.malformed(rt, "a calendar line that stands in no example's calendar");
+        }
+        let before = self.cal.len();
+        for _ in 0..times {
+            let put = self.cal.try_extend_from_slice(line);
+            let ended = self.cal.try_extend_from_slice(b"\r\n");
+            if put.is_err() || ended.is_err() {
+                self.cal.truncate(before);
+                return self.malformed(rt, "there is no room for so long a calendar");
+            }
+        }
+        Ok(())
+    }
+
+    // A number of times, and the line.
+    pub fn add_times(&mut self, rt: &impl Print, words: &[u8]) -> io::Result<()> {
+        let (times, line) = cut(words, b' ');
+        let Some(times) = decimal_of(times) else {
+            return self.malformed(rt, "a number of times is wanted");
+        };
+        self.add_calendar(rt, line, times)
+    }
 }

@@ -1,6 +1,13 @@
 // What a line of the file is, by its first byte or its first word.
 // No calendar line that is well formed can be taken for another kind.
-use crate::lines::{first_word, same};
+use crate::lines::cut;
+
+#[derive(Clone, Copy)]
+pub enum Question {
+    Report,
+    Busy,
+    Match,
+}
 
 #[derive(Clone, Copy)]
 pub enum Kind {
@@ -11,45 +18,25 @@ pub enum Kind {
     Query,
     Lent,
     Times,
-    Report,
-    Busy,
-    Match,
+    Asked(Question),
     Calendar,
 }
 
-fn by_word(w: &[u8]) -> Kind {
-    if same(w, b"example") {
-        return Kind::Example;
-    }
-    if same(w, b"query") {
-        return Kind::Query;
-    }
-    if same(w, b"lent") {
-        return Kind::Lent;
-    }
-    if same(w, b"times") {
-        return Kind::Times;
-    }
-    if same(w, b"report") {
-        return Kind::Report;
-    }
-    if same(w, b"busy") {
-        return Kind::Busy;
-    }
-    if same(w, b"match") {
-        return Kind::Match;
-    }
-    Kind::Calendar
-}
-
 pub fn kind_of(line: &[u8]) -> Kind {
-    if line.len() == 0 {
-        return Kind::Empty;
+    match line {
+        [] => return Kind::Empty,
+        [b'#', ..] => return Kind::Comment,
+        [b'|', ..] => return Kind::Answer,
+        _ => {}
     }
-    let b = line[0];
-    match b {
-        b'#' => Kind::Comment,
-        b'|' => Kind::Answer,
-        _ => by_word(first_word(line)),
+    match cut(line, b' ').0 {
+        b"example" => Kind::Example,
+        b"query" => Kind::Query,
+        b"lent" => Kind::Lent,
+        b"times" => Kind::Times,
+        b"report" => Kind::Asked(Question::Report),
+        b"busy" => Kind::Asked(Question::Busy),
+        b"match" => Kind::Asked(Question::Match),
+        _ => Kind::Calendar,
     }
 }

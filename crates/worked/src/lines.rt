@@ -1,72 +1,36 @@
 // The lines of the file, and the words of a line.
-// Every place that is handed back lies within the bytes that were given.
-ghost use Rattle.std.specs.Prelude.{◌<◌, ◌≤◌, length};
+ghost use Rattle.std.specs.Prelude.{◌+◌, ◌<◌, ◌≤◌, length, IfSome};
 
-// The place of the first such byte from a place on, or the end.
-pub fn find(s: &[u8], from: usize, b: u8) -> usize
-    requires { from ≤ length s.now }
-    ensures { (from ≤ result) × (result ≤ length s.now) }
+// What stands before the first such byte, and behind it: nothing, where there is none.
+pub fn cut(s: &[u8], b: u8) -> (&[u8], &[u8])
+    ensures { (length result.0.now + length result.1.now ≤ length s.now) × (0 < length s.now → length result.1.now < length s.now) }
 {
-    let mut i = from;
-    while i < s.len() {
-        if s[i] == b {
-            return i;
-        }
-        i += 1;
+    match s.iter().position(|&x| x == b) {
+        Some(e) => (&s[..e], &s[e + 1..]),
+        None => (s, &[]),
     }
-    i
 }
 
-// The place behind it, or the end.
-pub fn behind(s: &[u8], from: usize, b: u8) -> usize
-    requires { from < length s.now }
-    ensures { (from < result) × (result ≤ length s.now) }
+// The first line, and what stands behind it.
+pub fn next_line(text: &[u8]) -> Option<(&[u8], &[u8])>
+    ensures { IfSome result (λ r. length r.1.now < length text.now) }
 {
-    let e = find(s, from, b);
-    if e < s.len() {
-        return e + 1;
+    if text.is_empty() {
+        return None;
     }
-    e
+    Some(cut(text, b'\n'))
 }
 
-// The bytes between two places; none, where there are no such places.
-pub fn part(s: &[u8], from: usize, to: usize) -> &[u8] {
-    if to <= s.len() {
-        if from <= to {
-            return &s[from..to];
+// The lines at the start of a text, up to the first that is not wanted.
+pub fn lines_while<F: Fn(&[u8]) -> bool>(text: &[u8], wanted: F) -> &[u8]
+    requires { F.IsAlwaysCallable wanted }
+{
+    let mut rest = text;
+    while let Some((line, behind)) = next_line(rest) {
+        if !wanted(line) {
+            break;
         }
+        rest = behind;
     }
-    &s[..0]
-}
-
-pub fn starts_with(s: &[u8], word: &[u8]) -> bool {
-    if s.len() < word.len() {
-        return false;
-    }
-    let mut i = 0;
-    while i < word.len() {
-        if s[i] != word[i] {
-            return false;
-        }
-        i += 1;
-    }
-    true
-}
-
-pub fn same(a: &[u8], b: &[u8]) -> bool {
-    (a.len() == b.len()) & starts_with(a, b)
-}
-
-// The bytes behind the first blank.
-pub fn after_blank(s: &[u8]) -> &[u8] {
-    if s.len() == 0 {
-        return &s[..0];
-    }
-    let e = behind(s, 0, 32);
-    &s[e..]
-}
-
-// The bytes up to the first blank.
-pub fn first_word(s: &[u8]) -> &[u8] {
-    part(s, 0, find(s, 0, 32))
+    &text[..text.len() - rest.len()]
 }

@@ -1,47 +1,29 @@
 // The queries of the file, each under its name: hex with comments, up to an empty line.
 // A question names its query, so that one query serves several examples.
-ghost use Rattle.std.specs.Prelude.{◌≤◌, length};
+use crate::lines::{lines_while, next_line};
+use cli::hex::decode_hex;
 
-use crate::lines::{after_blank, behind, find, part, same, starts_with};
-use cli::hex::Decoded;
-
-// Where a query's hex begins; the end, where no query has the name.
-fn query_start(text: &[u8], name: &[u8]) -> usize
-    ensures { result ≤ length text.now }
-{
-    let mut at = 0;
-    while at < text.len() {
-        let end = find(text, at, 10);
-        let next = behind(text, at, 10);
-        let line = part(text, at, end);
-        if starts_with(line, b"query ") & same(after_blank(line), name) {
-            return next;
+// What stands behind the line with the name.
+fn behind_name<'a>(text: &'a [u8], name: &[u8]) -> Option<&'a [u8]> {
+    let mut rest = text;
+    while let Some((line, behind)) = next_line(rest) {
+        if line
+            .strip_prefix(b"query ")
+            .is_some_and(|named| named == name)
+        {
+            return Some(behind);
         }
-        at = next;
+        rest = behind;
     }
-    at
+    None
 }
 
-// Where it ends.
-fn query_end(text: &[u8], from: usize) -> usize
-    requires { from ≤ length text.now }
-{
-    let mut at = from;
-    while at < text.len() {
-        if text[at] == 10 {
-            return at;
-        }
-        at = behind(text, at, 10);
+// The bytes of the query with a name, if it is there and is hex.
+pub fn read_query<'a>(query: &'a mut [u8], text: &[u8], name: &[u8]) -> Option<&'a [u8]> {
+    let behind = behind_name(text, name)?;
+    if behind.is_empty() {
+        return None;
     }
-    at
-}
-
-// The bytes of the query with a name; a name that is not there is bad hex too.
-pub fn read_query(query: &mut [u8], text: &[u8], name: &[u8]) -> Decoded {
-    let start = query_start(text, name);
-    if start == text.len() {
-        return Decoded::Bad;
-    }
-    let end = query_end(text, start);
-    cli::hex::decode_hex(query, part(text, start, end))
+    let n = decode_hex(query, lines_while(behind, |line| !line.is_empty())).ok()?;
+    query.get(..n)
 }

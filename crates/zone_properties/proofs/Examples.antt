@@ -1,4 +1,5 @@
 -- Lines of a zone, good and bad, with what each says: one table, one statement, computed from the definitions.
+use Rattle.std.specs.Prelude.{Err, None, Ok, Some}
 use Prim.Native.Nat.{ℕ}
 use Prim.Native.String.{String}
 use mathlib.Core.Path.{◌≡◌, refl}
@@ -19,23 +20,28 @@ use Rattle.values.specs.Rule.{number_to}
 use Rattle.values.specs.Times.{form_named, form_of}
 use Rattle.zone_values.specs.Offset.{second_at, offset_size, signed, signed_by, read_offset}
 use Rattle.zone_values.specs.Onset.{floating_only, onset_by, onset_of}
-use Rattle.zone_values.specs.ZoneRule.{short_number, later_weekday, weekday_of, day_by, day_after, day_part, month_by, month_part, begins, zone_part}
+use Rattle.zone_values.specs.ZoneRule.{short_number, later_weekday, weekday_of, day_by, day_after, day_part, begins, zone_part}
 use Rattle.zone_values.specs.ZoneRule.{is_yearly, with_day, with_month, dated, in_any_order, read_zone_rule}
 use Rattle.zone_properties.specs.declared.ZoneScope.{ZoneScope}
 use Rattle.zone_properties.specs.declared.ZoneValue.{ZoneValue}
-use Rattle.zone_properties.specs.ZoneProperties as properties
-use Rattle.zone_properties.specs.ZoneProperties.{part_property, zone_property_of, from_by, to_by, rule_by, zone_value_as, zone_value_of}
+use Rattle.values.specs.declared.rule.ValueError.{ValueError}
+use Rattle.zone_properties.specs.Parts.{Said}
+use Rattle.zone_properties.specs.ZoneProperties.{part_property, zone_property_of, zone_value_as, zone_value_of}
 
 -- a value told by numbers: its case, and what it holds
-abbrev pub told : ZoneValue → List ℕ
-told ZoneValue.Nothing = 0 ∷ []
-told ZoneValue.Unsupported = 8 ∷ []
-told ZoneValue.Bad = 9 ∷ []
-told ZoneValue.Tzid = 1 ∷ []
-told (ZoneValue.Onset n) = 2 ∷ n ∷ []
-told (ZoneValue.From n) = 3 ∷ n ∷ []
-told (ZoneValue.To n) = 4 ∷ n ∷ []
-told (ZoneValue.Rule r) = 5 ∷ r.month ∷ r.others ∷ cond r.back 1 0 ∷ r.weekday ∷ []
+abbrev pub value_told : ZoneValue → List ℕ
+value_told ZoneValue.Tzid = 1 ∷ []
+value_told (ZoneValue.Onset n) = 2 ∷ n ∷ []
+value_told (ZoneValue.From n) = 3 ∷ n ∷ []
+value_told (ZoneValue.To n) = 4 ∷ n ∷ []
+value_told (ZoneValue.Rule r) = 5 ∷ r.month ∷ r.day.others ∷ cond r.day.back 1 0 ∷ r.day.weekday ∷ []
+
+-- what a line says told by numbers: a value, nothing, or the number of the refusal
+abbrev pub told : Said → List ℕ
+told (Ok (Some v)) = value_told v
+told (Ok None) = 0 ∷ []
+told (Err ValueError.Unsupported) = 8 ∷ []
+told (Err ValueError.Bad) = 9 ∷ []
 
 -- a line where it stands, and what it says
 pub record Row : Type 0 where
@@ -162,5 +168,5 @@ table =
 
 -- every line says what stands beside it
 pub edges : AllSay table
-unfolding zone_value_of zone_property_of part_property zone_value_as properties.onset_by from_by to_by rule_by read_offset signed_by signed offset_size second_at onset_of onset_by floating_only read_zone_rule in_any_order dated with_month with_day is_yearly zone_part begins month_part month_by day_part day_after day_by weekday_of later_weekday short_number number_to decimal form_of form_named read_date_time clock_at clock_of time_at checked_time date_at three checked_day year_at joined pair_at digit_pair is_day day_number days_before_month month_days before_in length_in month_lengths days_before_year year_days is_leap line_of name_of head_of value_of parameter_texts parameter_of parameter_name values_of parameters_named some_list pooled values_named has_parameter has_twice has_list first_value plain_split split_parts quotes_off first_outside before after same_name upper is_digit
+unfolding zone_value_of zone_property_of part_property zone_value_as read_offset signed_by signed offset_size second_at onset_of onset_by floating_only read_zone_rule in_any_order dated with_month with_day is_yearly zone_part begins day_part day_after day_by weekday_of later_weekday short_number number_to decimal form_of form_named read_date_time clock_at clock_of time_at checked_time date_at three checked_day year_at joined pair_at digit_pair is_day day_number days_before_month month_days before_in length_in month_lengths days_before_year year_days is_leap line_of name_of head_of value_of parameter_texts parameter_of parameter_name values_of parameters_named some_list pooled values_named has_parameter has_twice has_list first_value plain_split split_parts quotes_off first_outside before after same_name upper is_digit
 edges = sound table refl

@@ -4,13 +4,12 @@
 
 pub mod part;
 
-ghost use Rattle.std.specs.Prelude.{◌≡◌, cond, length};
+ghost use Rattle.std.specs.Prelude.{◌≡◌, length};
 ghost use Rattle.line.specs.Reading.{name_of, line_of, value_of};
-ghost use Rattle.zone_properties.specs.ZoneProperties.{part_property, zone_property_of, onset_by, from_by, to_by, rule_by, zone_value_as, zone_value_of};
+ghost use Rattle.zone_properties.specs.ZoneProperties.{part_property, zone_property_of, zone_value_as, zone_value_of};
 
-use zone_values::offset::OffsetRead;
-use zone_values::onset::OnsetRead;
-use zone_values::zone_rule::{ZoneRule, ZoneRuleRead};
+use values::rule::ValueError;
+use zone_values::zone_rule::ZoneRule;
 use zone_values::{offset, onset, zone_rule};
 
 // What a line stands directly in: a VTIMEZONE right below VCALENDAR, a STANDARD or DAYLIGHT part directly in such a zone, or anything else.
@@ -31,18 +30,11 @@ pub enum ZoneProperty {
     Rule,
     // RDATE, refused in a part.
     Dates,
-    Unread,
 }
 
-// What a line says.
+// What a line says that is read.
 #[derive(Clone, Copy)]
 pub enum ZoneValue {
-    // No rule reads it.
-    Nothing,
-    // Refusal 8.
-    Unsupported,
-    // Refusal 9.
-    Bad,
     // TZID: its bytes are read in place.
     Tzid,
     // DTSTART, by its own clock.
@@ -53,108 +45,82 @@ pub enum ZoneValue {
     Rule(ZoneRule),
 }
 
-// The property where the test holds.
-fn property_if(test: bool, found: ZoneProperty) -> ZoneProperty
-    ensures { result ≡ cond test found ZoneProperty.Unread }
-{
-    if test { found } else { ZoneProperty::Unread }
-}
-
 // In a part, by the name of the line, which is n bytes long: only words of that length are compared.
-fn part_property(line: &[u8], n: usize) -> ZoneProperty
+// No TryFrom<&[u8]>: what a name is depends on where the line stands, and in the zone itself none of these is read.
+#[tactic(auto, unfolding(crate::specs::ZoneProperties::part_property))]
+fn part_property(line: &[u8], n: usize) -> Option<ZoneProperty>
     requires { n ≡ length (name_of line.now) }
     ensures { result ≡ part_property (name_of line.now) }
 {
     if line::read::is_called(line, n, b"DTSTART") {
-        return ZoneProperty::Start;
+        return Some(ZoneProperty::Start);
     }
     if line::read::is_called(line, n, b"TZOFFSETFROM") {
-        return ZoneProperty::From;
+        return Some(ZoneProperty::From);
     }
     if line::read::is_called(line, n, b"TZOFFSETTO") {
-        return ZoneProperty::To;
+        return Some(ZoneProperty::To);
     }
     if line::read::is_called(line, n, b"RRULE") {
-        return ZoneProperty::Rule;
+        return Some(ZoneProperty::Rule);
     }
-    property_if(
-        line::read::is_called(line, n, b"RDATE"),
-        ZoneProperty::Dates,
-    )
+    if line::read::is_called(line, n, b"RDATE") {
+        return Some(ZoneProperty::Dates);
+    }
+    None
 }
 
 // The property that the line is, where it stands.
-fn zone_property(scope: ZoneScope, line: &[u8], n: usize) -> ZoneProperty
+#[tactic(auto, unfolding(crate::specs::ZoneProperties::zone_property_of))]
+fn zone_property(scope: ZoneScope, line: &[u8], n: usize) -> Option<ZoneProperty>
     requires { n ≡ length (name_of line.now) }
     ensures { result ≡ zone_property_of scope (name_of line.now) }
 {
     match scope {
-        ZoneScope::Zone => property_if(line::read::is_called(line, n, b"TZID"), ZoneProperty::Tzid),
+        ZoneScope::Zone => line::read::is_called(line, n, b"TZID").then_some(ZoneProperty::Tzid),
         ZoneScope::Part => part_property(line, n),
-        ZoneScope::Other => ZoneProperty::Unread,
-    }
-}
-
-fn onset_by(r: OnsetRead) -> ZoneValue
-    ensures { result ≡ onset_by r }
-{
-    match r {
-        OnsetRead::At(clock) => ZoneValue::Onset(clock),
-        OnsetRead::Bad => ZoneValue::Bad,
-    }
-}
-
-fn from_by(r: OffsetRead) -> ZoneValue
-    ensures { result ≡ from_by r }
-{
-    match r {
-        OffsetRead::Of(n) => ZoneValue::From(n),
-        OffsetRead::Bad => ZoneValue::Bad,
-    }
-}
-
-fn to_by(r: OffsetRead) -> ZoneValue
-    ensures { result ≡ to_by r }
-{
-    match r {
-        OffsetRead::Of(n) => ZoneValue::To(n),
-        OffsetRead::Bad => ZoneValue::Bad,
-    }
-}
-
-fn rule_by(r: ZoneRuleRead) -> ZoneValue
-    ensures { result ≡ rule_by r }
-{
-    match r {
-        ZoneRuleRead::Of(x) => ZoneValue::Rule(x),
-        ZoneRuleRead::Unsupported => ZoneValue::Unsupported,
+        ZoneScope::Other => None,
     }
 }
 
 // What a line as the property, with the value v, says.
-fn value_as(property: ZoneProperty, line: &[u8], v: &[u8]) -> ZoneValue
+// There is no table of readers, since each answers its own type.
+#[tactic(auto, unfolding(crate::specs::ZoneProperties::zone_value_as, line::specs::Reading::line_of))]
+fn value_as(property: ZoneProperty, line: &[u8], v: &[u8]) -> Result<ZoneValue, ValueError>
     requires { v.now ≡ value_of line.now }
     ensures { result ≡ zone_value_as property (line_of line.now) }
 {
     match property {
-        ZoneProperty::Tzid => ZoneValue::Tzid,
-        ZoneProperty::Start => onset_by(onset::read_onset(line, v)),
-        ZoneProperty::From => from_by(offset::read_offset(v)),
-        ZoneProperty::To => to_by(offset::read_offset(v)),
-        ZoneProperty::Rule => rule_by(zone_rule::read_zone_rule(v)),
-        ZoneProperty::Dates => ZoneValue::Unsupported,
-        ZoneProperty::Unread => ZoneValue::Nothing,
+        ZoneProperty::Tzid => Ok(ZoneValue::Tzid),
+        ZoneProperty::Start => {
+            let clock = onset::read_onset(line, v).ok_or(ValueError::Bad)?;
+            Ok(ZoneValue::Onset(clock))
+        }
+        ZoneProperty::From => {
+            let offset = offset::read_offset(v).ok_or(ValueError::Bad)?;
+            Ok(ZoneValue::From(offset))
+        }
+        ZoneProperty::To => {
+            let offset = offset::read_offset(v).ok_or(ValueError::Bad)?;
+            Ok(ZoneValue::To(offset))
+        }
+        ZoneProperty::Rule => {
+            let rule = zone_rule::read_zone_rule(v).ok_or(ValueError::Unsupported)?;
+            Ok(ZoneValue::Rule(rule))
+        }
+        ZoneProperty::Dates => Err(ValueError::Unsupported),
     }
 }
 
 // What a line, whose name is n bytes long, says where it stands. Where no rule reads it, its value is not looked for.
-pub fn zone_value(scope: ZoneScope, line: &[u8], n: usize) -> ZoneValue
+#[tactic(auto, unfolding(crate::specs::ZoneProperties::zone_value_of, line::specs::Reading::line_of))]
+pub fn zone_value(scope: ZoneScope, line: &[u8], n: usize) -> Result<Option<ZoneValue>, ValueError>
     requires { n ≡ length (name_of line.now) }
     ensures { result ≡ zone_value_of scope (line_of line.now) }
 {
-    let property = zone_property(scope, line, n);
-    match property {
-        ZoneProperty::Unread => ZoneValue::Nothing,
-        _ => value_as(property, line, line::read::value_behind(line, n)),
-    }
+    let Some(property) = zone_property(scope, line, n) else {
+        return Ok(None);
+    };
+    let value = value_as(property, line, line::read::value_behind(line, n))?;
+    Ok(Some(value))
 }

@@ -1,182 +1,90 @@
 // What the lines of one part of a zone say together: how often each property was given, and then the numbers of the part.
 // A part is broken unless it has each line that it needs once.
 ghost use Rattle.std.specs.Prelude.{◌≡◌};
-ghost use Rattle.zone_properties.specs.Parts.{one_more, one_rule_more, nothing_given, with_value, by_rule, by_to, by_from, part_of};
+ghost use Rattle.zone_properties.specs.Parts.{nothing_given, with_value, part_of};
 
 use crate::ZoneValue;
+use values::given::Given;
+use values::rule::ValueError;
 use zone_values::zone_rule::ZoneRule;
-
-// A number: not given, given once, or more often.
-#[derive(Clone, Copy)]
-pub enum Given {
-    No,
-    Once(u64),
-    Twice,
-}
-
-#[derive(Clone, Copy)]
-pub enum RuleGiven {
-    No,
-    Once(ZoneRule),
-    Twice,
-}
 
 // What was given so far.
 #[derive(Clone, Copy)]
 pub struct PartRead {
-    pub start: Given,
-    pub from: Given,
-    pub to: Given,
-    pub rule: RuleGiven,
+    pub start: Given<u64>,
+    pub from: Given<u64>,
+    pub to: Given<u64>,
+    pub rule: Given<ZoneRule>,
 }
 
-// A part in plain numbers; its month is 0 where it has no rule.
+// A part of a zone, and its rule where it has one.
 #[derive(Clone, Copy)]
 pub struct PartNumbers {
     pub start: u64,
     pub from: u64,
     pub to: u64,
-    pub month: u64,
-    pub others: u64,
-    pub back: bool,
-    pub weekday: u64,
-}
-
-#[derive(Clone, Copy)]
-pub enum PartMade {
-    Of(PartNumbers),
-    Broken,
-}
-
-fn one_more(g: Given, n: u64) -> Given
-    ensures { result ≡ one_more g n }
-{
-    match g {
-        Given::No => Given::Once(n),
-        Given::Once(k) => Given::Twice,
-        Given::Twice => Given::Twice,
-    }
-}
-
-fn one_rule_more(g: RuleGiven, rule: ZoneRule) -> RuleGiven
-    ensures { result ≡ one_rule_more g rule }
-{
-    match g {
-        RuleGiven::No => RuleGiven::Once(rule),
-        RuleGiven::Once(k) => RuleGiven::Twice,
-        RuleGiven::Twice => RuleGiven::Twice,
-    }
+    pub rule: Option<ZoneRule>,
 }
 
 // No line read.
+#[tactic(auto, unfolding(crate::specs::Parts::nothing_given))]
 pub fn nothing_given() -> PartRead
     ensures { result ≡ nothing_given }
 {
     PartRead {
-        start: Given::No,
-        from: Given::No,
-        to: Given::No,
-        rule: RuleGiven::No,
+        start: Given::None,
+        from: Given::None,
+        to: Given::None,
+        rule: Given::None,
     }
 }
 
-// One line more of the part, by what it says.
-pub fn with_value(p: PartRead, v: ZoneValue) -> PartRead
+// One line more of the part, by what it says. A line that is not read or refused gives nothing.
+#[tactic(auto, unfolding(crate::specs::Parts::with_value, crate::specs::Parts::with_said))]
+pub fn with_value(p: PartRead, v: Result<Option<ZoneValue>, ValueError>) -> PartRead
     ensures { result ≡ with_value p v }
 {
-    let start = p.start;
-    let from = p.from;
-    let to = p.to;
-    let rule = p.rule;
-    match v {
-        ZoneValue::Nothing => p,
-        ZoneValue::Unsupported => p,
-        ZoneValue::Bad => p,
+    let Ok(Some(value)) = v else {
+        return p;
+    };
+    match value {
         ZoneValue::Tzid => p,
         ZoneValue::Onset(n) => PartRead {
-            start: one_more(start, n),
-            from,
-            to,
-            rule,
+            start: p.start.with(n),
+            ..p
         },
         ZoneValue::From(n) => PartRead {
-            start,
-            from: one_more(from, n),
-            to,
-            rule,
+            from: p.from.with(n),
+            ..p
         },
         ZoneValue::To(n) => PartRead {
-            start,
-            from,
-            to: one_more(to, n),
-            rule,
+            to: p.to.with(n),
+            ..p
         },
         ZoneValue::Rule(r) => PartRead {
-            start,
-            from,
-            to,
-            rule: one_rule_more(rule, r),
+            rule: p.rule.with(r),
+            ..p
         },
-    }
-}
-
-fn by_rule(start: u64, from: u64, to: u64, rule: RuleGiven) -> PartMade
-    ensures { result ≡ by_rule start from to rule }
-{
-    match rule {
-        RuleGiven::No => PartMade::Of(PartNumbers {
-            start,
-            from,
-            to,
-            month: 0,
-            others: 0,
-            back: false,
-            weekday: 0,
-        }),
-        RuleGiven::Once(x) => PartMade::Of(PartNumbers {
-            start,
-            from,
-            to,
-            month: x.month,
-            others: x.others,
-            back: x.back,
-            weekday: x.weekday,
-        }),
-        RuleGiven::Twice => PartMade::Broken,
-    }
-}
-
-fn by_to(start: u64, from: u64, to: Given, rule: RuleGiven) -> PartMade
-    ensures { result ≡ by_to start from to rule }
-{
-    match to {
-        Given::No => PartMade::Broken,
-        Given::Once(t) => by_rule(start, from, t, rule),
-        Given::Twice => PartMade::Broken,
-    }
-}
-
-fn by_from(start: u64, from: Given, to: Given, rule: RuleGiven) -> PartMade
-    ensures { result ≡ by_from start from to rule }
-{
-    match from {
-        Given::No => PartMade::Broken,
-        Given::Once(f) => by_to(start, f, to, rule),
-        Given::Twice => PartMade::Broken,
     }
 }
 
 // The part that was given, where each line that it needs was given once, and RRULE not twice.
-pub fn part_of(p: PartRead) -> PartMade
+#[tactic(auto, unfolding(crate::specs::Parts::part_of, crate::specs::Parts::by_rule, values::specs::Given::given_once))]
+pub fn part_of(p: PartRead) -> Option<PartNumbers>
     ensures { result ≡ part_of p }
 {
-    let start = p.start;
-    let from = p.from;
-    let to = p.to;
-    let rule = p.rule;
-    match start {
-        Given::No => PartMade::Broken,
-        Given::Once(s) => by_from(s, from, to, rule),
-        Given::Twice => PartMade::Broken,
-    }
+    let start = p.start.once()?;
+    let from = p.from.once()?;
+    let to = p.to.once()?;
+    let rule = match p.rule {
+        Given::None => None,
+        Given::One(r) => Some(r),
+        Given::Several => return None,
+    };
+    Some(PartNumbers {
+        start,
+        from,
+        to,
+        rule,
+    })
 }

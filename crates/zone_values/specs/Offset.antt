@@ -1,10 +1,8 @@
 -- A utc-offset, the value of TZOFFSETFROM and TZOFFSETTO (R-5, with RFC 5545 3.3.14): its grammar, for the reader, and `read_offset`, which
 -- the code computes. The two are tied in proofs/OffsetLaws. An offset is told as 86,400 more than it.
-use Rattle.std.specs.Prelude.{ℕ, ◌+◌, ◌-◌, ◌*◌, ◌≤◌, ◌≡◌, true, cond, ◌&&◌, List, [], ◌∷◌, eqb, ltb, length, get_or}
+use Rattle.std.specs.Prelude.{ℕ, ◌+◌, ◌-◌, ◌*◌, ◌≤◌, ◌≡◌, true, cond, ◌&&◌, List, [], ◌∷◌, eqb, ltb, length, get_or, None, Option, Some}
 use Rattle.ascii.specs.Bytes.{is_digit}
 use Rattle.time.specs.DateTime.{pair_at, three, checked_time}
-use Rattle.time.specs.declared.date_time.Number.{Number}
-use Rattle.zone_values.specs.declared.offset.OffsetRead.{OffsetRead}
 
 -- ---- for the reader
 
@@ -35,20 +33,20 @@ pub data UtcOffset : List ℕ → ℕ → Type 0 where
 -- ---- as it is computed
 
 -- five bytes have no second, seven have one
-unfoldable pub second_at : List ℕ → Number
-second_at v = cond (eqb (length v) 5) (Number.Of 0) (cond (eqb (length v) 7) (pair_at v 5) Number.Bad)
+unfoldable pub second_at : List ℕ → Option ℕ
+second_at v = cond (eqb (length v) 5) (Some 0) (cond (eqb (length v) 7) (pair_at v 5) None)
 
 -- the seconds behind the sign
-unfoldable pub offset_size : List ℕ → Number
+unfoldable pub offset_size : List ℕ → Option ℕ
 offset_size v = three checked_time (pair_at v 1) (pair_at v 3) (second_at v)
 
-unfoldable pub signed : ℕ → ℕ → OffsetRead
+unfoldable pub signed : ℕ → ℕ → Option ℕ
 signed b n =
-    cond (eqb b 43) (OffsetRead.Of (86400 + n)) (cond (eqb b 45 && ltb 0 n) (OffsetRead.Of (86400 - n)) OffsetRead.Bad)
+    cond (eqb b 43) (Some (86400 + n)) (cond (eqb b 45 && ltb 0 n) (Some (86400 - n)) None)
 
-unfoldable pub signed_by : ℕ → Number → OffsetRead
-signed_by b Number.Bad = OffsetRead.Bad
-signed_by b (Number.Of n) = signed b n
+unfoldable pub signed_by : ℕ → Option ℕ → Option ℕ
+signed_by b None = None
+signed_by b (Some n) = signed b n
 
-unfoldable pub read_offset : List ℕ → OffsetRead
+unfoldable pub read_offset : List ℕ → Option ℕ
 read_offset v = signed_by (get_or v 0 0) (offset_size v)

@@ -1,14 +1,12 @@
 -- The RRULE of a part of a time zone (R-5): FREQ=YEARLY, one BYMONTH and one BYDAY with an ordinal, and nothing else. What such a value is,
 -- for the reader, and `read_zone_rule`, which the code computes; the two are tied in proofs/ZoneRuleLaws.
-use Rattle.std.specs.Prelude.{ℕ, ◌+◌, ◌-◌, ◌≤◌, ◌≡◌, Bool, true, false, cond, List, [], ◌∷◌, ◌++◌, eqb, ltb, length, take, drop, get_or}
+use Rattle.std.specs.Prelude.{ℕ, ◌+◌, ◌-◌, ◌≤◌, ◌≡◌, Bool, true, false, cond, List, [], ◌∷◌, ◌++◌, eqb, ltb, length, take, drop, get_or, None, Option, Some}
 use Rattle.ascii.specs.Names.{same_name}
 use Rattle.ascii.specs.Words.{ascii}
-use Rattle.time.specs.declared.date_time.Number.{Number}
 use Rattle.line.specs.Splitting.{plain_split}
 use Rattle.values.specs.Rule.{number_to}
 use Rattle.values.specs.RuleGrammar.{NumberIs}
 use Rattle.zone_values.specs.declared.zone_rule.ZoneRule.{ZoneRule}
-use Rattle.zone_values.specs.declared.zone_rule.ZoneRuleRead.{ZoneRuleRead}
 use Rattle.zone_values.specs.declared.zone_rule.ZoneDay.{ZoneDay}
 use Rattle.zone_values.specs.declared.zone_rule.ZonePart.{ZonePart}
 
@@ -69,9 +67,6 @@ pub record DayPart (t : List ℕ) (d : ZoneDay) : Type 0 where
   pub says : Says (ascii "BYDAY=") t value
   pub day_is : DayText value d
 
-abbrev pub day_of : ZoneRule → ZoneDay
-day_of r = record { others = r.others; back = r.back; weekday = r.weekday }
-
 -- v says the rule r: cut at each semicolon (59) it is these three parts, in any order
 pub record YearlyRule (v : List ℕ) (r : ZoneRule) : Type 0 where
   pub frequency_part_holds : List ℕ
@@ -80,93 +75,98 @@ pub record YearlyRule (v : List ℕ) (r : ZoneRule) : Type 0 where
   pub cut : AnyOrder frequency_part_holds month_part_holds day_part_holds (plain_split 59 v)
   pub frequency : same_name frequency_part_holds (ascii "FREQ=YEARLY") ≡ true
   pub month : MonthPart month_part_holds r.month
-  pub day : DayPart day_part_holds (day_of r)
+  pub day : DayPart day_part_holds r.day
 
 -- ---- as it is computed
 
-unfoldable pub short_number : ℕ → List ℕ → Number
-short_number most l = cond (ltb 2 (length l)) Number.Bad (number_to most l)
+unfoldable pub short_number : ℕ → List ℕ → Option ℕ
+short_number most l = cond (ltb 2 (length l)) None (number_to most l)
 
-unfoldable pub later_weekday : List ℕ → Number
+unfoldable pub later_weekday : List ℕ → Option ℕ
 later_weekday w =
-    cond (same_name w (ascii "WE")) (Number.Of 3)
-    (cond (same_name w (ascii "TH")) (Number.Of 4) (cond (same_name w (ascii "FR")) (Number.Of 5) (cond (same_name w (ascii "SA")) (Number.Of 6) Number.Bad)))
+    cond (same_name w (ascii "WE")) (Some 3)
+    (cond (same_name w (ascii "TH")) (Some 4) (cond (same_name w (ascii "FR")) (Some 5) (cond (same_name w (ascii "SA")) (Some 6) None)))
 
-unfoldable pub weekday_of : List ℕ → Number
+unfoldable pub weekday_of : List ℕ → Option ℕ
 weekday_of w =
-    cond (same_name w (ascii "SU")) (Number.Of 0)
-    (cond (same_name w (ascii "MO")) (Number.Of 1) (cond (same_name w (ascii "TU")) (Number.Of 2) (later_weekday w)))
+    cond (same_name w (ascii "SU")) (Some 0)
+    (cond (same_name w (ascii "MO")) (Some 1) (cond (same_name w (ascii "TU")) (Some 2) (later_weekday w)))
 
-unfoldable pub day_by : Bool → Number → Number → ZonePart
-day_by back Number.Bad w = ZonePart.Other
-day_by back (Number.Of n) Number.Bad = ZonePart.Other
-day_by back (Number.Of n) (Number.Of w) = ZonePart.Day (record { others = n - 1; back = back; weekday = w })
+unfoldable pub day_by : Bool → Option ℕ → Option ℕ → Option ZoneDay
+day_by back None w = None
+day_by back (Some n) None = None
+day_by back (Some n) (Some w) = Some (record { others = n - 1; back = back; weekday = w })
 
 -- behind the sign: the last two bytes are the weekday
-unfoldable pub day_after : Bool → List ℕ → ZonePart
+unfoldable pub day_after : Bool → List ℕ → Option ZoneDay
 day_after back t = day_by back (short_number 5 (take (length t - 2) t)) (weekday_of (drop (length t - 2) t))
 
-unfoldable pub day_part : List ℕ → ZonePart
+unfoldable pub day_part : List ℕ → Option ZoneDay
 day_part t =
     cond (eqb (get_or t 0 0) 45) (day_after true (drop 1 t)) (cond (eqb (get_or t 0 0) 43) (day_after false (drop 1 t)) (day_after false t))
 
-unfoldable pub month_by : Number → ZonePart
-month_by (Number.Of m) = ZonePart.Month m
-month_by Number.Bad = ZonePart.Other
+abbrev pub month_by : Option ℕ → Option ZonePart
+month_by (Some m) = Some (ZonePart.Month m)
+month_by None = None
 
-unfoldable pub month_part : List ℕ → ZonePart
-month_part t = month_by (short_number 12 t)
+abbrev pub part_by : Option ZoneDay → Option ZonePart
+part_by (Some d) = Some (ZonePart.Day d)
+part_by None = None
 
 -- does t begin with the name, ASCII case disregarded?
 unfoldable pub begins : List ℕ → List ℕ → Bool
 begins name t = same_name (take (length name) t) name
 
-unfoldable pub zone_part : List ℕ → ZonePart
+unfoldable pub zone_part : List ℕ → Option ZonePart
 zone_part t =
-    cond (same_name t (ascii "FREQ=YEARLY")) ZonePart.Yearly
-    (cond (begins (ascii "BYMONTH=") t) (month_part (drop 8 t)) (cond (begins (ascii "BYDAY=") t) (day_part (drop 6 t)) ZonePart.Other))
+    cond (same_name t (ascii "FREQ=YEARLY")) (Some ZonePart.Yearly)
+    (cond (begins (ascii "BYMONTH=") t) (month_by (short_number 12 (drop 8 t)))
+    (cond (begins (ascii "BYDAY=") t) (part_by (day_part (drop 6 t))) None))
 
 unfoldable pub is_yearly : ZonePart → Bool
 is_yearly ZonePart.Yearly = true
 is_yearly (ZonePart.Month m) = false
 is_yearly (ZonePart.Day d) = false
-is_yearly ZonePart.Other = false
 
-unfoldable pub with_day : ℕ → ZonePart → ZoneRuleRead
-with_day m ZonePart.Yearly = ZoneRuleRead.Unsupported
-with_day m (ZonePart.Month n) = ZoneRuleRead.Unsupported
-with_day m (ZonePart.Day d) = ZoneRuleRead.Of (record { month = m; others = d.others; back = d.back; weekday = d.weekday })
-with_day m ZonePart.Other = ZoneRuleRead.Unsupported
+unfoldable pub with_day : ℕ → ZonePart → Option ZoneRule
+with_day m ZonePart.Yearly = None
+with_day m (ZonePart.Month n) = None
+with_day m (ZonePart.Day d) = Some (record { month = m; day = d })
 
-unfoldable pub with_month : ZoneDay → ZonePart → ZoneRuleRead
-with_month d ZonePart.Yearly = ZoneRuleRead.Unsupported
+unfoldable pub with_month : ZoneDay → ZonePart → Option ZoneRule
+with_month d ZonePart.Yearly = None
 with_month d (ZonePart.Month m) = with_day m (ZonePart.Day d)
-with_month d (ZonePart.Day e) = ZoneRuleRead.Unsupported
-with_month d ZonePart.Other = ZoneRuleRead.Unsupported
+with_month d (ZonePart.Day e) = None
 
 -- a month and a day, in either order
-unfoldable pub dated : ZonePart → ZonePart → ZoneRuleRead
-dated ZonePart.Yearly y = ZoneRuleRead.Unsupported
+unfoldable pub dated : ZonePart → ZonePart → Option ZoneRule
+dated ZonePart.Yearly y = None
 dated (ZonePart.Month m) y = with_day m y
 dated (ZonePart.Day d) y = with_month d y
-dated ZonePart.Other y = ZoneRuleRead.Unsupported
 
 -- once FREQ=YEARLY is found, the other two are a month and a day
-unfoldable pub in_any_order : ZonePart → ZonePart → ZonePart → ZoneRuleRead
+unfoldable pub in_any_order : ZonePart → ZonePart → ZonePart → Option ZoneRule
 in_any_order x y z =
-    cond (is_yearly x) (dated y z) (cond (is_yearly y) (dated x z) (cond (is_yearly z) (dated x y) ZoneRuleRead.Unsupported))
+    cond (is_yearly x) (dated y z) (cond (is_yearly y) (dated x z) (cond (is_yearly z) (dated x y) None))
 
--- the part at a place; past the end it is empty, and so another part
-abbrev pub part_at : List ℕ → ℕ → ZonePart
+-- the part at a place; past the end it is empty, and so none that is read
+abbrev pub part_at : List ℕ → ℕ → Option ZonePart
 part_at v i = zone_part (get_or (plain_split 59 v) i [])
 
-unfoldable pub read_zone_rule : List ℕ → ZoneRuleRead
+-- all three are read
+abbrev pub all_three : Option ZonePart → Option ZonePart → Option ZonePart → Option ZoneRule
+all_three (Some x) (Some y) (Some z) = in_any_order x y z
+all_three (Some x) (Some y) None = None
+all_three (Some x) None z = None
+all_three None y z = None
+
+unfoldable pub read_zone_rule : List ℕ → Option ZoneRule
 read_zone_rule v =
-    cond (eqb (length (plain_split 59 v)) 3) (in_any_order (part_at v 0) (part_at v 1) (part_at v 2)) ZoneRuleRead.Unsupported
+    cond (eqb (length (plain_split 59 v)) 3) (all_three (part_at v 0) (part_at v 1) (part_at v 2)) None
 
 -- how large what a rule says can be
 pub record ZoneRuleSmall (r : ZoneRule) : Type 0 where
   pub some_month : 1 ≤ r.month
   pub few_months : r.month ≤ 12
-  pub few_others : r.others ≤ 4
-  pub few_weekdays : r.weekday ≤ 6
+  pub few_others : r.day.others ≤ 4
+  pub few_weekdays : r.day.weekday ≤ 6

@@ -4,30 +4,22 @@ ghost use Rattle.std.specs.Prelude.{◌≡◌, ◌≤◌, ◌<◌, length};
 ghost use Rattle.zone_values.specs.Offset.{second_at, offset_size, signed, read_offset};
 
 use time::date_time;
-use time::date_time::Number;
-
-#[derive(Clone, Copy)]
-pub enum OffsetRead {
-    // 86,400 more than the offset.
-    Of(u64),
-    Bad,
-}
 
 // The second of an offset: five bytes have none.
-fn second_at(v: &[u8]) -> Number
+#[tactic(auto, unfolding(crate::specs::Offset::second_at))]
+fn second_at(v: &[u8]) -> Option<u64>
     ensures { result ≡ second_at v.now }
 {
-    if v.len() == 5 {
-        return Number::Of(0);
+    match v.len() {
+        5 => Some(0),
+        7 => date_time::pair_at(v, 5),
+        _ => None,
     }
-    if v.len() == 7 {
-        return date_time::pair_at(v, 5);
-    }
-    Number::Bad
 }
 
 // How many seconds stand behind the sign.
-fn offset_size(v: &[u8]) -> Number
+#[tactic(auto, unfolding(crate::specs::Offset::offset_size))]
+fn offset_size(v: &[u8]) -> Option<u64>
     requires { 5 ≤ length v.now }
     ensures { result ≡ offset_size v.now }
 {
@@ -39,29 +31,28 @@ fn offset_size(v: &[u8]) -> Number
 }
 
 // The offset of a size: behind UTC there is none of size 0.
-fn signed(sign: u8, size: u64) -> OffsetRead
+#[tactic(auto, unfolding(crate::specs::Offset::signed))]
+fn signed(sign: u8, size: u64) -> Option<u64>
     requires { size < 86400 }
     ensures { result ≡ signed sign size }
 {
     if sign == 43 {
-        return OffsetRead::Of(86400 + size);
+        return Some(86400 + size);
     }
     if (sign == 45) & (0 < size) {
-        return OffsetRead::Of(86400 - size);
+        return Some(86400 - size);
     }
-    OffsetRead::Bad
+    None
 }
 
 // The offset that a value says.
-pub fn read_offset(v: &[u8]) -> OffsetRead
+#[tactic(auto, using(crate::proofs::OffsetLaws::size_small), unfolding(crate::specs::Offset::read_offset, crate::specs::Offset::signed_by))]
+pub fn read_offset(v: &[u8]) -> Option<u64>
     ensures { result ≡ read_offset v.now }
 {
     if v.len() < 5 {
-        return OffsetRead::Bad;
+        return None;
     }
-    let size = offset_size(v);
-    match size {
-        Number::Of(n) => signed(v[0], n),
-        Number::Bad => OffsetRead::Bad,
-    }
+    let size = offset_size(v)?;
+    signed(v[0], size)
 }

@@ -9,45 +9,38 @@ use time::date_time::{DateTime, Kind};
 use values::times;
 use values::times::Form;
 
-#[derive(Clone, Copy)]
-pub enum OnsetRead {
-    // The seconds since 00000101T000000 by the value's own clock.
-    At(u64),
-    Bad,
-}
-
 // A floating time as its clock, any other is bad.
-fn floating_only(read: DateTime) -> OnsetRead
+fn floating_only(read: Option<DateTime>) -> Option<u64>
     ensures { result ≡ floating_only read }
 {
-    match read {
-        DateTime::At(kind, clock) => match kind {
-            Kind::Utc => OnsetRead::Bad,
-            Kind::Floating => OnsetRead::At(clock),
-            Kind::Date => OnsetRead::Bad,
-        },
-        DateTime::Bad => OnsetRead::Bad,
+    let DateTime { kind, clock } = read?;
+    if kind == Kind::Floating {
+        Some(clock)
+    } else {
+        None
     }
 }
 
 // A value of the form that is asked for: only a DATE-TIME will do.
-fn onset_by(form: Form, v: &[u8]) -> OnsetRead
+#[tactic(auto, unfolding(crate::specs::Onset::onset_by))]
+fn onset_by(form: Form, v: &[u8]) -> Option<u64>
     ensures { result ≡ onset_by form v.now }
 {
     match form {
         Form::DateTime => floating_only(date_time::read_date_time(v)),
-        Form::Date => OnsetRead::Bad,
-        Form::Wrong => OnsetRead::Bad,
+        Form::Date => None,
+        Form::Wrong => None,
     }
 }
 
 // The onset that a line, whose value is v, gives. With TZID it is bad.
-pub fn read_onset(line: &[u8], v: &[u8]) -> OnsetRead
+#[tactic(auto, unfolding(crate::specs::Onset::onset_of, line::specs::Reading::line_of))]
+pub fn read_onset(line: &[u8], v: &[u8]) -> Option<u64>
     requires { v.now ≡ value_of line.now }
     ensures { result ≡ onset_of (line_of line.now) }
 {
     if line::read::has_parameter(line, b"TZID") {
-        return OnsetRead::Bad;
+        return None;
     }
     onset_by(times::form_of(line), v)
 }

@@ -1,11 +1,10 @@
 // The RRULE of a part of a time zone: a month, a weekday, and the how manieth of them the day is.
 // No other rule is supported, and none is bad: whatever is not of this form is refusal 8.
-ghost use Rattle.std.specs.Prelude.{◌≡◌, ℕ, ◌≤◌};
-ghost use Rattle.zone_values.specs.ZoneRule.{short_number, later_weekday, weekday_of, day_by, day_after, day_part, month_part, begins, zone_part};
-ghost use Rattle.zone_values.specs.ZoneRule.{is_yearly, with_day, with_month, dated, in_any_order, read_zone_rule};
+ghost use Rattle.std.specs.Prelude.{◌≡◌};
+ghost use Rattle.zone_values.specs.ZoneRule.{short_number, weekday_of, day_after, day_part, begins, zone_part};
+ghost use Rattle.zone_values.specs.ZoneRule.{dated, in_any_order, read_zone_rule};
 
 use line::split;
-use time::date_time::Number;
 use values::rule;
 
 // The onsets of a rule: each year, in the month, one of its days of that name.
@@ -13,6 +12,12 @@ use values::rule;
 pub struct ZoneRule {
     // 1 to 12.
     pub month: u64,
+    pub day: ZoneDay,
+}
+
+// The day of BYDAY.
+#[derive(Clone, Copy)]
+pub struct ZoneDay {
     // How many days of that name come before it: 0 to 4.
     pub others: u64,
     // Is it counted from the month's end?
@@ -21,110 +26,79 @@ pub struct ZoneRule {
     pub weekday: u64,
 }
 
-#[derive(Clone, Copy)]
-pub enum ZoneRuleRead {
-    Of(ZoneRule),
-    // Refusal 8.
-    Unsupported,
-}
-
-// The day of BYDAY.
-#[derive(Clone, Copy)]
-pub struct ZoneDay {
-    pub others: u64,
-    pub back: bool,
-    pub weekday: u64,
-}
-
-// One part of the value.
+// One part of the value that is read.
 #[derive(Clone, Copy)]
 pub enum ZonePart {
     Yearly,
     Month(u64),
     Day(ZoneDay),
-    Other,
 }
 
 // The number of one or two digits, from 1 to the given one.
-fn short_number(most: u64, s: &[u8]) -> Number
+#[tactic(auto, unfolding(crate::specs::ZoneRule::short_number))]
+fn short_number(most: u64, s: &[u8]) -> Option<u64>
     ensures { result ≡ short_number most s.now }
 {
     if 2 < s.len() {
-        return Number::Bad;
+        return None;
     }
     rule::number_to(most, s)
 }
 
-// Wednesday to Saturday.
-fn later_weekday(w: &[u8]) -> Number
-    ensures { result ≡ later_weekday w.now }
-{
-    if ascii::same_name(w, b"WE") {
-        return Number::Of(3);
-    }
-    if ascii::same_name(w, b"TH") {
-        return Number::Of(4);
-    }
-    if ascii::same_name(w, b"FR") {
-        return Number::Of(5);
-    }
-    if ascii::same_name(w, b"SA") {
-        return Number::Of(6);
-    }
-    Number::Bad
-}
-
-// The weekday that two letters name.
-fn weekday_of(w: &[u8]) -> Number
+// The weekday that two letters name: its number, which a row holds and WeekdayIs says, so that TryFrom for an enum would be no plainer.
+#[tactic(auto, unfolding(crate::specs::ZoneRule::weekday_of, crate::specs::ZoneRule::later_weekday))]
+fn weekday_of(w: &[u8]) -> Option<u64>
     ensures { result ≡ weekday_of w.now }
 {
     if ascii::same_name(w, b"SU") {
-        return Number::Of(0);
+        return Some(0);
     }
     if ascii::same_name(w, b"MO") {
-        return Number::Of(1);
+        return Some(1);
     }
     if ascii::same_name(w, b"TU") {
-        return Number::Of(2);
+        return Some(2);
     }
-    later_weekday(w)
-}
-
-// The day of a number and a weekday, where both were read.
-fn day_by(back: bool, number: Number, weekday: Number) -> ZonePart
-    requires { (n : ℕ) → number ≡ Number.Of n → 1 ≤ n }
-    ensures { result ≡ day_by back number weekday }
-{
-    match number {
-        Number::Bad => ZonePart::Other,
-        Number::Of(n) => match weekday {
-            Number::Bad => ZonePart::Other,
-            Number::Of(w) => ZonePart::Day(ZoneDay {
-                others: n - 1,
-                back,
-                weekday: w,
-            }),
-        },
+    if ascii::same_name(w, b"WE") {
+        return Some(3);
     }
+    if ascii::same_name(w, b"TH") {
+        return Some(4);
+    }
+    if ascii::same_name(w, b"FR") {
+        return Some(5);
+    }
+    if ascii::same_name(w, b"SA") {
+        return Some(6);
+    }
+    None
 }
 
 // Behind the sign: digits, and two letters.
-fn day_after(back: bool, t: &[u8]) -> ZonePart
+#[tactic(auto, unfolding(crate::specs::ZoneRule::day_after, crate::specs::ZoneRule::day_by))]
+fn day_after(back: bool, t: &[u8]) -> Option<ZoneDay>
     ensures { result ≡ day_after back t.now }
 {
     if t.len() < 2 {
-        return ZonePart::Other;
+        return None;
     }
     let e = t.len() - 2;
-    day_by(back, short_number(5, &t[..e]), weekday_of(&t[e..]))
+    let number = short_number(5, &t[..e])?;
+    let weekday = weekday_of(&t[e..])?;
+    Some(ZoneDay {
+        others: number - 1,
+        back,
+        weekday,
+    })
 }
 
 // The value of BYDAY, with a sign or without.
-fn day_part(t: &[u8]) -> ZonePart
+#[tactic(auto, unfolding(crate::specs::ZoneRule::day_part))]
+fn day_part(t: &[u8]) -> Option<ZoneDay>
     ensures { result ≡ day_part t.now }
 {
-    if t.len() < 1 {
-        return ZonePart::Other;
+    if t.is_empty() {
+        return None;
     }
     let sign = t[0];
     if sign == 45 {
@@ -136,18 +110,8 @@ fn day_part(t: &[u8]) -> ZonePart
     day_after(false, t)
 }
 
-// The value of BYMONTH.
-fn month_part(t: &[u8]) -> ZonePart
-    ensures { result ≡ month_part t.now }
-{
-    let number = short_number(12, t);
-    match number {
-        Number::Of(m) => ZonePart::Month(m),
-        Number::Bad => ZonePart::Other,
-    }
-}
-
 // Does the text begin with the name, ASCII case disregarded?
+#[tactic(auto, unfolding(crate::specs::ZoneRule::begins))]
 fn begins(t: &[u8], name: &[u8]) -> bool
     ensures { result ≡ begins name.now t.now }
 {
@@ -159,96 +123,60 @@ fn begins(t: &[u8], name: &[u8]) -> bool
 }
 
 // One part of the value.
-fn zone_part(t: &[u8]) -> ZonePart
+// There is no table of readers, since each answers its own type.
+#[tactic(auto, unfolding(crate::specs::ZoneRule::zone_part))]
+fn zone_part(t: &[u8]) -> Option<ZonePart>
     ensures { result ≡ zone_part t.now }
 {
     if ascii::same_name(t, b"FREQ=YEARLY") {
-        return ZonePart::Yearly;
+        return Some(ZonePart::Yearly);
     }
     if begins(t, b"BYMONTH=") {
-        return month_part(&t[8..]);
+        let month = short_number(12, &t[8..])?;
+        return Some(ZonePart::Month(month));
     }
     if begins(t, b"BYDAY=") {
-        return day_part(&t[6..]);
+        let day = day_part(&t[6..])?;
+        return Some(ZonePart::Day(day));
     }
-    ZonePart::Other
-}
-
-fn is_yearly(x: ZonePart) -> bool
-    ensures { result ≡ is_yearly x }
-{
-    match x {
-        ZonePart::Yearly => true,
-        ZonePart::Month(m) => false,
-        ZonePart::Day(d) => false,
-        ZonePart::Other => false,
-    }
-}
-
-fn with_day(month: u64, x: ZonePart) -> ZoneRuleRead
-    ensures { result ≡ with_day month x }
-{
-    match x {
-        ZonePart::Yearly => ZoneRuleRead::Unsupported,
-        ZonePart::Month(m) => ZoneRuleRead::Unsupported,
-        ZonePart::Day(d) => ZoneRuleRead::Of(ZoneRule {
-            month,
-            others: d.others,
-            back: d.back,
-            weekday: d.weekday,
-        }),
-        ZonePart::Other => ZoneRuleRead::Unsupported,
-    }
-}
-
-fn with_month(day: ZoneDay, x: ZonePart) -> ZoneRuleRead
-    ensures { result ≡ with_month day x }
-{
-    match x {
-        ZonePart::Yearly => ZoneRuleRead::Unsupported,
-        ZonePart::Month(m) => with_day(m, ZonePart::Day(day)),
-        ZonePart::Day(d) => ZoneRuleRead::Unsupported,
-        ZonePart::Other => ZoneRuleRead::Unsupported,
-    }
+    None
 }
 
 // A month and a day, in either order.
-fn dated(x: ZonePart, y: ZonePart) -> ZoneRuleRead
+#[tactic(auto, unfolding(crate::specs::ZoneRule::dated, crate::specs::ZoneRule::with_day, crate::specs::ZoneRule::with_month))]
+fn dated(x: ZonePart, y: ZonePart) -> Option<ZoneRule>
     ensures { result ≡ dated x y }
 {
-    match x {
-        ZonePart::Yearly => ZoneRuleRead::Unsupported,
-        ZonePart::Month(m) => with_day(m, y),
-        ZonePart::Day(d) => with_month(d, y),
-        ZonePart::Other => ZoneRuleRead::Unsupported,
+    match (x, y) {
+        (ZonePart::Month(month), ZonePart::Day(day)) => Some(ZoneRule { month, day }),
+        (ZonePart::Day(day), ZonePart::Month(month)) => Some(ZoneRule { month, day }),
+        _ => None,
     }
 }
 
 // FREQ=YEARLY, a month and a day, in any order.
-fn in_any_order(x: ZonePart, y: ZonePart, z: ZonePart) -> ZoneRuleRead
+#[tactic(auto, unfolding(crate::specs::ZoneRule::in_any_order, crate::specs::ZoneRule::is_yearly))]
+fn in_any_order(x: ZonePart, y: ZonePart, z: ZonePart) -> Option<ZoneRule>
     ensures { result ≡ in_any_order x y z }
 {
-    if is_yearly(x) {
-        return dated(y, z);
+    match (x, y, z) {
+        (ZonePart::Yearly, _, _) => dated(y, z),
+        (_, ZonePart::Yearly, _) => dated(x, z),
+        (_, _, ZonePart::Yearly) => dated(x, y),
+        _ => None,
     }
-    if is_yearly(y) {
-        return dated(x, z);
-    }
-    if is_yearly(z) {
-        return dated(x, y);
-    }
-    ZoneRuleRead::Unsupported
 }
 
 // The rule of a value, its parts cut at each semicolon.
-pub fn read_zone_rule(v: &[u8]) -> ZoneRuleRead
+#[tactic(auto, unfolding(crate::specs::ZoneRule::read_zone_rule, line::specs::Splitting::plain_split))]
+pub fn read_zone_rule(v: &[u8]) -> Option<ZoneRule>
     ensures { result ≡ read_zone_rule v.now }
 {
     if split::part_count(v, 59, false) != 3 {
-        return ZoneRuleRead::Unsupported;
+        return None;
     }
-    let first = zone_part(split::nth_part(v, 59, false, 0));
-    let second = zone_part(split::nth_part(v, 59, false, 1));
-    let third = zone_part(split::nth_part(v, 59, false, 2));
+    let first = zone_part(split::nth_part(v, 59, false, 0))?;
+    let second = zone_part(split::nth_part(v, 59, false, 1))?;
+    let third = zone_part(split::nth_part(v, 59, false, 2))?;
     in_any_order(first, second, third)
 }

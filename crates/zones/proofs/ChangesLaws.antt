@@ -1,12 +1,11 @@
 -- Laws of changes: walking up through the years finds the next onset, and up to it, and up to a gap's end, the offset is one.
+use Rattle.std.specs.Prelude.{None, Option, Some}
 use Prim.Native.Nat.{ℕ, suc, ◌+◌, ◌-◌, ◌*◌, ◌/◌, ◌%◌, ◌≤◌, ◌<◌}
 use mathlib.Core.Path.{◌≡◌, refl, sym}
-use mathlib.Core.Bool.{true, false}
 use native.Mathlib.Omega.{arith}
 use native.Mathlib.Decide.{dec_lt}
 use borrow.Author.Tests.{lt-ltb, le-ltb}
 use Rattle.time.specs.Days.{days_before_year}
-use Rattle.zones.specs.declared.Sought.{Sought}
 use Rattle.zones.specs.declared.Part.{Part}
 use Rattle.zones.specs.declared.Steady.{Steady}
 use Rattle.zones.specs.declared.offsets.Governing.{Governing}
@@ -15,7 +14,7 @@ use Rattle.zones.specs.RuleDays.{RuleDay}
 use Rattle.zones.specs.Onsets.{RuledOnset, IsOnset, at_start, by_rule_holds}
 use Rattle.zones.specs.Offsets.{Governs, BeforeAny, OpeningPart, GoverningFound, offset_after, IsOffset, after, before}
 use Rattle.zones.specs.Changes.{NoneUntil, QuietUntil, StaysAfter, SteadyUntil}
-use Rattle.zones.proofs.Parts.{clock_end_lem, not_both, same_found}
+use Rattle.zones.proofs.Parts.{clock_end_lem, same_found}
 use Rattle.zones.proofs.RuleDayYears.{year_low, years_rise, day_begun, day_over, day_order, no_rule}
 use Rattle.zones.proofs.OnsetsLaws.{start_least}
 use Rattle.zones.proofs.OffsetsLaws.{upto}
@@ -37,22 +36,9 @@ pub record Over (p : Part) (w y : ℕ) : Type 0 where
 pub over_start : (p : Part) (w y : ℕ) → p.month ≤ 12 → days_before_year y ≤ w / 86400 → Over p w y
 over_start p w y m h = record { past = λ z d l x. omega (arith, day_over p z d m x, years_rise (suc z) y (omega arith)) }
 
-module _ (p : Part) (w y : ℕ) (r : Sought) (q : Exactly (RuleDay p y) r) (o : Over p w y) where
-  step : ((d : ℕ) → RuleDay p y d → d * 86400 + p.start % 86400 ≤ w) → Over p w (y + 1)
-  step f = record { past = λ z d l x. go z d l x (dec_lt z y) }
-    where
-      go : (z d : ℕ) → z < y + 1 → RuleDay p z d → Dec (z < y) → d * 86400 + p.start % 86400 ≤ w
-      go z d l x (yes a) = o.past z d a x
-      go z d l x (no a) = let e : z ≡ y = omega arith in f d (rw e at x)
-
-  pub over_none : r ≡ Sought.Nothing → Over p w (y + 1)
-  over_none e = step (λ d x. not_both (q.no_other d x) e)
-
-  pub over_at : (d : ℕ) → r ≡ Sought.At d → d * 86400 + p.start % 86400 ≤ w → Over p w (y + 1)
-  over_at d e h = step (λ d' x. omega (arith, same_found (q.no_other d' x) e))
-
+module _ (p : Part) (w y : ℕ) (r : Option ℕ) (q : Exactly (RuleDay p y) r) (o : Over p w y) where
   -- the first day after w is the next
-  pub next_at : p.month ≤ 12 → (d : ℕ) → r ≡ Sought.At d → w < d * 86400 + p.start % 86400
+  pub next_at : p.month ≤ 12 → (d : ℕ) → r ≡ Some d → w < d * 86400 + p.start % 86400
       → NoneUntil (RuledOnset p) w (d * 86400 + p.start % 86400)
   next_at m d e h =
       record {
@@ -184,15 +170,15 @@ module _ (at : ℕ → Part) (n w : ℕ) (h : 1 ≤ n) (g : (i : ℕ) → i < n 
         same = λ v a b. sym ((offset_iff at n v h g r.offset).1 (f v a b));
       }
 
-  module _ (next : ℕ) (q : QuietUntil at n w next) (e : Governing) (x : GoverningFound at n w e) (p : Part) where
-    pub steady_after_onset : (r : Steady) → e.some ≡ true → p ≡ at e.part → StaysAfter p e.clock w next r → SteadyUntil at n w r
-    steady_after_onset r s f y =
+  module _ (next : ℕ) (q : QuietUntil at n w next) (f : Option Governing) (x : GoverningFound at n w f) (p : Part) where
+    pub steady_after_onset : (r : Steady) (e : Governing) → f ≡ Some e → p ≡ at e.part → StaysAfter p e.clock w next r → SteadyUntil at n w r
+    steady_after_onset r e s i y =
         steady_by r y.later
         (λ v a b.
-        after e.part e.clock (governs_on at n w next q v a (omega (arith, y.not_past)) e.part e.clock (x.found s))
-        (rw f at (y.same v a b)))
+        after e.part e.clock (governs_on at n w next q v a (omega (arith, y.not_past)) e.part e.clock (x.found e s))
+        (rw i at (y.same v a b)))
 
-    pub steady_before_any : e.some ≡ false → (i : ℕ) → OpeningPart at n i → p ≡ at i → SteadyUntil at n w (record { offset = p.from; until = next })
-    steady_before_any s i o f =
+    pub steady_before_any : f ≡ None → (i : ℕ) → OpeningPart at n i → p ≡ at i → SteadyUntil at n w (record { offset = p.from; until = next })
+    steady_before_any s i o j =
         steady_by (record { offset = p.from; until = next }) q.later
-        (λ v a b. before i (at i).start (before_on at n w next q v a b (x.none s)) o (rw f refl))
+        (λ v a b. before i (at i).start (before_on at n w next q v a b (x.none s)) o (rw j refl))

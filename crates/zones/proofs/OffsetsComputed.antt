@@ -1,32 +1,35 @@
 -- Laws of offsets as they are computed: what is computed is the offset, the UTC time is exact from the second day of year 0 on, and near its clock.
+use Rattle.std.specs.Prelude.{None, Option, Some}
 use Prim.Native.Nat.{ℕ, zero, suc, ◌+◌, ◌-◌, ◌≤◌, ◌<◌}
 use mathlib.Core.Path.{◌≡◌, refl, sym, ap, subst}
 use mathlib.Core.Logic.{◌↔◌}
-use mathlib.Core.Bool.{Bool, true, false, cond, ◌&&◌}
+use mathlib.Core.Bool.{Bool, true, false, cond}
 use native.Mathlib.Omega.{arith}
 use native.Mathlib.Numerals.{add-one}
 use lib.Dec.{ltb, leb}
-use borrow.Author.Tests.{leb-true, leb-false}
-use Rattle.zones.specs.declared.Sought.{Sought}
+use borrow.Author.Tests.{ltb-true, ltb-false, leb-true, leb-false}
 use Rattle.zones.specs.declared.Part.{Part}
 use Rattle.zones.specs.declared.offsets.Governing.{Governing}
 use Rattle.zones.specs.Parts.{GoodPart}
 use Rattle.zones.specs.Onsets.{IsOnset, LatestFound, latest_onset}
-use Rattle.zones.specs.Offsets.{offset_after, OpeningPart, GoverningFound, IsOffset, after, before, IsUtcClock}
+use Rattle.zones.specs.Offsets.{OpeningPart, GoverningFound, IsOffset, after, before, IsUtcClock}
 use Rattle.zones.specs.Offsets.{later_onset, governing, earlier_part, opening_part, offset_by, offset_of, utc_clock}
 use Rattle.zones.proofs.OnsetsLaws.{latest_is}
-use Rattle.zones.proofs.OffsetsLaws.{none_yet, pass_none, pass_lower, pass_taken, open_first, open_keep, open_take, one_offset, offset_small, offset_same}
+use Rattle.zones.proofs.OffsetsLaws.{nothing_else, one_clock, none_yet, pass_none, pass_lower, pass_taken, open_first, open_keep, open_take, one_offset, offset_small, offset_same}
 
 -- ---- part by part
 
 module _ (at : ℕ → Part) (w : ℕ) where
-  next : (k : ℕ) (g : Governing) (r : Sought) → GoverningFound at k w g → LatestFound (IsOnset (at k)) w r → GoverningFound at (suc k) w (later_onset k r g)
-  next k g Sought.Nothing x l = rw add-one at (pass_none at k w g (at k) Sought.Nothing x refl l refl)
-  next k g (Sought.At t) x l = rw add-one at (go (g.some && ltb t g.clock) refl)
+  next : (k : ℕ) (g : Option Governing) (r : Option ℕ) → GoverningFound at k w g → LatestFound (IsOnset (at k)) w r → GoverningFound at (suc k) w (later_onset k r g)
+  next k g None x l = rw add-one at (pass_none at k w g (at k) None x refl l refl)
+  next k None (Some t) x l = rw add-one at (pass_taken at k w None (at k) (Some t) x refl l t refl (λ c s. nothing_else s))
+  next k (Some g) (Some t) x l = rw add-one at (go (ltb t g.clock) refl)
     where
-      go : (b : Bool) → (g.some && ltb t g.clock) ≡ b → GoverningFound at (k + 1) w (cond b g (record { some = true; part = k; clock = t }))
-      go true e = pass_lower at k w g (at k) (Sought.At t) x refl l t refl e
-      go false e = pass_taken at k w g (at k) (Sought.At t) x refl l t refl e
+      go : (b : Bool) → ltb t g.clock ≡ b → GoverningFound at (k + 1) w (cond b (Some g) (Some (record { part = k; clock = t })))
+      go true e = pass_lower at k w (Some g) (at k) (Some t) x refl l t refl g refl (ltb-true t g.clock e)
+      go false e =
+          pass_taken at k w (Some g) (at k) (Some t) x refl l t refl
+          (one_clock refl (ltb-false t g.clock e))
 
   governing_is : (n : ℕ) → ((i : ℕ) → i < n → GoodPart (at i)) → GoverningFound at n w (governing at w n)
   unfolding governing
@@ -57,13 +60,9 @@ unfolding offset_of
 offset_is at zero w h g = absurd (omega arith)
 offset_is at (suc n) w h g = go (governing at w (suc n)) (governing_is at w (suc n) g)
   where
-    by : (q : Governing) (t : Bool) → q.some ≡ t → GoverningFound at (suc n) w q
-        → IsOffset at (suc n) w (cond t (offset_after (at q.part) w q.clock) (at (opening_part at (suc n))).from)
-    by q true e x = after q.part q.clock (x.found e) refl
-    by q false e x = before (opening_part at (suc n)) _ (x.none e) (opening_is at n) refl
-
-    go : (q : Governing) → GoverningFound at (suc n) w q → IsOffset at (suc n) w (offset_by at w (opening_part at (suc n)) q)
-    go q x = by q _ refl x
+    go : (q : Option Governing) → GoverningFound at (suc n) w q → IsOffset at (suc n) w (offset_by at w (opening_part at (suc n)) q)
+    go (Some g) x = after g.part g.clock (x.found g refl) refl
+    go None x = before (opening_part at (suc n)) _ (x.none refl) (opening_is at n) refl
 
 module _ (at : ℕ → Part) (n w : ℕ) (h : 1 ≤ n) (g : (i : ℕ) → i < n → GoodPart (at i)) where
   -- what is computed is the offset, and nothing else is

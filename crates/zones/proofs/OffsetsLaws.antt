@@ -1,13 +1,12 @@
 -- Laws of offsets: the governing and the earliest onset found part by part, and that a clock has one offset.
+use Rattle.std.specs.Prelude.{None, Option, Some}
 use Prim.Native.Nat.{ℕ, ◌+◌, ◌-◌, ◌≤◌, ◌<◌}
-use mathlib.Core.Path.{◌≡◌, refl, sym, ◌∙◌}
-use mathlib.Core.Bool.{Bool, true, false, cond, ◌&&◌}
+use mathlib.Core.Path.{◌≡◌, refl, sym, subst, ◌∙◌}
+use mathlib.Core.Bool.{Bool, true, false, cond}
 use native.Mathlib.Omega.{arith}
 use native.Mathlib.Decide.{dec_lt}
 use lib.Dec.{ltb}
-use borrow.Author.Tests.{ltb-true, ltb-false, lt-ltb, le-ltb}
-use Rattle.ascii.proofs.Bools.{and_left, and_right, clash}
-use Rattle.zones.specs.declared.Sought.{Sought}
+use borrow.Author.Tests.{lt-ltb, le-ltb}
 use Rattle.zones.specs.declared.Part.{Part}
 use Rattle.zones.specs.declared.offsets.Governing.{Governing}
 use Rattle.zones.specs.Parts.{GoodPart}
@@ -26,8 +25,15 @@ upto at k Q f g j u l x = go (dec_lt j k)
 
 -- ---- the governing onset, one part more
 
-pub none_yet : (at : ℕ → Part) (w : ℕ) → GoverningFound at 0 w (record { some = false; part = 0; clock = 0 })
-none_yet at w = record { found = λ s. clash s refl; none = λ s j u h. absurd (omega arith) }
+pub nothing_else : {A B : Type 0} {x : B} → None ≡ Some x → A
+nothing_else e = let z : ◌≡◌ {A = ℕ} 0 1 = cc in absurd (omega arith)
+
+-- of the governing onset that is there, its clock is not past t
+pub one_clock : {r : Option Governing} {g : Governing} {t : ℕ} → r ≡ Some g → g.clock ≤ t → (c : Governing) → r ≡ Some c → c.clock ≤ t
+one_clock {r} {g} {t} p h c s = let z : g ≡ c = cc in subst (λ (a : Governing). a.clock ≤ t) z h
+
+pub none_yet : (at : ℕ → Part) (w : ℕ) → GoverningFound at 0 w None
+none_yet at w = record { found = λ y s. nothing_else s; none = λ s j u h. absurd (omega arith) }
 
 module _ (at : ℕ → Part) (k w : ℕ) where
   wider : (i t : ℕ) → Governs at k w i t → ((u : ℕ) → IsOnset (at k) u → u ≤ w → u < t) → Governs at (k + 1) w i t
@@ -41,47 +47,51 @@ module _ (at : ℕ → Part) (k w : ℕ) where
             upto at k (λ j u. u ≡ t → j ≤ i) (λ j u h y e. x.last j h (rw e at y)) (λ u y e. omega (arith, f u y (omega (arith, x.reached)))) j t l o refl;
       }
 
-  module _ (g : Governing) (p : Part) (r : Sought) (x : GoverningFound at k w g) (e : p ≡ at k) (l : LatestFound (IsOnset p) w r) where
+  module _ (g : Option Governing) (p : Part) (r : Option ℕ) (x : GoverningFound at k w g) (e : p ≡ at k) (l : LatestFound (IsOnset p) w r) where
     here : LatestFound (IsOnset (at k)) w r
     here = rw e at l
 
     -- a part that is not reached, or whose latest onset is earlier, changes nothing
-    pub pass_none : r ≡ Sought.Nothing → GoverningFound at (k + 1) w g
+    pub pass_none : r ≡ None → GoverningFound at (k + 1) w g
     pass_none q =
         record {
-          found = λ s. wider g.part g.clock (x.found s) (λ u o h. absurd (here.none q u o h));
+          found = λ y s. wider y.part y.clock (x.found y s) (λ u o h. absurd (here.none q u o h));
           none = λ s. upto at k (λ j u. u ≤ w → ⊥) (x.none s) (here.none q);
         }
 
-    pub pass_lower : (t : ℕ) → r ≡ Sought.At t → (g.some && ltb t g.clock) ≡ true → GoverningFound at (k + 1) w g
-    pass_lower t q b =
-        let lower : t < g.clock = ltb-true _ _ (and_right g.some (ltb t g.clock) b) in
+    pub pass_lower : (t : ℕ) → r ≡ Some t → (c : Governing) → g ≡ Some c → t < c.clock → GoverningFound at (k + 1) w g
+    pass_lower t q c b lower =
         record {
-          found = λ s. wider g.part g.clock (x.found s) (λ u o h. omega (arith, (here.found t q).greatest u o h));
-          none = λ s. clash (and_left g.some (ltb t g.clock) b) s;
+          found = λ y s.
+              let z : c ≡ y = cc in
+              wider y.part y.clock (x.found y s) (λ u o h. omega (arith, (here.found t q).greatest u o h, subst (λ (a : Governing). t < a.clock) z lower));
+          none = λ s. nothing_else (sym s ∙ b);
         }
 
     -- any other takes over
-    pub pass_taken : (t : ℕ) → r ≡ Sought.At t → (g.some && ltb t g.clock) ≡ false
-        → GoverningFound at (k + 1) w (record { some = true; part = k; clock = t })
+    pub pass_taken : (t : ℕ) → r ≡ Some t → ((c : Governing) → g ≡ Some c → c.clock ≤ t)
+        → GoverningFound at (k + 1) w (Some (record { part = k; clock = t }))
     pass_taken t q b =
         record {
-          found = λ s.
-              record {
-                listed = omega arith;
-                is_onset = (here.found t q).is_one;
-                reached = (here.found t q).reached;
-                greatest = upto at k (λ j u. u ≤ w → u ≤ t) (λ j u h o m. go g.some refl b j u h o m) (here.found t q).greatest;
-                last = λ j h o. omega arith;
-              };
-          none = λ s. clash refl s;
+          found = λ y s. let z : record { part = k; clock = t } ≡ y = cc in subst (λ (a : Governing). Governs at (k + 1) w a.part a.clock) z taken;
+          none = λ s. nothing_else (sym s);
         }
       where
-        go : (a : Bool) → g.some ≡ a → (a && ltb t g.clock) ≡ false → (j u : ℕ) → j < k → IsOnset (at j) u → u ≤ w → u ≤ t
-        go true f c j u h o m = omega (arith, ltb-false t g.clock c, (x.found f).greatest j u h o m)
-        go false f c j u h o m = absurd (x.none f j u h o m)
+        go : (a : Option Governing) → g ≡ a → (j u : ℕ) → j < k → IsOnset (at j) u → u ≤ w → u ≤ t
+        go (Some c) f j u h o m = omega (arith, b c f, (x.found c f).greatest j u h o m)
+        go None f j u h o m = absurd (x.none f j u h o m)
 
-pub found_done : (at : ℕ → Part) (i n w : ℕ) (g : Governing) → i ≤ n → n ≤ i → GoverningFound at i w g → GoverningFound at n w g
+        taken : Governs at (k + 1) w k t
+        taken =
+            record {
+              listed = omega arith;
+              is_onset = (here.found t q).is_one;
+              reached = (here.found t q).reached;
+              greatest = upto at k (λ j u. u ≤ w → u ≤ t) (λ j u h o m. go g refl j u h o m) (here.found t q).greatest;
+              last = λ j h o. omega arith;
+            }
+
+pub found_done : (at : ℕ → Part) (i n w : ℕ) (g : Option Governing) → i ≤ n → n ≤ i → GoverningFound at i w g → GoverningFound at n w g
 found_done at i n w g h k x = let e : i ≡ n = omega arith in rw e at x
 
 -- ---- the earliest onset, one part more
@@ -123,16 +133,16 @@ open_done at i n b t h k f x = let e : i ≡ n = omega arith in rw (e, f) at x
 
 -- ---- the offset, by each way out
 
-module _ (at : ℕ → Part) (n w : ℕ) (g : Governing) (x : GoverningFound at n w g) (p : Part) where
-  pub by_from_holds : g.some ≡ true → p ≡ at g.part → w - g.clock + p.from < p.to → IsOffset at n w p.from
+module _ (at : ℕ → Part) (n w : ℕ) (r : Option Governing) (x : GoverningFound at n w r) (p : Part) where
+  pub by_from_holds : (g : Governing) → r ≡ Some g → p ≡ at g.part → w - g.clock + p.from < p.to → IsOffset at n w p.from
   unfolding offset_after
-  by_from_holds s e h = after g.part g.clock (x.found s) (rw (← e, lt-ltb (w - g.clock + p.from) p.to h))
+  by_from_holds g s e h = after g.part g.clock (x.found g s) (rw (← e, lt-ltb (w - g.clock + p.from) p.to h))
 
-  pub by_to_holds : g.some ≡ true → p ≡ at g.part → p.to ≤ w - g.clock + p.from → IsOffset at n w p.to
+  pub by_to_holds : (g : Governing) → r ≡ Some g → p ≡ at g.part → p.to ≤ w - g.clock + p.from → IsOffset at n w p.to
   unfolding offset_after
-  by_to_holds s e h = after g.part g.clock (x.found s) (rw (← e, le-ltb (w - g.clock + p.from) p.to h))
+  by_to_holds g s e h = after g.part g.clock (x.found g s) (rw (← e, le-ltb (w - g.clock + p.from) p.to h))
 
-  pub by_opening : g.some ≡ false → (i : ℕ) → OpeningPart at n i → p ≡ at i → IsOffset at n w p.from
+  pub by_opening : r ≡ None → (i : ℕ) → OpeningPart at n i → p ≡ at i → IsOffset at n w p.from
   by_opening s i o e = before i (at i).start (x.none s) o (rw e)
 
 -- ---- a clock has one offset

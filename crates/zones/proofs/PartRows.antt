@@ -7,9 +7,10 @@ use mir.Val.{bool_byte}
 use native.Mathlib.Omega.{arith}
 use native.Mathlib.Nat.{add-zero, zero-add}
 use lib.Dec.{eqb, ltb}
-use lib.ListN.{get_or}
+use lib.ListN.{length, get_or}
+use borrow.Rule.Slice.PartMut.{put_mid}
+use Rattle.std.proofs.lemmas.List.{places}
 use borrow.Author.Tests.{ltb-true, ltb-false}
-use Rattle.ascii.proofs.Rows.{Putting, putting_all}
 use Rattle.zones.specs.declared.Part.{Part}
 use Rattle.zones.specs.Offsets.{Opens}
 use Rattle.zones.specs.PartRows.{part_row, part_at, PartPut, parts_from}
@@ -17,9 +18,16 @@ use Rattle.zones.proofs.OffsetsLaws.{open_first}
 
 -- ---- writing a row
 
--- the whole row stands at its place
-pub putting_end : {old : List ℕ} {i : ℕ} {row new : List ℕ} {x : ℕ} → Putting old 8 (8 * i) row new x → 8 ≤ x → PartPut old i row new
-putting_end g h = record { here = putting_all g h; before = g.before; behind = g.behind }
+-- the numbers of row i become these eight
+pub part_copied : {old new : List ℕ} {k : ℕ} (row : List ℕ) (i : ℕ) → k ≡ 8 → new ≡ row → length row ≡ 8 → 8 * i + 8 ≤ length old
+    → PartPut old i row (put_mid (8 * i) k old new)
+part_copied {old} {new} {k} row i e f l h =
+    rw f
+    (record {
+      here = λ x m. grind (arith, places);
+      before = λ x m. grind (arith, places);
+      behind = λ x m. grind (arith, places);
+    })
 
 -- a bool cast to a number is 1 or 0
 bit : (b : Bool) → bool_byte b ≡ cond b 1 0
@@ -58,16 +66,13 @@ part_back p = rw (bit_back p.back) refl
 pub part_put : {old new : List ℕ} {i : ℕ} (p : Part) → PartPut old i (part_row p) new → part_at new i ≡ p
 part_put {old} {new} {i} p w = part_same new i (part_row p) 0 (λ x h. rw (zero-add x) (w.here x h)) ∙ part_back p
 
-apart : (j k : ℕ) → k ≤ j → (j ≡ k → ⊥) → k < j
-apart j k h d = omega arith
-
 row_kept : {old row new : List ℕ} {k : ℕ} (j : ℕ) → PartPut old k row new → (j ≡ k → ⊥) → SameRow new j old j
 row_kept {old} {row} {new} {k} j w d x h = go (ltb j k) refl
   where
     go : (t : Bool) → ltb j k ≡ t → get_or new (8 * j + x) 0 ≡ get_or old (8 * j + x) 0
     go true q = w.before (8 * j + x) (omega (arith, ltb-true))
     go false q =
-        let z : k < j = apart j k (ltb-false j k q) d in
+        let z : k ≤ j = ltb-false j k q in
         w.behind (8 * j + x) (omega arith)
 
 pub part_kept : {old row new : List ℕ} {i : ℕ} (j : ℕ) → PartPut old i row new → (j ≡ i → ⊥) → part_at new j ≡ part_at old j

@@ -1,4 +1,5 @@
 -- Laws of rule days and their years: which years a day can lie in, that a rule's day lies in its year, and that later years have later days.
+use Rattle.std.specs.Prelude.{Option, Some}
 use Prim.Native.Nat.{ℕ, zero, suc, ◌+◌, ◌-◌, ◌*◌, ◌/◌, ◌≤◌, ◌<◌}
 use mathlib.Core.Path.{◌≡◌, refl}
 use mathlib.Core.Bool.{Bool, true, false}
@@ -9,7 +10,6 @@ use Rattle.time.specs.Days.{days_before_year, days_before_month, month_days, yea
 use Rattle.time.proofs.DaysLaws.{sum_direct, days_before_year_small, days_before_month_small, month_days_small}
 use Rattle.time.proofs.Below.{below}
 use Rattle.zones.specs.declared.Part.{Part}
-use Rattle.zones.specs.declared.Sought.{Sought}
 use Rattle.zones.specs.Parts.{Exactly}
 use Rattle.zones.specs.RuleDays.{RuleDay}
 
@@ -57,7 +57,7 @@ day_over p y d h x = omega (arith, x.not_past, next_year y, month_in_year y p.mo
 pub day_order : (p : Part) (y z d e : ℕ) → p.month ≤ 12 → RuleDay p y d → RuleDay p z e → y < z → d < e
 day_order p y z d e h x x' l = omega (arith, day_over p y d h x, day_begun p z e x', years_rise (suc y) z (omega arith))
 
-pub day_small : (p : Part) (y : ℕ) (r : Sought) (d : ℕ) → Exactly (RuleDay p y) r → r ≡ Sought.At d → y ≤ 9999 → p.month ≤ 12 → d ≤ 4000000
+pub day_small : (p : Part) (y : ℕ) (r : Option ℕ) (d : ℕ) → Exactly (RuleDay p y) r → r ≡ Some d → y ≤ 9999 → p.month ≤ 12 → d ≤ 4000000
 day_small p y r d q e b m =
     omega (arith, (q.is_so d e).not_past, days_before_year_small y b, days_before_month_small y p.month m, month_days_small y p.month m)
 

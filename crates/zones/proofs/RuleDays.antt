@@ -1,4 +1,5 @@
 -- Laws of rule days: weekdays counted are weekdays found by a division.
+use Rattle.std.specs.Prelude.{None, Option, Some}
 use Prim.Native.Nat.{ℕ, zero, suc, ◌+◌, ◌-◌, ◌*◌, ◌/◌, ◌%◌, ◌≤◌, ◌<◌}
 use mathlib.Core.Path.{◌≡◌, refl, ◌∙◌}
 use mathlib.Core.Bool.{Bool, true, false, cond}
@@ -6,7 +7,6 @@ use native.Mathlib.Omega.{arith}
 use lib.Dec.{eqb, ltb}
 use borrow.Author.Tests.{eqb-true, eqb-false, ltb-true, ltb-false}
 use Rattle.time.specs.Days.{days_before_year, days_before_month, month_days}
-use Rattle.zones.specs.declared.Sought.{Sought}
 use Rattle.zones.specs.declared.Part.{Part}
 use Rattle.zones.specs.Parts.{GoodPart, Exactly}
 use Rattle.zones.specs.RuleDays.{weekday_of, weekdays_in, NthWeekday, RuleDay, days_ahead, days_behind, nth_weekday, rule_day}
@@ -78,20 +78,20 @@ behind_alone s n w k d x =
 -- ---- the ways out
 
 module _ (s n w k : ℕ) (back : Bool) (h : w ≤ 6) where
-  pub ahead_found : back ≡ false → days_ahead s w k < n → Exactly (NthWeekday s n w k back) (Sought.At (s + days_ahead s w k))
+  pub ahead_found : back ≡ false → days_ahead s w k < n → Exactly (NthWeekday s n w k back) (Some (s + days_ahead s w k))
   ahead_found e l = rw e (exactly_at _ (ahead_is s n w k _ h refl l) (ahead_alone s n w k))
 
-  pub ahead_none : back ≡ false → n ≤ days_ahead s w k → Exactly (NthWeekday s n w k back) Sought.Nothing
+  pub ahead_none : back ≡ false → n ≤ days_ahead s w k → Exactly (NthWeekday s n w k back) None
   ahead_none e l = rw e (exactly_nothing (λ d x. omega (arith, ahead_alone s n w k d x, x.not_past)))
 
-  pub behind_found : back ≡ true → days_behind s n w k < n → Exactly (NthWeekday s n w k back) (Sought.At (s + n - 1 - days_behind s n w k))
+  pub behind_found : back ≡ true → days_behind s n w k < n → Exactly (NthWeekday s n w k back) (Some (s + n - 1 - days_behind s n w k))
   behind_found e l = rw e (exactly_at _ (behind_is s n w k _ h refl l) (λ d x. omega (arith, behind_alone s n w k d x)))
 
-  pub behind_none : back ≡ true → n ≤ days_behind s n w k → Exactly (NthWeekday s n w k back) Sought.Nothing
+  pub behind_none : back ≡ true → n ≤ days_behind s n w k → Exactly (NthWeekday s n w k back) None
   behind_none e l = rw e (exactly_nothing (λ d x. omega (arith, behind_alone s n w k d x, x.not_before)))
 
 -- the month's days, as the code has them
-pub rule_day_by : (p : Part) (y a b n : ℕ) (r : Sought) → a ≡ days_before_year y → b ≡ days_before_month y p.month → n ≡ month_days y p.month
+pub rule_day_by : (p : Part) (y a b n : ℕ) (r : Option ℕ) → a ≡ days_before_year y → b ≡ days_before_month y p.month → n ≡ month_days y p.month
     → Exactly (NthWeekday (a + b) n p.weekday p.others p.back) r → Exactly (RuleDay p y) r
 rule_day_by p y a b n r e f g x = rw (e, f, g) at x
 
@@ -102,12 +102,12 @@ unfolding nth_weekday
 nth_is s n w k true h = go (ltb (days_behind s n w k) n) refl
   where
     go : (t : Bool) → ltb (days_behind s n w k) n ≡ t
-        → Exactly (NthWeekday s n w k true) (cond t (Sought.At (s + n - 1 - days_behind s n w k)) Sought.Nothing)
+        → Exactly (NthWeekday s n w k true) (cond t (Some (s + n - 1 - days_behind s n w k)) None)
     go true e = behind_found s n w k true h refl (ltb-true (days_behind s n w k) n e)
     go false e = behind_none s n w k true h refl (ltb-false (days_behind s n w k) n e)
 nth_is s n w k false h = go (ltb (days_ahead s w k) n) refl
   where
-    go : (t : Bool) → ltb (days_ahead s w k) n ≡ t → Exactly (NthWeekday s n w k false) (cond t (Sought.At (s + days_ahead s w k)) Sought.Nothing)
+    go : (t : Bool) → ltb (days_ahead s w k) n ≡ t → Exactly (NthWeekday s n w k false) (cond t (Some (s + days_ahead s w k)) None)
     go true e = ahead_found s n w k false h refl (ltb-true (days_ahead s w k) n e)
     go false e = ahead_none s n w k false h refl (ltb-false (days_ahead s w k) n e)
 

@@ -1,7 +1,6 @@
 -- The offset of a wall clock in a zone (R-5), and its UTC time. A zone is n parts in the order of the file, `at i` for each i below n.
 -- Offsets have a day added, as those of the parts have.
-use Rattle.std.specs.Prelude.{ℕ, zero, suc, ◌+◌, ◌-◌, ◌≤◌, ◌<◌, ◌≡◌, true, false, cond, ◌&&◌, ltb, leb}
-use Rattle.zones.specs.declared.Sought.{Sought}
+use Rattle.std.specs.Prelude.{ℕ, zero, suc, ◌+◌, ◌-◌, ◌≤◌, ◌<◌, ◌≡◌, cond, ltb, leb, None, Option, Some}
 use Rattle.zones.specs.declared.Part.{Part}
 use Rattle.zones.specs.declared.offsets.Governing.{Governing}
 use Rattle.zones.specs.Onsets.{IsOnset, latest_onset}
@@ -44,9 +43,9 @@ pub record IsUtcClock (at : ℕ → Part) (n w u : ℕ) : Type 0 where
 
 -- ---- what the functions answer
 
-pub record GoverningFound (at : ℕ → Part) (n w : ℕ) (g : Governing) : Type 0 where
-  pub found : g.some ≡ true → Governs at n w g.part g.clock
-  pub none : g.some ≡ false → BeforeAny at n w
+pub record GoverningFound (at : ℕ → Part) (n w : ℕ) (r : Option Governing) : Type 0 where
+  pub found : (g : Governing) → r ≡ Some g → Governs at n w g.part g.clock
+  pub none : r ≡ None → BeforeAny at n w
 
 -- a part's earliest onset is its DTSTART
 abbrev pub OpeningPart : (ℕ → Part) → ℕ → ℕ → Type 0
@@ -54,12 +53,13 @@ OpeningPart at n i = Opens at n i (at i).start
 
 -- ---- computed, part by part
 
-abbrev pub later_onset : ℕ → Sought → Governing → Governing
-later_onset k Sought.Nothing g = g
-later_onset k (Sought.At t) g = cond (g.some && ltb t g.clock) g (record { some = true; part = k; clock = t })
+abbrev pub later_onset : ℕ → Option ℕ → Option Governing → Option Governing
+later_onset k None g = g
+later_onset k (Some t) None = Some (record { part = k; clock = t })
+later_onset k (Some t) (Some g) = cond (ltb t g.clock) (Some g) (Some (record { part = k; clock = t }))
 
-unfoldable pub governing : (ℕ → Part) → ℕ → ℕ → Governing
-governing at w zero = record { some = false; part = 0; clock = 0 }
+unfoldable pub governing : (ℕ → Part) → ℕ → ℕ → Option Governing
+governing at w zero = None
 governing at w (suc k) = later_onset k (latest_onset (at k) w) (governing at w k)
 
 abbrev pub earlier_part : (ℕ → Part) → ℕ → ℕ → ℕ
@@ -69,8 +69,9 @@ unfoldable pub opening_part : (ℕ → Part) → ℕ → ℕ
 opening_part at zero = 0
 opening_part at (suc k) = earlier_part at k (opening_part at k)
 
-abbrev pub offset_by : (ℕ → Part) → ℕ → ℕ → Governing → ℕ
-offset_by at w opening g = cond g.some (offset_after (at g.part) w g.clock) (at opening).from
+abbrev pub offset_by : (ℕ → Part) → ℕ → ℕ → Option Governing → ℕ
+offset_by at w opening (Some g) = offset_after (at g.part) w g.clock
+offset_by at w opening None = (at opening).from
 
 unfoldable pub offset_of : (ℕ → Part) → ℕ → ℕ → ℕ
 offset_of at n w = offset_by at w (opening_part at n) (governing at w n)

@@ -1,6 +1,5 @@
 -- What holds of every part of a zone that was read (R-5), and what it is to have found the one that was looked for.
-use Rattle.std.specs.Prelude.{ℕ, ◌≤◌, ◌<◌, ◌≡◌}
-use Rattle.zones.specs.declared.Sought.{Sought}
+use Rattle.std.specs.Prelude.{ℕ, ◌≤◌, ◌<◌, ◌≡◌, Option, Some}
 use Rattle.zones.specs.declared.Part.{Part}
 
 -- the seconds of ten thousand years: every clock with a year of four digits comes before
@@ -19,6 +18,6 @@ pub record GoodPart (p : Part) : Type 0 where
   pub to_good : p.to ≤ 172799
 
 -- what was found has the property and nothing else has it; where nothing was found, nothing has it
-pub record Exactly (P : ℕ → Type 0) (r : Sought) : Type 0 where
-  pub is_so : (d : ℕ) → r ≡ Sought.At d → P d
-  pub no_other : (d : ℕ) → P d → r ≡ Sought.At d
+pub record Exactly (P : ℕ → Type 0) (r : Option ℕ) : Type 0 where
+  pub is_so : (d : ℕ) → r ≡ Some d → P d
+  pub no_other : (d : ℕ) → P d → r ≡ Some d

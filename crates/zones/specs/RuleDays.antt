@@ -1,7 +1,6 @@
 -- The day of a part's yearly rule (R-5): the n-th of a weekday in a month, by counting, and by division.
-use Rattle.std.specs.Prelude.{ℕ, zero, suc, ◌+◌, ◌-◌, ◌*◌, ◌%◌, ◌≤◌, ◌<◌, ◌≡◌, Bool, true, false, cond, eqb, ltb}
+use Rattle.std.specs.Prelude.{ℕ, zero, suc, ◌+◌, ◌-◌, ◌*◌, ◌%◌, ◌≤◌, ◌<◌, ◌≡◌, Bool, true, false, cond, eqb, ltb, None, Option, Some}
 use Rattle.time.specs.Days.{days_before_year, days_before_month, month_days}
-use Rattle.zones.specs.declared.Sought.{Sought}
 use Rattle.zones.specs.declared.Part.{Part}
 
 -- ---- for the reader
@@ -35,9 +34,9 @@ days_ahead s w k = (w + 7 - (s + 6) % 7) % 7 + 7 * k
 abbrev pub days_behind : ℕ → ℕ → ℕ → ℕ → ℕ
 days_behind s n w k = ((s + n + 5) % 7 + 7 - w) % 7 + 7 * k
 
-unfoldable pub nth_weekday : ℕ → ℕ → ℕ → ℕ → Bool → Sought
-nth_weekday s n w k true = cond (ltb (days_behind s n w k) n) (Sought.At (s + n - 1 - days_behind s n w k)) Sought.Nothing
-nth_weekday s n w k false = cond (ltb (days_ahead s w k) n) (Sought.At (s + days_ahead s w k)) Sought.Nothing
+unfoldable pub nth_weekday : ℕ → ℕ → ℕ → ℕ → Bool → Option ℕ
+nth_weekday s n w k true = cond (ltb (days_behind s n w k) n) (Some (s + n - 1 - days_behind s n w k)) None
+nth_weekday s n w k false = cond (ltb (days_ahead s w k) n) (Some (s + days_ahead s w k)) None
 
-unfoldable pub rule_day : Part → ℕ → Sought
+unfoldable pub rule_day : Part → ℕ → Option ℕ
 rule_day p y = nth_weekday (days_before_year y + days_before_month y p.month) (month_days y p.month) p.weekday p.others p.back

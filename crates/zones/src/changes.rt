@@ -7,9 +7,10 @@ ghost use Rattle.zones.specs.Onsets.{RuledOnset, IsOnset};
 ghost use Rattle.zones.specs.PartRows.{parts_from, ZoneRows};
 ghost use Rattle.zones.specs.Changes.{NoneUntil, QuietUntil, StaysAfter, SteadyUntil};
 
-use crate::{Part, Sought, Steady, offsets, rows, rule_days};
+use crate::{Part, Steady, offsets, rows, rule_days};
 
-// Where the clocks with a year of four digits end.
+// Where the clocks with a year of four digits end. A next onset that there is none of is this clock: what NoneUntil and QuietUntil promise up to it
+// holds, and the least of all parts needs no case for none, as it would with an Option.
 const CLOCK_END: u64 = 315569520000;
 
 // A year that has begun by the day: that of the day, or one before it.
@@ -30,20 +31,11 @@ fn next_by_rule(p: Part, w: u64) -> u64
     ensures { NoneUntil (RuledOnset p) w result }
 {
     let time = p.start % 86400;
-    let mut y = begun_year(w / 86400);
-    while y < 10000 {
-        let k = y + 1;
-        let found = rule_days::rule_day(p, y);
-        match found {
-            Sought::At(d) => {
-                let t = d * 86400 + time;
-                if w < t {
-                    return t;
-                }
-                y = k;
-            }
-            Sought::Nothing => {
-                y = k;
+    for y in begun_year(w / 86400)..10000 {
+        if let Some(d) = rule_days::rule_day(p, y) {
+            let t = d * 86400 + time;
+            if w < t {
+                return t;
             }
         }
     }
@@ -72,16 +64,10 @@ fn next_change(parts: &[u64], first: usize, n: usize, w: u64) -> u64
     ensures { QuietUntil (parts_from parts.now first) n w result }
 {
     let mut least = CLOCK_END;
-    let mut i = 0;
-    while i < n {
-        let k = i + 1;
-        let p = rows::part_at(parts, first + i);
-        let t = next_onset(p, w);
+    for i in 0..n {
+        let t = next_onset(rows::part_at(parts, first + i), w);
         if t < least {
             least = t;
-            i = k;
-        } else {
-            i = k;
         }
     }
     least
@@ -120,10 +106,8 @@ pub fn steady(parts: &[u64], first: usize, n: usize, w: u64) -> Steady
     ensures { SteadyUntil (parts_from parts.now first) n w result }
 {
     let next = next_change(parts, first, n, w);
-    let g = offsets::find_governing(parts, first, n, w);
-    let which = g.part;
-    if g.some {
-        let p = rows::part_at(parts, first + which);
+    if let Some(g) = offsets::find_governing(parts, first, n, w) {
+        let p = rows::part_at(parts, first + g.part);
         return steady_after(p, g.clock, w, next);
     }
     let opening = offsets::find_opening(parts, first, n);

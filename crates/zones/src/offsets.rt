@@ -5,51 +5,34 @@ ghost use Rattle.zones.specs.Parts.{clock_end};
 ghost use Rattle.zones.specs.PartRows.{parts_from, ZoneRows};
 ghost use Rattle.zones.specs.Offsets.{GoverningFound, OpeningPart, IsOffset, utc_clock};
 
-use crate::{Sought, onsets, rows};
+use crate::{onsets, rows};
 
-// The onset that governs a clock, if there is one: which part of the zone has it, and when it is.
+// The onset that governs a clock: which part of the zone has it, and when it is.
 #[derive(Clone, Copy)]
 pub struct Governing {
-    pub some: bool,
     pub part: usize,
     pub clock: u64,
 }
 
-// The governing onset. An equal one of a later part takes its place.
-pub fn find_governing(parts: &[u64], first: usize, n: usize, w: u64) -> Governing
+// The governing onset, if there is one. An equal one of a later part takes its place.
+pub fn find_governing(parts: &[u64], first: usize, n: usize, w: u64) -> Option<Governing>
     requires zone_rows { ZoneRows parts.now first n }
     requires w_lt_clock_end { w < clock_end }
     ensures { GoverningFound (parts_from parts.now first) n w result }
 {
-    let mut g = Governing {
-        some: false,
-        part: 0,
-        clock: 0,
-    };
-    let mut i = 0;
-    while i < n {
-        let k = i + 1;
+    let mut governing: Option<Governing> = None;
+    for i in 0..n {
         let p = rows::part_at(parts, first + i);
-        let found = onsets::latest_onset(p, w);
-        match found {
-            Sought::At(t) => {
-                if g.some & (t < g.clock) {
-                    i = k;
-                } else {
-                    g = Governing {
-                        some: true,
-                        part: i,
-                        clock: t,
-                    };
-                    i = k;
+        if let Some(t) = onsets::latest_onset(p, w) {
+            if let Some(g) = governing {
+                if t < g.clock {
+                    continue;
                 }
             }
-            Sought::Nothing => {
-                i = k;
-            }
+            governing = Some(Governing { part: i, clock: t });
         }
     }
-    g
+    governing
 }
 
 // The part with the earliest onset, of equal ones the last. A part's earliest is its DTSTART.
@@ -59,16 +42,11 @@ pub fn find_opening(parts: &[u64], first: usize, n: usize) -> usize
 {
     let mut best = 0;
     let mut least = parts[8 * first];
-    let mut i = 1;
-    while i < n {
-        let k = i + 1;
+    for i in 1..n {
         let t = parts[8 * (first + i)];
         if t <= least {
             best = i;
             least = t;
-            i = k;
-        } else {
-            i = k;
         }
     }
     best
@@ -80,10 +58,8 @@ pub fn offset_at(parts: &[u64], first: usize, n: usize, w: u64) -> u64
     requires w_lt_clock_end { w < clock_end }
     ensures { IsOffset (parts_from parts.now first) n w result }
 {
-    let g = find_governing(parts, first, n, w);
-    let which = g.part;
-    if g.some {
-        let p = rows::part_at(parts, first + which);
+    if let Some(g) = find_governing(parts, first, n, w) {
+        let p = rows::part_at(parts, first + g.part);
         if w - g.clock + p.from < p.to {
             return p.from;
         }

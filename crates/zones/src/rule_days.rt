@@ -4,11 +4,11 @@ ghost use Rattle.std.specs.Prelude.{◌≤◌};
 ghost use Rattle.zones.specs.Parts.{GoodPart, Exactly};
 ghost use Rattle.zones.specs.RuleDays.{NthWeekday, RuleDay};
 
-use crate::{Part, Sought};
+use crate::Part;
 use time::days;
 
 // Of the n days from the day s on, that of the weekday with so many others of it before it, or behind it.
-fn nth_weekday(s: u64, n: u64, weekday: u64, others: u64, back: bool) -> Sought
+fn nth_weekday(s: u64, n: u64, weekday: u64, others: u64, back: bool) -> Option<u64>
     requires s_bound { s ≤ 4000000 }
     requires n_bound { n ≤ 31 }
     requires weekday_bound { weekday ≤ 6 }
@@ -18,19 +18,19 @@ fn nth_weekday(s: u64, n: u64, weekday: u64, others: u64, back: bool) -> Sought
     if back {
         let off = ((s + n + 5) % 7 + 7 - weekday) % 7 + 7 * others;
         if off < n {
-            return Sought::At(s + n - 1 - off);
+            return Some(s + n - 1 - off);
         }
-        return Sought::Nothing;
+        return None;
     }
     let off = (weekday + 7 - (s + 6) % 7) % 7 + 7 * others;
     if off < n {
-        return Sought::At(s + off);
+        return Some(s + off);
     }
-    Sought::Nothing
+    None
 }
 
 // The day of the part's rule in the year y, where that year has it.
-pub fn rule_day(p: Part, y: u64) -> Sought
+pub fn rule_day(p: Part, y: u64) -> Option<u64>
     requires good_part { GoodPart p }
     requires y_bound { y ≤ 9999 }
     ensures { Exactly (RuleDay p y) result }

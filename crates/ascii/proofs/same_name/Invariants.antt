@@ -1,11 +1,7 @@
 use mathlib.Core.Path.{◌≡◌}
 use Rattle.ascii.specs.Names.{same_name}
 use lib.ListN.{length, drop}
-use Prim.Native.Nat.{◌≤◌, ◌-◌}
 use Rattle.ascii.proofs.same_name.Given as goal
 
 abbrev pub invariant-loop-i : goal.invariant-loop-i
-invariant-loop-i l = (l.i ≤ length l.a) × (length l.a ≡ length l.b) × (same_name (drop l.i l.a) (drop l.i l.b) ≡ same_name l.a l.b)
-
-abbrev pub decreases-loop-i : goal.decreases-loop-i
-decreases-loop-i l = length l.a - l.i
+invariant-loop-i l = (length l.a ≡ length l.b) × (same_name (drop l.i l.a) (drop l.i l.b) ≡ same_name l.a l.b)

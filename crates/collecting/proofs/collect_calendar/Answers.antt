@@ -15,7 +15,7 @@ pub collect_unfolded-requires : goal.collect_unfolded-requires
 collect_unfolded-requires c =
     let unfolded = c.unfold_into-n.ensures in
     record {
-      starts_len = c.requires.starts_len;
+      spans_len = c.requires.spans_len;
       s_len_bound = omega (arith, unfolded_small unfolded c.requires.cal_len_bound, unfolded_long unfolded);
       context_good = c.requires.context_good;
       start_lt_end = c.requires.start_lt_end;

@@ -5,8 +5,8 @@ use Rattle.collecting.proofs.collect_contents.Goals as goal
 pub collect_excepted-requires : goal.collect_excepted-requires
 collect_excepted-requires c =
     record {
-      starts_len = c.requires.starts_len;
-      s_len_bound = (omega (arith, c.if-s-le8192.true), omega arith);
+      spans_len = c.requires.spans_len;
+      s_len_bound = (omega (arith, c.if-cal-le8192.true), omega arith);
       context_good = c.requires.context_good;
       file_rows = c.requires.file_rows;
       start_lt_end = c.requires.start_lt_end;
@@ -15,7 +15,7 @@ collect_excepted-requires c =
 pub collect_excepted-requires-2 : goal.collect_excepted-requires-2
 collect_excepted-requires-2 c =
     record {
-      starts_len = c.requires.starts_len;
+      spans_len = c.requires.spans_len;
       s_len_bound = (omega (arith, c.requires.s_len_bound), omega arith);
       context_good = c.requires.context_good;
       file_rows = c.requires.file_rows;

@@ -5,7 +5,7 @@ use Rattle.collecting.proofs.collect_excepted.Goals as goal
 pub collect_stored-requires : goal.collect_stored-requires
 collect_stored-requires c =
     record {
-      starts_len = c.requires.starts_len;
+      spans_len = c.requires.spans_len;
       room = omega arith;
       entries_len = omega arith;
       links_len = omega arith;

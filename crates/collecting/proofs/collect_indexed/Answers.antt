@@ -4,7 +4,7 @@ use Rattle.collecting.proofs.collect_indexed.Goals as goal
 pub collect_structured-requires : goal.collect_structured-requires
 collect_structured-requires c =
     record {
-      starts_len = c.requires.starts_len;
+      spans_len = c.requires.spans_len;
       s_len_bound = c.requires.s_len_bound_2;
       structure_read = c.read_structure-structure.ensures;
       context_good = c.requires.context_good;

@@ -5,9 +5,9 @@ use Rattle.collecting.proofs.collect_long.Goals as goal
 pub collect_structured-requires : goal.collect_structured-requires
 collect_structured-requires c =
     let find_structure = c.find_structure.ensures in
-    let found_told = c.in-Of.is in
+    let found_told = c.in-Some.is in
     record {
-      starts_len = c.requires.starts_len;
+      spans_len = c.requires.spans_len;
       s_len_bound = c.requires.s_len_bound;
       structure_read = found_structure _ _ _ find_structure found_told;
       context_good = c.requires.context_good;

@@ -1,8 +1,9 @@
 -- `component_lines::read_lines` meets its contract: the lines that are left have the first fault and make the whole of what is said, told and stored.
 -- Each arm is what one kind of line adds.
+use Rattle.std.specs.Prelude.{Err, Ok}
 use Rattle.structure.proofs.ItemsLaws.{item_asked, inner_at, inner_less, no_item_at, items_rise}
 use Rattle.values.proofs.TimeLists.{times_read, times_unread}
-use Rattle.component_lines.specs.Lines.{good, unsupported, bad}
+use Rattle.component_lines.specs.Lines.{good, refused}
 use Rattle.component_lines.proofs.LinesStoring.{value_stored}
 use Rattle.component_lines.proofs.Lines.{nothing_said, uid_said, recurrence_said, line_entry, line_read}
 use Rattle.component_lines.proofs.Lines.{reading_start, reading_inner, reading_done, reading_unsupported, reading_bad, reading_plain, reading_periods, reading_bad_period}
@@ -10,7 +11,7 @@ use Rattle.component_lines.proofs.Lines.{reading_exceptions, reading_bad_time, p
 use Rattle.component_lines.proofs.Identities.{ties_start, ties_inner, ties_untied, ties_uid, ties_recurrence, ties_room, ties_exceptions, ties_done}
 use Rattle.index.proofs.Index.{entry_here, entry_name}
 use Rattle.property.specs.Facts.{reading_of}
-use mathlib.Core.Path.{sym, ◌∙◌}
+use mathlib.Core.Path.{sym, ◌∙◌, ap}
 use native.Mathlib.Omega.{arith}
 use Rattle.component_lines.proofs.read_lines.Goals as goal
 
@@ -62,133 +63,133 @@ property_value-requires c =
       n_value = entry_name (line_entry c.loop-next.invariant.0 c.item_at.ensures c.in-Property.is c.requires.indexed) c.name_length-length.ensures c.line_at-line.ensures;
     }
 
-pub loop-next-smaller-in-Nothing : goal.loop-next-smaller-in-Nothing
-loop-next-smaller-in-Nothing c =
+pub loop-next-smaller-in-Ok-Nothing : goal.loop-next-smaller-in-Ok-Nothing
+loop-next-smaller-in-Ok-Nothing c =
     let read = line_read c.loop-next.invariant.0 c.item_at.ensures c.in-Property.is c.line_at-line.ensures c.property_value.ensures in
     omega (arith, read.here.onward)
 
-pub loop-next-preserved-in-Nothing : goal.loop-next-preserved-in-Nothing
+pub loop-next-preserved-in-Ok-Nothing : goal.loop-next-preserved-in-Ok-Nothing
 unfolding reading_of
-loop-next-preserved-in-Nothing c =
+loop-next-preserved-in-Ok-Nothing c =
     let read = line_read c.loop-next.invariant.0 c.item_at.ensures c.in-Property.is c.line_at-line.ensures c.property_value.ensures in
-    let said = plain_said read c.in-Nothing.is tt in
-    (reading_plain read c.in-Nothing.is (nothing_said _) tt, ties_untied c.loop-next.invariant.1 read.here said tt)
+    let said = plain_said read (c.in-Ok-Nothing.is ∙ ap Ok c.in-Ok-Nothing.field-0-is) tt in
+    (reading_plain read (c.in-Ok-Nothing.is ∙ ap Ok c.in-Ok-Nothing.field-0-is) (nothing_said _) tt, ties_untied c.loop-next.invariant.1 read.here said tt)
 
-pub shape_of-column-in-Unsupported : goal.shape_of-column-in-Unsupported
-shape_of-column-in-Unsupported c = (c.loop-next.invariant.0.still.long ∙ sym c.requires.room)
+pub shape_of-column-in-Err-Unsupported : goal.shape_of-column-in-Err-Unsupported
+shape_of-column-in-Err-Unsupported c = (c.loop-next.invariant.0.still.long ∙ sym c.requires.room)
 
-pub shape_of-exceptions-in-Unsupported : goal.shape_of-exceptions-in-Unsupported
-shape_of-exceptions-in-Unsupported c = c.loop-next.invariant.1.long
+pub shape_of-exceptions-in-Err-Unsupported : goal.shape_of-exceptions-in-Err-Unsupported
+shape_of-exceptions-in-Err-Unsupported c = c.loop-next.invariant.1.long
 
-pub returns-in-Unsupported : goal.returns-in-Unsupported
-returns-in-Unsupported c =
+pub returns-in-Err-Unsupported : goal.returns-in-Err-Unsupported
+returns-in-Err-Unsupported c =
     let read = line_read c.loop-next.invariant.0 c.item_at.ensures c.in-Property.is c.line_at-line.ensures c.property_value.ensures in
-    unsupported (reading_unsupported read c.in-Unsupported.is)
+    refused (reading_unsupported read (c.in-Err-Unsupported.is ∙ ap Err c.in-Err-Unsupported.field-0-is))
 
-pub shape_of-column-in-Bad : goal.shape_of-column-in-Bad
-shape_of-column-in-Bad c = (c.loop-next.invariant.0.still.long ∙ sym c.requires.room)
+pub shape_of-column-in-Err-Bad : goal.shape_of-column-in-Err-Bad
+shape_of-column-in-Err-Bad c = (c.loop-next.invariant.0.still.long ∙ sym c.requires.room)
 
-pub shape_of-exceptions-in-Bad : goal.shape_of-exceptions-in-Bad
-shape_of-exceptions-in-Bad c = c.loop-next.invariant.1.long
+pub shape_of-exceptions-in-Err-Bad : goal.shape_of-exceptions-in-Err-Bad
+shape_of-exceptions-in-Err-Bad c = c.loop-next.invariant.1.long
 
-pub returns-in-Bad : goal.returns-in-Bad
-returns-in-Bad c =
+pub returns-in-Err-Bad : goal.returns-in-Err-Bad
+returns-in-Err-Bad c =
     let read = line_read c.loop-next.invariant.0 c.item_at.ensures c.in-Property.is c.line_at-line.ensures c.property_value.ensures in
-    bad (reading_bad read c.in-Bad.is)
+    refused (reading_bad read (c.in-Err-Bad.is ∙ ap Err c.in-Err-Bad.field-0-is))
 
-pub loop-next-smaller-in-Start : goal.loop-next-smaller-in-Start
-loop-next-smaller-in-Start c =
+pub loop-next-smaller-in-Ok-Start : goal.loop-next-smaller-in-Ok-Start
+loop-next-smaller-in-Ok-Start c =
     let read = line_read c.loop-next.invariant.0 c.item_at.ensures c.in-Property.is c.line_at-line.ensures c.property_value.ensures in
     omega (arith, read.here.onward)
 
-pub loop-next-preserved-in-Start : goal.loop-next-preserved-in-Start
+pub loop-next-preserved-in-Ok-Start : goal.loop-next-preserved-in-Ok-Start
 unfolding reading_of
-loop-next-preserved-in-Start c =
+loop-next-preserved-in-Ok-Start c =
     let read = line_read c.loop-next.invariant.0 c.item_at.ensures c.in-Property.is c.line_at-line.ensures c.property_value.ensures in
-    let said = plain_said read c.in-Start.is tt in
-    (reading_plain read c.in-Start.is c.with_start-g.ensures tt, ties_untied c.loop-next.invariant.1 read.here said tt)
+    let said = plain_said read (c.in-Ok-Start.is ∙ ap Ok c.in-Ok-Start.field-0-is) tt in
+    (reading_plain read (c.in-Ok-Start.is ∙ ap Ok c.in-Ok-Start.field-0-is) c.with_start-g.ensures tt, ties_untied c.loop-next.invariant.1 read.here said tt)
 
-pub loop-next-smaller-in-End : goal.loop-next-smaller-in-End
-loop-next-smaller-in-End c =
+pub loop-next-smaller-in-Ok-End : goal.loop-next-smaller-in-Ok-End
+loop-next-smaller-in-Ok-End c =
     let read = line_read c.loop-next.invariant.0 c.item_at.ensures c.in-Property.is c.line_at-line.ensures c.property_value.ensures in
     omega (arith, read.here.onward)
 
-pub loop-next-preserved-in-End : goal.loop-next-preserved-in-End
+pub loop-next-preserved-in-Ok-End : goal.loop-next-preserved-in-Ok-End
 unfolding reading_of
-loop-next-preserved-in-End c =
+loop-next-preserved-in-Ok-End c =
     let read = line_read c.loop-next.invariant.0 c.item_at.ensures c.in-Property.is c.line_at-line.ensures c.property_value.ensures in
-    let said = plain_said read c.in-End.is tt in
-    (reading_plain read c.in-End.is c.with_end-g.ensures tt, ties_untied c.loop-next.invariant.1 read.here said tt)
+    let said = plain_said read (c.in-Ok-End.is ∙ ap Ok c.in-Ok-End.field-0-is) tt in
+    (reading_plain read (c.in-Ok-End.is ∙ ap Ok c.in-Ok-End.field-0-is) c.with_end-g.ensures tt, ties_untied c.loop-next.invariant.1 read.here said tt)
 
-pub loop-next-smaller-in-Lasts : goal.loop-next-smaller-in-Lasts
-loop-next-smaller-in-Lasts c =
+pub loop-next-smaller-in-Ok-Lasts : goal.loop-next-smaller-in-Ok-Lasts
+loop-next-smaller-in-Ok-Lasts c =
     let read = line_read c.loop-next.invariant.0 c.item_at.ensures c.in-Property.is c.line_at-line.ensures c.property_value.ensures in
     omega (arith, read.here.onward)
 
-pub loop-next-preserved-in-Lasts : goal.loop-next-preserved-in-Lasts
+pub loop-next-preserved-in-Ok-Lasts : goal.loop-next-preserved-in-Ok-Lasts
 unfolding reading_of
-loop-next-preserved-in-Lasts c =
+loop-next-preserved-in-Ok-Lasts c =
     let read = line_read c.loop-next.invariant.0 c.item_at.ensures c.in-Property.is c.line_at-line.ensures c.property_value.ensures in
-    let said = plain_said read c.in-Lasts.is tt in
-    (reading_plain read c.in-Lasts.is c.with_lasts-g.ensures tt, ties_untied c.loop-next.invariant.1 read.here said tt)
+    let said = plain_said read (c.in-Ok-Lasts.is ∙ ap Ok c.in-Ok-Lasts.field-0-is) tt in
+    (reading_plain read (c.in-Ok-Lasts.is ∙ ap Ok c.in-Ok-Lasts.field-0-is) c.with_lasts-g.ensures tt, ties_untied c.loop-next.invariant.1 read.here said tt)
 
-pub loop-next-smaller-in-Repeats : goal.loop-next-smaller-in-Repeats
-loop-next-smaller-in-Repeats c =
+pub loop-next-smaller-in-Ok-Repeats : goal.loop-next-smaller-in-Ok-Repeats
+loop-next-smaller-in-Ok-Repeats c =
     let read = line_read c.loop-next.invariant.0 c.item_at.ensures c.in-Property.is c.line_at-line.ensures c.property_value.ensures in
     omega (arith, read.here.onward)
 
-pub loop-next-preserved-in-Repeats : goal.loop-next-preserved-in-Repeats
+pub loop-next-preserved-in-Ok-Repeats : goal.loop-next-preserved-in-Ok-Repeats
 unfolding reading_of
-loop-next-preserved-in-Repeats c =
+loop-next-preserved-in-Ok-Repeats c =
     let read = line_read c.loop-next.invariant.0 c.item_at.ensures c.in-Property.is c.line_at-line.ensures c.property_value.ensures in
-    let said = plain_said read c.in-Repeats.is tt in
-    (reading_plain read c.in-Repeats.is c.with_repeats-g.ensures tt, ties_untied c.loop-next.invariant.1 read.here said tt)
+    let said = plain_said read (c.in-Ok-Repeats.is ∙ ap Ok c.in-Ok-Repeats.field-0-is) tt in
+    (reading_plain read (c.in-Ok-Repeats.is ∙ ap Ok c.in-Ok-Repeats.field-0-is) c.with_repeats-g.ensures tt, ties_untied c.loop-next.invariant.1 read.here said tt)
 
-pub loop-next-smaller-in-HasStatus : goal.loop-next-smaller-in-HasStatus
-loop-next-smaller-in-HasStatus c =
+pub loop-next-smaller-in-Ok-HasStatus : goal.loop-next-smaller-in-Ok-HasStatus
+loop-next-smaller-in-Ok-HasStatus c =
     let read = line_read c.loop-next.invariant.0 c.item_at.ensures c.in-Property.is c.line_at-line.ensures c.property_value.ensures in
     omega (arith, read.here.onward)
 
-pub loop-next-preserved-in-HasStatus : goal.loop-next-preserved-in-HasStatus
+pub loop-next-preserved-in-Ok-HasStatus : goal.loop-next-preserved-in-Ok-HasStatus
 unfolding reading_of
-loop-next-preserved-in-HasStatus c =
+loop-next-preserved-in-Ok-HasStatus c =
     let read = line_read c.loop-next.invariant.0 c.item_at.ensures c.in-Property.is c.line_at-line.ensures c.property_value.ensures in
-    let said = plain_said read c.in-HasStatus.is tt in
-    (reading_plain read c.in-HasStatus.is c.with_status-g.ensures tt, ties_untied c.loop-next.invariant.1 read.here said tt)
+    let said = plain_said read (c.in-Ok-HasStatus.is ∙ ap Ok c.in-Ok-HasStatus.field-0-is) tt in
+    (reading_plain read (c.in-Ok-HasStatus.is ∙ ap Ok c.in-Ok-HasStatus.field-0-is) c.with_status-g.ensures tt, ties_untied c.loop-next.invariant.1 read.here said tt)
 
-pub loop-next-smaller-in-Transparent : goal.loop-next-smaller-in-Transparent
-loop-next-smaller-in-Transparent c =
+pub loop-next-smaller-in-Ok-Transparent : goal.loop-next-smaller-in-Ok-Transparent
+loop-next-smaller-in-Ok-Transparent c =
     let read = line_read c.loop-next.invariant.0 c.item_at.ensures c.in-Property.is c.line_at-line.ensures c.property_value.ensures in
     omega (arith, read.here.onward)
 
-pub loop-next-preserved-in-Transparent : goal.loop-next-preserved-in-Transparent
+pub loop-next-preserved-in-Ok-Transparent : goal.loop-next-preserved-in-Ok-Transparent
 unfolding reading_of
-loop-next-preserved-in-Transparent c =
+loop-next-preserved-in-Ok-Transparent c =
     let read = line_read c.loop-next.invariant.0 c.item_at.ensures c.in-Property.is c.line_at-line.ensures c.property_value.ensures in
-    let said = plain_said read c.in-Transparent.is tt in
-    (reading_plain read c.in-Transparent.is c.with_transparency-g.ensures tt, ties_untied c.loop-next.invariant.1 read.here said tt)
+    let said = plain_said read (c.in-Ok-Transparent.is ∙ ap Ok c.in-Ok-Transparent.field-0-is) tt in
+    (reading_plain read (c.in-Ok-Transparent.is ∙ ap Ok c.in-Ok-Transparent.field-0-is) c.with_transparency-g.ensures tt, ties_untied c.loop-next.invariant.1 read.here said tt)
 
-pub loop-next-smaller-in-Uid : goal.loop-next-smaller-in-Uid
-loop-next-smaller-in-Uid c =
+pub loop-next-smaller-in-Ok-Uid : goal.loop-next-smaller-in-Ok-Uid
+loop-next-smaller-in-Ok-Uid c =
     let read = line_read c.loop-next.invariant.0 c.item_at.ensures c.in-Property.is c.line_at-line.ensures c.property_value.ensures in
     omega (arith, read.here.onward)
 
-pub loop-next-preserved-in-Uid : goal.loop-next-preserved-in-Uid
+pub loop-next-preserved-in-Ok-Uid : goal.loop-next-preserved-in-Ok-Uid
 unfolding reading_of
-loop-next-preserved-in-Uid c =
+loop-next-preserved-in-Ok-Uid c =
     let read = line_read c.loop-next.invariant.0 c.item_at.ensures c.in-Property.is c.line_at-line.ensures c.property_value.ensures in
-    (reading_plain read c.in-Uid.is (uid_said _) tt, ties_uid c.loop-next.invariant.1 read.here (plain_said read c.in-Uid.is tt) c.with_uid-y.ensures)
+    (reading_plain read (c.in-Ok-Uid.is ∙ ap Ok c.in-Ok-Uid.field-0-is) (uid_said _) tt, ties_uid c.loop-next.invariant.1 read.here (plain_said read (c.in-Ok-Uid.is ∙ ap Ok c.in-Ok-Uid.field-0-is) tt) c.with_uid-y.ensures)
 
-pub loop-next-smaller-in-RecurrenceId : goal.loop-next-smaller-in-RecurrenceId
-loop-next-smaller-in-RecurrenceId c =
+pub loop-next-smaller-in-Ok-RecurrenceId : goal.loop-next-smaller-in-Ok-RecurrenceId
+loop-next-smaller-in-Ok-RecurrenceId c =
     let read = line_read c.loop-next.invariant.0 c.item_at.ensures c.in-Property.is c.line_at-line.ensures c.property_value.ensures in
     omega (arith, read.here.onward)
 
-pub loop-next-preserved-in-RecurrenceId : goal.loop-next-preserved-in-RecurrenceId
+pub loop-next-preserved-in-Ok-RecurrenceId : goal.loop-next-preserved-in-Ok-RecurrenceId
 unfolding reading_of
-loop-next-preserved-in-RecurrenceId c =
+loop-next-preserved-in-Ok-RecurrenceId c =
     let read = line_read c.loop-next.invariant.0 c.item_at.ensures c.in-Property.is c.line_at-line.ensures c.property_value.ensures in
-    (reading_plain read c.in-RecurrenceId.is (recurrence_said _ _) tt, ties_recurrence c.loop-next.invariant.1 read.here (plain_said read c.in-RecurrenceId.is tt) c.with_recurrence-y.ensures)
+    (reading_plain read (c.in-Ok-RecurrenceId.is ∙ ap Ok c.in-Ok-RecurrenceId.field-0-is) (recurrence_said _ _) tt, ties_recurrence c.loop-next.invariant.1 read.here (plain_said read (c.in-Ok-RecurrenceId.is ∙ ap Ok c.in-Ok-RecurrenceId.field-0-is) tt) c.with_recurrence-y.ensures)
 
 pub store_times-requires : goal.store_times-requires
 store_times-requires c =
@@ -198,37 +199,37 @@ store_times-requires c =
       v_bound = ties_room c.loop-next.invariant.1 read.here c.requires.indexed read.line c.value.ensures c.requires.s_len_bound;
     }
 
-pub loop-next-smaller-in-Of : goal.loop-next-smaller-in-Of
-loop-next-smaller-in-Of c =
+pub loop-next-smaller-in-Some : goal.loop-next-smaller-in-Some
+loop-next-smaller-in-Some c =
     let read = line_read c.loop-next.invariant.0 c.item_at.ensures c.in-Property.is c.line_at-line.ensures c.property_value.ensures in
     omega (arith, read.here.onward)
 
-pub loop-next-preserved-in-Of : goal.loop-next-preserved-in-Of
-loop-next-preserved-in-Of c =
+pub loop-next-preserved-in-Some : goal.loop-next-preserved-in-Some
+loop-next-preserved-in-Some c =
     let turn = c.loop-next in
     let value_told = c.value in
     let store_times_told = c.store_times in
     let read = line_read c.loop-next.invariant.0 c.item_at.ensures c.in-Property.is c.line_at-line.ensures c.property_value.ensures in
-    let kind = c.in-HasExceptions.is in
+    let kind = (c.in-Ok-HasExceptions.is ∙ ap Ok c.in-Ok-HasExceptions.field-0-is) in
     let value = value_told.ensures in
     let stored = store_times_told.ensures in
-    let all = times_read stored _ _ c.in-Of.is in (
+    let all = times_read stored _ _ c.in-Some.is in (
       reading_exceptions read kind value all,
-      ties_exceptions turn.invariant.1 read.here c.requires.indexed read.line value _ _ c.requires.s_len_bound (exceptions_said read kind value all) stored c.in-Of.is c.with_exceptions-y.ensures,
+      ties_exceptions turn.invariant.1 read.here c.requires.indexed read.line value _ _ c.requires.s_len_bound (exceptions_said read kind value all) stored c.in-Some.is c.with_exceptions-y.ensures,
     )
 
-pub shape_of-column-in-Bad-store_times : goal.shape_of-column-in-Bad-store_times
-shape_of-column-in-Bad-store_times c = omega (arith, (c.loop-next.invariant.0.still.long ∙ sym c.requires.room))
+pub shape_of-column-in-None : goal.shape_of-column-in-None
+shape_of-column-in-None c = omega (arith, (c.loop-next.invariant.0.still.long ∙ sym c.requires.room))
 
-pub shape_of-exceptions-in-Bad-store_times : goal.shape_of-exceptions-in-Bad-store_times
-shape_of-exceptions-in-Bad-store_times c = omega (arith, c.loop-next.invariant.1.long)
+pub shape_of-exceptions-in-None : goal.shape_of-exceptions-in-None
+shape_of-exceptions-in-None c = omega (arith, c.loop-next.invariant.1.long)
 
-pub returns-in-Bad-store_times : goal.returns-in-Bad-store_times
-returns-in-Bad-store_times c =
+pub returns-in-None : goal.returns-in-None
+returns-in-None c =
     let read = line_read c.loop-next.invariant.0 c.item_at.ensures c.in-Property.is c.line_at-line.ensures c.property_value.ensures in
     let value_told = c.value in
     let store_times_told = c.store_times in
-    bad (reading_bad_time read c.in-HasExceptions.is value_told.ensures (times_unread store_times_told.ensures c.in-Bad-store_times.is))
+    refused (reading_bad_time read (c.in-Ok-HasExceptions.is ∙ ap Ok c.in-Ok-HasExceptions.field-0-is) value_told.ensures (times_unread store_times_told.ensures c.in-None.is))
 
 pub store_value-requires : goal.store_value-requires
 store_value-requires c =
@@ -238,35 +239,35 @@ store_value-requires c =
       b_le_last_second = c.requires.b_le_last_second;
     }
 
-pub loop-next-smaller-in-Of-store_value : goal.loop-next-smaller-in-Of-store_value
-loop-next-smaller-in-Of-store_value c =
+pub loop-next-smaller-in-Some-store_value : goal.loop-next-smaller-in-Some-store_value
+loop-next-smaller-in-Some-store_value c =
     let read = line_read c.loop-next.invariant.0 c.item_at.ensures c.in-Property.is c.line_at-line.ensures c.property_value.ensures in
     omega (arith, read.here.onward)
 
-pub loop-next-preserved-in-Of-store_value : goal.loop-next-preserved-in-Of-store_value
-loop-next-preserved-in-Of-store_value c =
+pub loop-next-preserved-in-Some-store_value : goal.loop-next-preserved-in-Some-store_value
+loop-next-preserved-in-Some-store_value c =
     let turn = c.loop-next in
-    let value2_told = c.value-in-HasPeriods in
+    let value2_told = c.value-in-Ok-HasPeriods in
     let store_value_told = c.store_value in
     let read = line_read c.loop-next.invariant.0 c.item_at.ensures c.in-Property.is c.line_at-line.ensures c.property_value.ensures in
-    let kind = c.in-HasPeriods.is in
+    let kind = (c.in-Ok-HasPeriods.is ∙ ap Ok c.in-Ok-HasPeriods.field-0-is) in
     let value = value2_told.ensures in
     let stored = store_value_told.ensures in
-    let (all, kept) = value_stored stored _ c.in-Of-store_value.is in
-    (reading_periods read kind value stored _ c.in-Of-store_value.is, ties_untied turn.invariant.1 read.here (periods_said read kind value all) tt)
+    let (all, kept) = value_stored stored _ c.in-Some-store_value.is in
+    (reading_periods read kind value stored _ c.in-Some-store_value.is, ties_untied turn.invariant.1 read.here (periods_said read kind value all) tt)
 
-pub shape_of-column-in-Bad-store_value : goal.shape_of-column-in-Bad-store_value
-shape_of-column-in-Bad-store_value c = omega (arith, (c.loop-next.invariant.0.still.long ∙ sym c.requires.room))
+pub shape_of-column-in-None-store_value : goal.shape_of-column-in-None-store_value
+shape_of-column-in-None-store_value c = omega (arith, (c.loop-next.invariant.0.still.long ∙ sym c.requires.room))
 
-pub shape_of-exceptions-in-Bad-store_value : goal.shape_of-exceptions-in-Bad-store_value
-shape_of-exceptions-in-Bad-store_value c = omega (arith, c.loop-next.invariant.1.long)
+pub shape_of-exceptions-in-None-store_value : goal.shape_of-exceptions-in-None-store_value
+shape_of-exceptions-in-None-store_value c = omega (arith, c.loop-next.invariant.1.long)
 
-pub returns-in-Bad-store_value : goal.returns-in-Bad-store_value
-returns-in-Bad-store_value c =
+pub returns-in-None-store_value : goal.returns-in-None-store_value
+returns-in-None-store_value c =
     let read = line_read c.loop-next.invariant.0 c.item_at.ensures c.in-Property.is c.line_at-line.ensures c.property_value.ensures in
-    let value2_told = c.value-in-HasPeriods in
+    let value2_told = c.value-in-Ok-HasPeriods in
     let store_value_told = c.store_value in
-    bad (reading_bad_period read c.in-HasPeriods.is value2_told.ensures store_value_told.ensures c.in-Bad-store_value.is)
+    refused (reading_bad_period read (c.in-Ok-HasPeriods.is ∙ ap Ok c.in-Ok-HasPeriods.field-0-is) value2_told.ensures store_value_told.ensures c.in-None-store_value.is)
 
 pub loop-next-smaller : goal.loop-next-smaller
 loop-next-smaller c = inner_less c.loop-next.invariant.0.items c.item_at.ensures c.in-Inner.is

@@ -1,44 +1,54 @@
--- `component_lines::store_value` meets its contract: every item before a place is a period, and the pieces of those from there on are left to store.
-use mathlib.Core.Path.{sym, ◌∙◌}
-use Rattle.line.proofs.Splitting.{item_rises, item_inside}
+-- `component_lines::store_value` meets its contract: every item before those left is a period, and the pieces of these are left to store.
+use Rattle.std.proofs.Common.{rules}
+use Rattle.std.proofs.lemmas.Iterator.{YieldsList}
+use Rattle.std.proofs.lemmas.Iterator.Splits.{YieldsList-from_slice_split}
+use Rattle.std.specs.Iterator.{AlwaysYields}
+use Rattle.std.specs.List.{slice_split}
+use borrow.Author.Tests.{tests}
+use lib.Dec.{eqb}
+use mathlib.Core.Path.{sym, subst, ◌∙◌}
+use Rattle.component_lines.specs.Lines.{ValueIs}
+use Rattle.values.proofs.TimeLists.{next_piece, no_piece}
 use Rattle.component_lines.proofs.LinesStoring.{value_start, value_next, value_ends, value_stops}
-use native.Mathlib.Omega.{arith}
+use Rattle.component_lines.proofs.store_value.Given.{iterator-loop-item}
 use Rattle.component_lines.proofs.store_value.Goals as goal
 
-pub loop-p-init : goal.loop-p-init
-loop-p-init c = value_start _ _ _ _ _ _ c.requires.first_bound c.requires.room
+pub loop-item-init : goal.loop-item-init
+loop-item-init c =
+    let v = c.args.v.now in
+    let pieces : YieldsList iterator-loop-item.next_gives (λ x. x.now) c.split-item-items.result (slice_split (λ b. eqb b 44) v) =
+    YieldsList-from_slice_split _ (λ b. eqb b 44) v c.split-item-items.ensures.rest c.split-item-items.ensures.done c.split-item-items.ensures.closure (λ x b q k. search (rules, tests))
+    in (
+      slice_split (λ b. eqb b 44) v,
+      subst (λ s. AlwaysYields iterator-loop-item.next_gives (λ x. x.now) s (slice_split (λ b. eqb b 44) v)) (sym c.into_iter-item-iterator.ensures.into_iter_gives) pieces.runs,
+      value_start _ _ _ _ _ _ c.requires.first_bound c.requires.room,
+    )
 
-pub slice_bounds-read_period-count : goal.slice_bounds-read_period-count
-slice_bounds-read_period-count c = omega (arith, item_rises _ _ _ _ c.find-e.ensures, item_inside _ _ _ _ c.loop-p.invariant.passed.inside_list c.find-e.ensures)
+pub shape_of-column-in_err-p : goal.shape_of-column-in_err-p
+shape_of-column-in_err-p c = c.loop-item.invariant.2.still.long ∙ sym c.requires.room
 
-pub slice_bounds-read_period-start : goal.slice_bounds-read_period-start
-slice_bounds-read_period-start c = omega (arith, item_rises _ _ _ _ c.find-e.ensures, item_inside _ _ _ _ c.loop-p.invariant.passed.inside_list c.find-e.ensures)
-
-pub slice_bounds-read_period-end : goal.slice_bounds-read_period-end
-slice_bounds-read_period-end c = omega (arith, item_rises _ _ _ _ c.find-e.ensures, item_inside _ _ _ _ c.loop-p.invariant.passed.inside_list c.find-e.ensures)
+pub returns-in_err-p : goal.returns-in_err-p
+returns-in_err-p c =
+    let so_far = c.loop-item.invariant in
+    let next = next_piece iterator-loop-item.next_gives (λ x. x.now) so_far.0 {t = c.next.new.self} {x = c.in-Some.item} so_far.1 c.in-Some.ensures.steps in
+    subst (ValueIs _ _ _ _ _ _ _) (sym c.from_residual.ensures) (value_stops so_far.2 next.1 c.read_period.ensures c.in_err-p.was _)
 
 pub store_period-n-requires : goal.store_period-n-requires
 store_period-n-requires c =
-    let turn = c.loop-p in
+    let still = c.loop-item.invariant.2.still in
     record {
-      room = turn.invariant.still.long;
-      n_bound = turn.invariant.still.few;
+      room = still.long;
+      n_bound = still.few;
       b_le_last_second = c.requires.b_le_last_second;
     }
 
-pub returns-then-v-e : goal.returns-then-v-e
-returns-then-v-e c =
-    value_ends c.loop-p.invariant c.find-e.ensures c.read_period.ensures c.in-Of.is c.store_period-n.ensures c.if-v-e.true
+pub loop-item-preserved : goal.loop-item-preserved
+loop-item-preserved c =
+    let so_far = c.loop-item.invariant in
+    let next = next_piece iterator-loop-item.next_gives (λ x. x.now) so_far.0 {t = c.next.new.self} {x = c.in-Some.item} so_far.1 c.in-Some.ensures.steps in
+    (next.0, next.2, value_next so_far.2 next.1 c.read_period.ensures c.in_ok-p.was c.store_period-n.ensures)
 
-pub loop-p-smaller : goal.loop-p-smaller
-loop-p-smaller c = omega (arith, item_rises _ _ _ _ c.find-e.ensures, item_inside _ _ _ _ c.loop-p.invariant.passed.inside_list c.find-e.ensures)
-
-pub loop-p-preserved : goal.loop-p-preserved
-loop-p-preserved c =
-    value_next c.loop-p.invariant c.find-e.ensures c.read_period.ensures c.in-Of.is c.store_period-n.ensures c.if-v-e.false
-
-pub shape_of-column-in-Bad : goal.shape_of-column-in-Bad
-shape_of-column-in-Bad c = c.loop-p.invariant.still.long ∙ sym c.requires.room
-
-pub returns-in-Bad : goal.returns-in-Bad
-returns-in-Bad c = value_stops c.loop-p.invariant c.find-e.ensures c.read_period.ensures c.in-Bad.is _
+pub returns : goal.returns
+returns c =
+    let so_far = c.loop-item.invariant in
+    value_ends so_far.2 (no_piece iterator-loop-item.next_gives (λ x. x.now) so_far.0 so_far.1 c.in-None.ensures.steps)

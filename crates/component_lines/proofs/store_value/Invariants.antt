@@ -1,10 +1,10 @@
-use Prim.Native.Nat.{◌-◌}
-use lib.ListN.{length}
+use mathlib.Core.List.{List}
+use Prim.Native.Nat.{ℕ}
+use Rattle.std.specs.Iterator.{AlwaysYields}
 use Rattle.component_lines.proofs.LinesStoring.{ReadingValue}
 use Rattle.component_lines.proofs.store_value.Given as goal
 
-abbrev pub invariant-loop-p : goal.invariant-loop-p
-invariant-loop-p l = ReadingValue l.busy l.v l.a l.b l.initial.column l.first l.column l.n l.from
-
-abbrev pub decreases-loop-p : goal.decreases-loop-p
-decreases-loop-p l = length l.v - l.from
+abbrev pub invariant-loop-item : goal.invariant-loop-item
+invariant-loop-item l =
+    (left : List (List ℕ)) × AlwaysYields goal.iterator-loop-item.next_gives (λ x. x.now) l.item-iterator left
+    × ReadingValue l.busy l.v l.a l.b l.initial.column l.first l.column l.n left

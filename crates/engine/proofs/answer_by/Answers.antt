@@ -2,10 +2,10 @@
 use Rattle.engine.specs.Answers.{answer_by}
 use Rattle.engine.proofs.answer_by.Goals as goal
 
-pub returns-in-At : goal.returns-in-At
+pub returns-in-Ok : goal.returns-in-Ok
 unfolding answer_by
-returns-in-At c = simp c.in-At.is
+returns-in-Ok c = simp c.in-Ok.is
 
-pub returns-in-None : goal.returns-in-None
+pub returns-in-Err : goal.returns-in-Err
 unfolding answer_by
-returns-in-None c = simp c.in-None.is
+returns-in-Err c = simp c.in-Err.is

@@ -31,7 +31,7 @@ store_few-requires c =
     record {
       room = c.requires.room;
       first_bound = c.requires.first_bound;
-      exceptions_len_bound = c.if-exceptions-le1025.true;
+      exceptions_len_bound = c.if-events-le1025.true;
       file_rows = c.requires.file_rows;
       entry_rows = c.requires.entry_rows;
       removable = c.requires.removable;

@@ -1,17 +1,25 @@
 -- `fingerprints::fingerprint` meets its contract: the sums so far and the words that are left make the fingerprint of the whole.
-use mathlib.Core.Path.{◌∙◌}
+use Prim.Native.Nat.{◌+◌, ◌*◌, ◌/◌}
+use mathlib.Core.Path.{◌≡◌, ◌∙◌}
+use lib.ListN.{length}
 use Rattle.fingerprints.proofs.Fingerprints.{summing_start, summing_next, summing_few}
 use native.Mathlib.Omega.{arith}
 use Rattle.fingerprints.proofs.fingerprint.Goals as goal
 
-pub loop-i-init : goal.loop-i-init
-loop-i-init c = summing_start _
+pub loop-k-init : goal.loop-k-init
+loop-k-init c = summing_start _
 
-pub loop-i-preserved : goal.loop-i-preserved
-loop-i-preserved c = summing_next (omega arith) c.loop-i.invariant (omega arith) c.word-one.ensures
+pub loop-k-preserved : goal.loop-k-preserved
+loop-k-preserved c =
+    let four : 4 * (c.loop-k.k + 1) ≡ 4 * c.loop-k.k + 4 = omega arith in
+    rw four (summing_next (omega arith) c.loop-k.invariant (omega arith) c.word-one.ensures)
 
 pub finish-requires : goal.finish-requires
-finish-requires c = summing_few (omega arith) c.loop-i.invariant (omega arith)
+finish-requires c =
+    let last : c.loop-k.k ≡ length c.args.u.now / 4 = omega arith in
+    rw (← last) (summing_few (omega arith) c.loop-k.invariant (omega arith))
 
 pub returns : goal.returns
-returns c = c.finish.ensures ∙ c.loop-i.invariant.left
+returns c =
+    let last : c.loop-k.k ≡ length c.args.u.now / 4 = omega arith in
+    (rw (← last) at c.finish.ensures) ∙ c.loop-k.invariant.left

@@ -7,7 +7,7 @@ pub loop-i-init : goal.loop-i-init
 loop-i-init c = ending_start c.requires
 
 pub loop-i-preserved : goal.loop-i-preserved
-loop-i-preserved c = ending_next c.loop-i.invariant (omega arith) c.wide-one.ensures.value c.wide-one.ensures.upper_bound
+loop-i-preserved c = ending_next c.loop-i.invariant (omega arith) c.from-one.ensures (omega arith)
 
 pub returns : goal.returns
 returns c = ending_end c.loop-i.invariant (omega arith)

@@ -1,5 +1,4 @@
-use Prim.Native.Nat.{◌-◌}
-use lib.ListN.{length, drop}
+use lib.ListN.{drop}
 use Rattle.fingerprints.specs.Fingerprints.{finished, words}
 use Rattle.fingerprints.proofs.Fingerprints.{Ending}
 use Rattle.fingerprints.proofs.finish.Given as goal
@@ -7,6 +6,3 @@ use Rattle.fingerprints.proofs.finish.Given as goal
 abbrev pub invariant-loop-i : goal.invariant-loop-i
 invariant-loop-i l =
     Ending l.u l.from l.i l.one l.two l.three (finished l.first l.second l.third (words (drop l.from l.u)))
-
-abbrev pub decreases-loop-i : goal.decreases-loop-i
-decreases-loop-i l = length l.u - l.i

@@ -1,8 +1,6 @@
+use Prim.Native.Nat.{◌+◌, ◌*◌, ◌-◌}
 use Rattle.fingerprints.proofs.Columns.{Passed}
 use Rattle.fingerprints.proofs.is_new.Given as goal
 
-abbrev pub invariant-loop-i : goal.invariant-loop-i
-invariant-loop-i l = Passed l.prints l.n l.x l.i
-
-abbrev pub decreases-loop-i : goal.decreases-loop-i
-decreases-loop-i l = l.i
+abbrev pub invariant-loop-k : goal.invariant-loop-k
+invariant-loop-k l = Passed l.prints l.n l.x (64 + l.n - 64 * l.k)

@@ -5,4 +5,4 @@ use Rattle.lokuwaine.proofs.Spreading.{match_spread}
 use Rattle.lokuwaine.proofs.lokuwaine_match.Goals as goal
 
 pub returns : goal.returns
-returns c = match_spread (to_z-of_z w64 _ c.ranges.offset) c.matches.ensures c.spread_of-s.ensures
+returns c = match_spread (to_z-of_z w64 _ c.ranges.offset) c.matches.ensures c.from-s.ensures

@@ -8,5 +8,5 @@ pub returns : goal.returns
 returns c =
     let offset = c.ranges.offset in
     let answer = c.report.ensures in
-    let spread = c.spread_of-s.ensures in
+    let spread = c.from-s.ensures in
     report_spread (to_z-of_z w64 _ offset) answer spread

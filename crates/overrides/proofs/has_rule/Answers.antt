@@ -1,19 +1,14 @@
--- `overrides::has_rule` meets its contract: each arm is the definition at its variant.
+-- `overrides::has_rule` meets its contract: only one variant has no rule.
+use mathlib.Core.Path.{sym}
 use Rattle.overrides.specs.Rules.{has_rule}
+use Rattle.overrides.proofs.Keeping.{rule_given}
+use Rattle.overrides.proofs.has_rule.Goals.{in-Once, in_default}
 use Rattle.overrides.proofs.has_rule.Goals as goal
 
-pub returns-in-Once : goal.returns-in-Once
+pub returns : goal.returns
 unfolding has_rule
-returns-in-Once c = simp c.in-Once.is
-
-pub returns-in-Forever : goal.returns-in-Forever
-unfolding has_rule
-returns-in-Forever c = simp c.in-Forever.is
-
-pub returns-in-Count : goal.returns-in-Count
-unfolding has_rule
-returns-in-Count c = simp c.in-Count.is
-
-pub returns-in-Until : goal.returns-in-Until
-unfolding has_rule
-returns-in-Until c = simp c.in-Until.is
+returns c =
+    elim c.match-matches.branch [
+      | in-Once w ↦ rw (w.matches-is, w.in-Once.is)
+      | in_default w ↦ rw w.matches-is (sym (rule_given _ w.in_default.not-Once))
+    ]

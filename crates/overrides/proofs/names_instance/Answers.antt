@@ -5,8 +5,8 @@ use Rattle.recurrence.proofs.Instances.{step_long}
 use Rattle.overrides.proofs.Instances.{before_start, number_few, names_by}
 use Rattle.overrides.proofs.names_instance.Goals as goal
 
-pub returns-then-s-start : goal.returns-then-s-start
-returns-then-s-start c = before_start _ _ c.if-s-start.true
+pub returns-then-s-e : goal.returns-then-s-e
+returns-then-s-e c = before_start _ _ c.if-s-e.true
 
 pub nonzero_div-k : goal.nonzero_div-k
 nonzero_div-k c = omega (arith, c.step_of.ensures, step_long c.requires.event_small)

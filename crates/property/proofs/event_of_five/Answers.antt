@@ -9,4 +9,4 @@ pub returns-then-same_name-2 : goal.returns-then-same_name-2
 returns-then-same_name-2 c = word_found c.same_name-2.ensures (word_other c.same_name.ensures (words_of_length 5 c.requires) c.if-same_name.false) c.if-same_name-2.true
 
 pub returns : goal.returns
-returns c = word_last c.same_name-3.ensures (word_other c.same_name-2.ensures (word_other c.same_name.ensures (words_of_length 5 c.requires) c.if-same_name.false) c.if-same_name-2.false) c.property_if.ensures
+returns c = word_last c.same_name-3.ensures (word_other c.same_name-2.ensures (word_other c.same_name.ensures (words_of_length 5 c.requires) c.if-same_name.false) c.if-same_name-2.false) c.then_some.ensures

@@ -12,4 +12,4 @@ pub returns-then-same_name-3 : goal.returns-then-same_name-3
 returns-then-same_name-3 c = word_found c.same_name-3.ensures (word_other c.same_name-2.ensures (word_other c.same_name.ensures (words_of_length 6 c.requires) c.if-same_name.false) c.if-same_name-2.false) c.if-same_name-3.true
 
 pub returns : goal.returns
-returns c = word_last c.same_name-4.ensures (word_other c.same_name-3.ensures (word_other c.same_name-2.ensures (word_other c.same_name.ensures (words_of_length 6 c.requires) c.if-same_name.false) c.if-same_name-2.false) c.if-same_name-3.false) c.property_if.ensures
+returns c = word_last c.same_name-4.ensures (word_other c.same_name-3.ensures (word_other c.same_name-2.ensures (word_other c.same_name.ensures (words_of_length 6 c.requires) c.if-same_name.false) c.if-same_name-2.false) c.if-same_name-3.false) c.then_some.ensures

@@ -12,4 +12,4 @@ pub returns : goal.returns
 unfolding value_as unless_zoned
 returns c =
     let zoned = sym c.is_zoned.ensures ∙ c.if-is_zoned.false in
-    λ k s. rw zoned (c.exceptions_by.ensures ∙ ap exceptions_by c.form_in.ensures)
+    λ k s. rw zoned (c.exceptions_by.ensures ∙ ap exceptions_by c.form.ensures)

@@ -1,21 +1,17 @@
 -- `property::time_value` meets its contract: with TZID the line is unsupported; else its time is what the callees answer.
-use mathlib.Core.Path.{ap, ◌∙◌}
-use Rattle.property.specs.Facts.{reading_of}
-use Rattle.property.specs.Properties.{time_in}
-use Rattle.property.proofs.Properties.{zoned, unzoned}
+use mathlib.Core.Path.{sym, ap, ◌∙◌}
+use Rattle.property.specs.Facts.{time_reading}
+use Rattle.property.specs.Properties.{time_in, time_fact, unless_zoned}
+use Rattle.property.proofs.Properties.{time_or_bad}
 use Rattle.property.proofs.time_value.Goals as goal
 
 pub returns-then-is_zoned : goal.returns-then-is_zoned
-unfolding reading_of
-returns-then-is_zoned c =
-    let args = c.args in
-    zoned args.line.now args.start args.c args.scope _ c.is_zoned.ensures c.if-is_zoned.true
+unfolding time_reading unless_zoned
+returns-then-is_zoned c = λ f. rw (sym c.is_zoned.ensures ∙ c.if-is_zoned.true)
 
 pub returns : goal.returns
+unfolding unless_zoned
 returns c =
-    let args = c.args in
-    let is_zoned = c.is_zoned in
-    let if1 = c.if-is_zoned in
-    let time_on = c.time_on in
-    unzoned args.line.now args.start args.c args.scope _ is_zoned.ensures if1.false
-    (c.time_in.ensures ∙ ap (time_in args.scope) time_on.ensures) c.timed.ensures
+    λ f.
+    rw (sym c.is_zoned.ensures ∙ c.if-is_zoned.false)
+    (time_or_bad f _ c.ok_or.ensures.value ∙ ap (time_fact f) (c.time_in.ensures ∙ ap (time_in c.args.scope) c.time.ensures))

@@ -6,15 +6,9 @@ use Rattle.property.specs.Facts.{reading_of}
 use Rattle.property.proofs.Properties.{plain_type, one_parameter}
 use Rattle.property.proofs.type_value.Goals as goal
 
-pub returns-then-plain : goal.returns-then-plain
+pub returns-then-line : goal.returns-then-line
 unfolding reading_of
-returns-then-plain c = plain_type _ (c.requires c.if-plain.true)
-
-pub slice_bounds-type_by-count : goal.slice_bounds-type_by-count
-slice_bounds-type_by-count c = omega (arith, next_rises _ _ _ c.find-e.ensures, next_inside _ _ _ c.if-at-h.true c.find-e.ensures)
-
-pub slice_bounds-type_by-start : goal.slice_bounds-type_by-start
-slice_bounds-type_by-start c = omega (arith, next_rises _ _ _ c.find-e.ensures, next_inside _ _ _ c.if-at-h.true c.find-e.ensures)
+returns-then-line c = plain_type _ (c.args.line.no_parameters c.if-line.true)
 
 pub slice_bounds-type_by-end : goal.slice_bounds-type_by-end
 slice_bounds-type_by-end c = omega (arith, next_rises _ _ _ c.find-e.ensures, next_inside _ _ _ c.if-at-h.true c.find-e.ensures)
@@ -26,8 +20,5 @@ returns-then-h-e c =
     let find = c.find-at in
     let if2 = c.if-at-h in
     let find2 = c.find-e in
-    c.type_by.ensures (line_of args.line.now)
-    (one_parameter args.line.now _ _ _ head.ensures find.ensures if2.true find2.ensures c.if-h-e.true)
-
-pub returns : goal.returns
-returns c = c.type_among.ensures
+    c.type_by.ensures (line_of args.line.text.now)
+    (one_parameter args.line.text.now _ _ _ head.ensures find.ensures if2.true find2.ensures c.if-h-e.true)

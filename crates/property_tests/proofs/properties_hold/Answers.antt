@@ -1,16 +1,12 @@
 -- `property_tests::properties_hold` meets its contract: every record so far passes, and the first that does not decides.
-use Rattle.query.proofs.Counting.{so_far_start, so_far_next, every_stop, every_end}
+use Rattle.query.proofs.Counting.{so_far_next, every_stop, every_end}
 use Rattle.property_tests.specs.PropertyTests.{properties_hold}
 use Rattle.property_tests.proofs.properties_hold.Goals as goal
-
-pub loop-i-init : goal.loop-i-init
-loop-i-init c = so_far_start
 
 pub property_passes-requires : goal.property_passes-requires
 property_passes-requires c =
     let inside = c.loop-i-test.true in
     record {
-      fits = c.requires.fits;
       q_value = c.requires.q_value;
       i_lt_count = inside;
       indexed = c.requires.indexed;

@@ -5,10 +5,7 @@ use Rattle.property_tests.proofs.property_holds.Goals as goal
 pub text_of-name-requires : goal.text_of-name-requires
 text_of-name-requires c =
     let read = c.property_at-r.ensures in
-    record {
-      fits = c.requires.fits;
-      n_lt_count = property_name_lem _ _ _ read c.requires.q_value c.requires.i_lt_count;
-    }
+    property_name_lem _ _ _ read c.requires.q_value c.requires.i_lt_count
 
 pub some_named-requires : goal.some_named-requires
 some_named-requires c =
@@ -22,15 +19,11 @@ returns-then-r-eq1 c = property_absent _ _ _ c.property_at-r.ensures _ c.text_of
 
 pub text_or-text-requires : goal.text_or-text-requires
 text_or-text-requires c =
-    record {
-      fits = c.requires.fits;
-      text_le_count = property_text _ _ _ c.property_at-r.ensures c.requires.q_value c.requires.i_lt_count;
-    }
+    property_text _ _ _ c.property_at-r.ensures c.requires.q_value c.requires.i_lt_count
 
 pub some_line-requires : goal.some_line-requires
 some_line-requires c =
     record {
-      fits = c.requires.fits;
       q_value = c.requires.q_value;
       name_value = c.text_of-name.ensures;
       text_value = c.text_or-text.ensures;

@@ -5,7 +5,6 @@ use Rattle.property_tests.proofs.property_passes.Goals as goal
 pub property_holds-requires : goal.property_holds-requires
 property_holds-requires c =
     record {
-      fits = c.requires.fits;
       q_value = c.requires.q_value;
       i_lt_count = c.requires.i_lt_count;
       indexed = c.requires.indexed;

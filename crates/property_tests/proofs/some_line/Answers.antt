@@ -40,7 +40,6 @@ pub line_holds-requires : goal.line_holds-requires
 line_holds-requires c =
     let known = seeking_line c.loop-i.invariant c.item_at.ensures c.in-Property.is c.requires.indexed in
     record {
-      fits = c.requires.fits;
       q_value = c.requires.q_value;
       name_value = c.requires.name_value;
       text_value = c.requires.text_value;

@@ -4,24 +4,17 @@ use mathlib.Core.Path.{sym, ◌∙◌}
 use Rattle.query_check.proofs.component_good.Goals as goal
 
 pub parent_good-requires : goal.parent_good-requires
-parent_good-requires c =
-    let sections = c.args.q in
-    let fits = c.requires in
-    let named = sym c.name_good.ensures ∙ c.if-name_good.true in
-    record {
-      fits = fits;
-      name_lt_count = name_below _ sections _ named;
-    }
+parent_good-requires c = name_below _ c.args.q.now.sections _ (sym c.name_good.ensures ∙ c.if-not-name_good.false)
 
-pub returns-then-name_good : goal.returns-then-name_good
-returns-then-name_good c =
-    let sections = c.args.q in
+pub returns : goal.returns
+returns c =
+    let sections = c.args.q.now.sections in
     let asked = c.args.r in
-    let named = sym c.name_good.ensures ∙ c.if-name_good.true in
+    let named = sym c.name_good.ensures ∙ c.if-not-name_good.false in
     let children = c.has_child_component.ensures in
     let properties = c.has_property.ensures in
     let parent = c.parent_good.ensures in
     component_named _ sections _ asked named children properties parent
 
-pub returns-else-name_good : goal.returns-else-name_good
-returns-else-name_good c = sym (component_unnamed _ c.args.q _ c.args.r (sym c.name_good.ensures ∙ c.if-name_good.false))
+pub returns-then-not-name_good : goal.returns-then-not-name_good
+returns-then-not-name_good c = sym (component_unnamed _ c.args.q.now.sections _ c.args.r (sym c.name_good.ensures ∙ c.if-not-name_good.true))

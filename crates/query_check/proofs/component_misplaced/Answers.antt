@@ -4,7 +4,7 @@ use Rattle.query_check.proofs.component_misplaced.Goals as goal
 
 pub returns : goal.returns
 returns c =
-    let sections = c.args.q in
+    let sections = c.args.q.now.sections in
     let asked = c.args.r in
     let name = c.text_of-text.ensures in
     let event = c.same_name.ensures in

@@ -1,37 +1,22 @@
--- `query_check::components_misplaced` meets its contract: no component so far has a misplaced range, and every name is the number of a text.
-use Rattle.query_check.specs.WellFormed.{component_misplaced, components_misplaced}
+-- `query_check::components_misplaced` meets its contract: each component is asked, and its name is the number of a text.
+use Rattle.std.proofs.Common.{rules, refl, ℕ, ◌<◌, ◌≡◌}
+use borrow.Author.Tests.{tests}
+use Rattle.std.proofs.iter.Serving.{serving}
+use Rattle.query.specs.Records.{component_at}
+use Rattle.query.specs.declared.ComponentRecord.{ComponentRecord}
+use Rattle.query.proofs.Counting.{any_below}
 use Rattle.query_check.proofs.WellFormed.{component_text}
-use Rattle.query.proofs.Counting.{so_far_start, so_far_next, some_found, none_end}
-use mathlib.Core.Path.{ap, ◌∙◌}
+use Rattle.query_check.specs.WellFormed.{components_misplaced}
 use Rattle.query_check.proofs.components_misplaced.Goals as goal
 
-pub loop-k-init : goal.loop-k-init
-loop-k-init c = so_far_start
-
-pub component_at-r-requires : goal.component_at-r-requires
-component_at-r-requires c = record { fits = c.requires.fits; i_lt_count = c.loop-k-test.true }
-
-pub component_misplaced-requires : goal.component_misplaced-requires
-component_misplaced-requires c =
-    let sections = c.args.q in
-    let inside = c.loop-k-test.true in
-    let read = c.component_at-r.ensures in
-    record {
-      fits = c.requires.fits;
-      name_lt_count = component_text _ sections _ c.requires.q_value inside read;
-    }
-
-pub returns-then-component_misplaced : goal.returns-then-component_misplaced
-unfolding components_misplaced
-returns-then-component_misplaced c =
-    let tested = c.component_misplaced.ensures ∙ ap (component_misplaced _ _) c.component_at-r.ensures in
-    some_found c.loop-k.invariant c.loop-k-test.true tested c.if-component_misplaced.true
-
-pub loop-k-preserved : goal.loop-k-preserved
-loop-k-preserved c =
-    let tested = c.component_misplaced.ensures ∙ ap (component_misplaced _ _) c.component_at-r.ensures in
-    so_far_next c.loop-k.invariant c.loop-k-test.true tested c.if-component_misplaced.false
+pub any-requires-clause-callable : goal.any-requires-clause-callable
+any-requires-clause-callable c =
+    let s = c.args.q.now.bytes.now in
+    let q = c.args.q.now.sections in
+    let named : (k : ℕ) (r : ComponentRecord) → k < q.components.count → r ≡ component_at s q k → r.name < q.texts.count
+    = λ k r h e. component_text s q k c.requires h e in
+    grind (serving, named)
 
 pub returns : goal.returns
 unfolding components_misplaced
-returns c = none_end c.loop-k.invariant c.loop-k-test.false
+returns c = any_below _ _ refl (λ x b q k. search (rules, tests)) c.any.ensures.ran

@@ -4,7 +4,7 @@ use Rattle.query_check.proofs.parent_good.Goals as goal
 
 pub returns-then-i-eq0 : goal.returns-then-i-eq0
 returns-then-i-eq0 c =
-    let sections = c.args.q in
+    let sections = c.args.q.now.sections in
     let asked = c.args.r in
     let first = c.if-i-eq0.true in
     let name = c.text_of.ensures in
@@ -12,4 +12,4 @@ returns-then-i-eq0 c =
     parent_first _ sections _ asked first name calendar
 
 pub returns-else-i-eq0 : goal.returns-else-i-eq0
-returns-else-i-eq0 c = parent_other _ c.args.q _ c.args.r c.if-i-eq0.false
+returns-else-i-eq0 c = parent_other _ c.args.q.now.sections _ c.args.r c.if-i-eq0.false

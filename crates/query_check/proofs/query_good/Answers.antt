@@ -4,11 +4,11 @@ use Rattle.query_check.proofs.WellFormed.{query_of, query_none}
 use mathlib.Core.Path.{sym, ◌∙◌}
 use Rattle.query_check.proofs.query_good.Goals as goal
 
-pub records_good-requires : goal.records_good-requires
-records_good-requires c = sections_fit _ _ (sym c.sections_of.ensures ∙ c.in-Of.is)
+pub invariant_of-records_good : goal.invariant_of-records_good
+invariant_of-records_good c = record { fits = sections_fit _ _ (sym c.sections_of.ensures ∙ c.in-Some.is) }
 
-pub returns-in-Of : goal.returns-in-Of
-returns-in-Of c = query_of _ (sym c.sections_of.ensures ∙ c.in-Of.is) c.records_good.ensures
+pub returns : goal.returns
+returns c = query_of _ (sym c.sections_of.ensures ∙ c.in-Some.is) c.records_good-good.ensures
 
-pub returns-in-Bad : goal.returns-in-Bad
-returns-in-Bad c = sym (query_none _ (sym c.sections_of.ensures ∙ c.in-Bad.is))
+pub returns-in_default : goal.returns-in_default
+returns-in_default c = sym (query_none _ (sym c.sections_of.ensures ∙ c.in_default.is))

@@ -26,10 +26,9 @@ unfolding byte_of
 loop-i-preserved c =
     let long = c.loop-i.invariant.0 in
     let making = c.loop-i.invariant.1 in
-    let inside = c.loop-i-test.true in
     let folded = c.fold.ensures in
     let stepped = c.step-k.ensures in
-    (simp length-set long, making_next making (omega arith) inside folded stepped)
+    (simp length-set long, making_next making (omega arith) (omega arith) folded stepped)
 
 pub shape_of-table : goal.shape_of-table
 shape_of-table c = c.loop-i.invariant.0
@@ -38,5 +37,5 @@ pub returns : goal.returns
 returns c =
     record {
       table_len_unchanged = c.loop-i.invariant.0;
-      borders = borders_some _ c.loop-i-test.false c.loop-i.invariant.1.so_far;
+      borders = borders_some _ (omega arith) c.loop-i.invariant.1.so_far;
     }

@@ -34,7 +34,7 @@ pub loop-collation-smaller : goal.loop-collation-smaller
 loop-collation-smaller c =
     let trying = c.loop-collation.invariant in
     let some_left = c.if-k-eq0.false in
-    let widened = c.wide-k.ensures in
+    let widened = c.from-k.ensures in
     rw widened (border_less c.requires.borders (omega (arith, trying.most)) some_left)
 
 pub loop-collation-preserved : goal.loop-collation-preserved
@@ -44,5 +44,5 @@ loop-collation-preserved c =
     let folded = c.fold.ensures in
     let differ = c.if-fold-b.false in
     let some_left = c.if-k-eq0.false in
-    let widened = c.wide-k.ensures in
+    let widened = c.from-k.ensures in
     rw widened (trying_next trying c.requires.from_in_bounds (λ e. differ (folded ∙ e)) some_left c.requires.borders (omega arith))

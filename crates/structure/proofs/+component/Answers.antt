@@ -24,40 +24,40 @@ pub overflow_cast-j : goal.overflow_cast-j
 overflow_cast-j t c =
     let step = stepped c.loop-i.invariant c.loop-i-test.true c.line_at-line.ensures c.nesting_step.ensures in
     let opened = reading_opens step c.in-Opens.is c.value-inner.ensures in
-    let row = opened_row opened _ c.component.ensures _ _ c.in-At.is (omega arith) in
+    let row = opened_row opened _ c.component.ensures _ _ c.in-Ok.is (omega arith) in
     omega (arith, row.2, c.requires.ready.many)
 
 pub overflow_cast-m : goal.overflow_cast-m
 overflow_cast-m t c =
     let step = stepped c.loop-i.invariant c.loop-i-test.true c.line_at-line.ensures c.nesting_step.ensures in
     let opened = reading_opens step c.in-Opens.is c.value-inner.ensures in
-    let row = opened_row opened _ c.component.ensures _ _ c.in-At.is (omega arith) in
+    let row = opened_row opened _ c.component.ensures _ _ c.in-Ok.is (omega arith) in
     omega (arith, row.3)
 
 pub put_row-requires : goal.put_row-requires
 put_row-requires t c =
     let step = stepped c.loop-i.invariant c.loop-i-test.true c.line_at-line.ensures c.nesting_step.ensures in
     let opened = reading_opens step c.in-Opens.is c.value-inner.ensures in
-    (opened_row opened _ c.component.ensures _ _ c.in-At.is (omega arith)).0
+    (opened_row opened _ c.component.ensures _ _ c.in-Ok.is (omega arith)).0
 
-pub loop-i-smaller-in-At : goal.loop-i-smaller-in-At
-loop-i-smaller-in-At t c =
+pub loop-i-smaller-in-Ok : goal.loop-i-smaller-in-Ok
+loop-i-smaller-in-Ok t c =
     let step = stepped c.loop-i.invariant c.loop-i-test.true c.line_at-line.ensures c.nesting_step.ensures in
     let opened = reading_opens step c.in-Opens.is c.value-inner.ensures in
-    let row = opened_row opened _ c.component.ensures _ _ c.in-At.is (omega arith) in
+    let row = opened_row opened _ c.component.ensures _ _ c.in-Ok.is (omega arith) in
     omega (arith, c.loop-i-test.true, row.1)
 
-pub loop-i-preserved-in-At : goal.loop-i-preserved-in-At
-loop-i-preserved-in-At t c =
+pub loop-i-preserved-in-Ok : goal.loop-i-preserved-in-Ok
+loop-i-preserved-in-Ok t c =
     let step = stepped c.loop-i.invariant c.loop-i-test.true c.line_at-line.ensures c.nesting_step.ensures in
     let opened = reading_opens step c.in-Opens.is c.value-inner.ensures in
-    opened_closes opened c.component.ensures _ _ c.in-At.is (omega arith) (omega arith) c.kind_of-kind.ensures c.put_row.ensures
+    opened_closes opened c.component.ensures _ _ c.in-Ok.is (omega arith) (omega arith) c.kind_of-kind.ensures c.put_row.ensures
 
-pub returns-in-Broken : goal.returns-in-Broken
-returns-in-Broken t c =
+pub returns-in-Err : goal.returns-in-Err
+returns-in-Err t c =
     let step = stepped c.loop-i.invariant c.loop-i-test.true c.line_at-line.ensures c.nesting_step.ensures in
     let opened = reading_opens step c.in-Opens.is c.value-inner.ensures in
-    opened_breaks opened _ _ c.component.ensures _ c.in-Broken.is
+    opened_breaks opened _ _ c.component.ensures _ c.in-Err.is
 
 pub loop-i-preserved : goal.loop-i-preserved
 loop-i-preserved t c = reading_stays (stepped c.loop-i.invariant c.loop-i-test.true c.line_at-line.ensures c.nesting_step.ensures) c.in-Stays.is

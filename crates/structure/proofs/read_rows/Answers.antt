@@ -41,7 +41,7 @@ component-requires c =
 pub returns-then-j-n : goal.returns-then-j-n
 returns-then-j-n c =
     let read = c.component.ensures in
-    let closed = c.in-At.is in
+    let closed = c.in-Ok.is in
     let more = c.if-j-n.true in
     file_more (file_begun c.requires.lines c.requires.s_len_bound c.if-n-eq0.false c.line_at-line.ensures c.begins_calendar.ensures c.if-not-begins_calendar.false c.value-name.ensures) _ _ read _ _ _ closed more
 
@@ -49,14 +49,14 @@ pub overflow_cast-j : goal.overflow_cast-j
 overflow_cast-j c =
     let few = c.requires.lines.few in
     let read = c.component.ensures in
-    let closed = c.in-At.is in
+    let closed = c.in-Ok.is in
     let last = file_last (file_begun c.requires.lines c.requires.s_len_bound c.if-n-eq0.false c.line_at-line.ensures c.begins_calendar.ensures c.if-not-begins_calendar.false c.value-name.ensures) _ _ read _ _ closed in
     omega (arith, last.0, few, c.requires.s_len_bound)
 
 pub overflow_cast-m : goal.overflow_cast-m
 overflow_cast-m c =
     let read = c.component.ensures in
-    let closed = c.in-At.is in
+    let closed = c.in-Ok.is in
     let last = file_last (file_begun c.requires.lines c.requires.s_len_bound c.if-n-eq0.false c.line_at-line.ensures c.begins_calendar.ensures c.if-not-begins_calendar.false c.value-name.ensures) _ _ read _ _ closed in
     omega (arith, last.1)
 
@@ -65,10 +65,10 @@ returns-else-j-n c =
     file_good
     (file_begun c.requires.lines c.requires.s_len_bound c.if-n-eq0.false c.line_at-line.ensures c.begins_calendar.ensures c.if-not-begins_calendar.false c.value-name.ensures) _ _
     c.component.ensures _ _ _ _
-    c.in-At.is
+    c.in-Ok.is
     c.if-j-n.false
     c.kind_of.ensures
     c.put_row.ensures (omega arith)
 
-pub returns-in-Broken : goal.returns-in-Broken
-returns-in-Broken c = file_inner (file_begun c.requires.lines c.requires.s_len_bound c.if-n-eq0.false c.line_at-line.ensures c.begins_calendar.ensures c.if-not-begins_calendar.false c.value-name.ensures) _ _ c.component.ensures _ _ c.in-Broken.is
+pub returns-in-Err : goal.returns-in-Err
+returns-in-Err c = file_inner (file_begun c.requires.lines c.requires.s_len_bound c.if-n-eq0.false c.line_at-line.ensures c.begins_calendar.ensures c.if-not-begins_calendar.false c.value-name.ensures) _ _ c.component.ensures _ _ c.in-Err.is

@@ -3,10 +3,10 @@ use Rattle.structure.proofs.Reading.{found_structure, found_full}
 use native.Mathlib.Omega.{arith}
 use Rattle.structure.proofs.read_structure.Goals as goal
 
-pub returns-in-Of : goal.returns-in-Of
-returns-in-Of c = found_structure _ _ _ c.find_structure.ensures c.in-Of.is
+pub returns-in-Some : goal.returns-in-Some
+returns-in-Some c = found_structure _ _ _ c.find_structure.ensures c.in-Some.is
 
-pub returns-in-Full : goal.returns-in-Full
-returns-in-Full c =
+pub returns-in-None : goal.returns-in-None
+returns-in-None c =
     let find_structure = c.find_structure.ensures in
-    absurd (omega (arith, c.requires.s_len_bound, found_full _ _ _ find_structure c.in-Full.is))
+    absurd (omega (arith, c.requires.s_len_bound, found_full _ _ _ find_structure c.in-None.is))

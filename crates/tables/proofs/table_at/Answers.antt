@@ -5,4 +5,4 @@ use borrow.Author.Rules.{rules}
 use Rattle.tables.proofs.table_at.Goals as goal
 
 pub returns : goal.returns
-returns c = built_at _ _ _ _ _ _ (omega arith) (omega arith) (search rules) (search rules) c.table_of-t.ensures
+returns c = built_at _ _ _ _ (omega arith) (search rules) c.table_of.ensures

@@ -1,41 +1,34 @@
 -- `tables::table_of` meets its contract: while the loop goes on, what is left of the pieces, added to the table so far, makes the whole table.
 use Rattle.table.specs.Columns.{Passed}
+use Rattle.table.proofs.Spans.{starts_long, ends_even}
 use Rattle.tables.proofs.Building.{building_start, building_asks, building_added, building_passed, building_end}
 use native.Mathlib.Omega.{arith}
 use borrow.Author.Rules.{rules}
 use Rattle.tables.proofs.table_of.Goals as goal
+use Rattle.tables.proofs.table_of.Goals.{then-column-at, else-column-at}
 
 pub loop-i-init : goal.loop-i-init
 unfolding Passed
-loop-i-init c = (building_start _ _ (omega arith), search rules, omega arith)
+loop-i-init c = (building_start _ _ (ends_even c.args.spans.now), search rules)
 
 pub add-t-requires : goal.add-t-requires
 add-t-requires c =
-    let so_far = c.loop-i.invariant in
-    let loop_test_taken = c.loop-i-test.true in
-    let if1_taken = c.if-column-piece.true in
-    record {
-      count_in_bounds = building_asks so_far.0 loop_test_taken (omega arith) (omega (arith, if1_taken)) (omega arith);
-      passed = so_far.2;
-    }
-
-pub loop-i-preserved-then-column-piece : goal.loop-i-preserved-then-column-piece
-loop-i-preserved-then-column-piece c =
-    let so_far = c.loop-i.invariant in
-    let loop_test_taken = c.loop-i-test.true in
-    let if1_taken = c.if-column-piece.true in
-    let add = c.add-t.ensures in
-    let added = building_added so_far.0 loop_test_taken (omega arith) (omega (arith, if1_taken)) add.added in
-    (added (omega arith), omega arith, add.passed_2)
+    let built = c.loop-i.invariant.0 in
+    let room = starts_long c.args.spans.now in
+    let asked = building_asks built c.loop-i-test.true (omega arith) (omega (arith, c.if-column-at.true)) (omega (arith, room)) in
+    record { count_in_bounds = omega (arith, asked.0, starts_long c.loop-i.spans); passed = c.loop-i.invariant.1 }
 
 pub loop-i-preserved : goal.loop-i-preserved
-loop-i-preserved c = (building_passed c.loop-i.invariant.0 c.loop-i-test.true (omega arith) (omega (arith, c.if-column-piece.false)), c.loop-i.invariant.1, c.loop-i.invariant.2)
-
-pub shape_of-starts : goal.shape_of-starts
-shape_of-starts c = c.loop-i.invariant.0.long
-
-pub shape_of-ends : goal.shape_of-ends
-shape_of-ends c = c.loop-i.invariant.1
+loop-i-preserved c =
+    elim c.if-column-at.branch [
+      | then-column-at w ↦
+          let add = w.add-t.ensures in
+          let added = building_added c.loop-i.invariant.0 c.loop-i-test.true (omega arith) (omega (arith, w.if-column-at.true)) add.added in
+          rw (w.spans-is, w.t-is) (added (omega (arith, starts_long w.add-t.new.spans, starts_long c.args.spans.now)), add.passed_2)
+      | else-column-at w ↦
+          let passed = building_passed c.loop-i.invariant.0 c.loop-i-test.true (omega arith) (omega (arith, w.if-column-at.false)) in
+          rw (w.spans-is, w.t-is) (passed, c.loop-i.invariant.1)
+    ]
 
 pub returns : goal.returns
 returns c = building_end c.loop-i.invariant.0 (omega arith)

@@ -1,13 +1,9 @@
-use mathlib.Core.Path.{◌≡◌}
-use Prim.Native.Nat.{◌-◌}
+use Prim.Native.Nat.{◌*◌}
 use lib.ListN.{length}
-use Rattle.table.specs.Tables.{table_of}
+use Rattle.table.specs.Tables.{starts_of, ends_of, table_of}
 use Rattle.table.specs.Columns.{Passed}
 use Rattle.tables.proofs.Building.{Building}
 use Rattle.tables.proofs.table_of.Given as goal
 
 abbrev pub invariant-loop-i : goal.invariant-loop-i
-invariant-loop-i l = Building l.column l.n l.place (length l.initial.starts) (table_of l.t l.starts l.ends) l.i l.at × (length l.ends ≡ length l.initial.ends) × Passed l.t l.ends
-
-abbrev pub decreases-loop-i : goal.decreases-loop-i
-decreases-loop-i l = l.n - l.i
+invariant-loop-i l = Building l.column l.n l.place (length (starts_of l.initial.spans)) (table_of l.t (starts_of l.spans) (ends_of l.spans)) l.i (3 * l.i) × Passed l.t (ends_of l.spans)

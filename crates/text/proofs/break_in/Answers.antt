@@ -16,7 +16,7 @@ loop-k-preserved c =
     let h = c.loop-k-test.true in
     elim c.if-s-at.branch [
       | then-s-at w ↦ scanned_stop p h (omega arith) (omega arith)
-      | else-s-at w ↦ scanned_pass p h w.if-s-at.false (omega arith)
+      | else-s-at w ↦ scanned_pass p h (rw c.from.ensures at w.if-s-at.false) (omega arith)
     ]
 
 pub returns : goal.returns

@@ -14,4 +14,4 @@ pub loop-i-preserved : goal.loop-i-preserved
 loop-i-preserved c = nowhere_next c.loop-i.invariant (omega arith) (sym c.fold_at.ensures ∙ c.if-fold_at.false)
 
 pub returns : goal.returns
-returns c = fold_none c.loop-i.invariant c.loop-i-test.false
+returns c = fold_none c.loop-i.invariant (omega arith)

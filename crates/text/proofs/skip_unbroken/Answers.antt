@@ -10,7 +10,7 @@ pub returns-then-break_at : goal.returns-then-break_at
 returns-then-break_at c = c.loop-i.invariant
 
 pub returns-then-k-lt64 : goal.returns-then-k-lt64
-returns-then-k-lt64 c = nowhere_join c.loop-i.invariant c.break_in-k.ensures
+returns-then-k-lt64 c = rw c.from.ensures (nowhere_join c.loop-i.invariant c.break_in-k.ensures)
 
 pub loop-i-preserved : goal.loop-i-preserved
 loop-i-preserved c = nowhere_join c.loop-i.invariant (nowhere_until _ c.break_in-k.ensures (omega arith) (omega arith))

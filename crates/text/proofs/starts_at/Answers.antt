@@ -7,11 +7,11 @@ use native.Mathlib.Omega.{arith}
 use Rattle.text.proofs.starts_at.Goals as goal
 
 pub loop-i-init : goal.loop-i-init
-loop-i-init c = (omega arith, ap (starts_at _ _ _) (add-zero _))
+loop-i-init c = ap (starts_at _ _ _) (add-zero _)
 
 pub returns-then-fold : goal.returns-then-fold
 returns-then-fold c =
-    let decides = c.loop-i.invariant.1 in
+    let decides = c.loop-i.invariant in
     let inside = c.loop-i-test.true in
     let value_folded = c.fold.ensures in
     let text_folded = c.fold-in-loop-i.ensures in
@@ -20,12 +20,12 @@ returns-then-fold c =
 
 pub loop-i-preserved : goal.loop-i-preserved
 loop-i-preserved c =
-    let decides = c.loop-i.invariant.1 in
+    let decides = c.loop-i.invariant in
     let inside = c.loop-i-test.true in
     let value_folded = c.fold.ensures in
     let text_folded = c.fold-in-loop-i.ensures in
     let same = c.if-fold.false in
-    (omega arith, starts_at_next _ _ _ _ _ inside (omega arith) (sym value_folded ∙ same ∙ text_folded) ∙ decides)
+    starts_at_next _ _ _ _ _ inside (omega arith) (sym value_folded ∙ same ∙ text_folded) ∙ decides
 
 pub returns : goal.returns
-returns c = sym (starts_at_end _ _ _ _ _ c.loop-i-test.false) ∙ c.loop-i.invariant.1
+returns c = sym (starts_at_end _ _ _ _ _ c.loop-i-test.false) ∙ c.loop-i.invariant

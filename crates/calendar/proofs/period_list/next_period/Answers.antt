@@ -16,14 +16,14 @@ slice_bounds-read_period-start c = omega (arith, item_rises _ _ _ _ c.find-e.ens
 pub slice_bounds-read_period-end : goal.slice_bounds-read_period-end
 slice_bounds-read_period-end c = omega (arith, item_rises _ _ _ _ c.find-e.ensures, item_inside 44 _ _ _ (omega (arith, c.loop-at-test.true)) c.find-e.ensures)
 
-pub returns-in-Of : goal.returns-in-Of
-returns-in-Of c =
+pub returns-in-Some : goal.returns-in-Some
+returns-in-Some c =
     let leaving = c.loop-at.invariant in
     let inside = c.loop-at-test.true in
     let next = c.find-e.ensures in
     let behind = c.place_behind-next.ensures in
     let read = c.read_period.ensures in
-    let period = c.in-Of.is in
+    let period = c.in-Some.is in
     leaving_found leaving inside next behind read _ period
 
 pub loop-at-smaller : goal.loop-at-smaller
@@ -41,7 +41,7 @@ loop-at-preserved c =
     let next = c.find-e.ensures in
     let behind = c.place_behind-next.ensures in
     let read = c.read_period.ensures in
-    let no_period = c.in-Bad.is in
+    let no_period = c.in-None.is in
     leaving_bad leaving inside next behind read no_period
 
 pub returns : goal.returns

@@ -1,16 +1,14 @@
--- `cli::arguments::with_digit` meets its contract: the bound on the number is the bound on the product and sum, turned by a division.
-use Rattle.cli.proofs.ArgumentsLaws.{digit_low, digit_high, digit_large, digit_of}
+-- `cli::arguments::with_digit` meets its contract: what the checked product and sum say is what the bound of the definition says.
+use mathlib.Core.Path.{◌∙◌}
 use native.Mathlib.Omega.{arith}
+use Rattle.cli.proofs.ArgumentsLaws.{digit_less, digit_large, digit_sum}
 use Rattle.cli.proofs.arguments.with_digit.Goals as goal
 
-pub returns-then-b-lt48 : goal.returns-then-b-lt48
-returns-then-b-lt48 c = digit_low _ _ c.if-b-lt48.true
+pub returns-then-not-is_ascii_digit : goal.returns-then-not-is_ascii_digit
+returns-then-not-is_ascii_digit c = digit_less _ _ c.if-not-is_ascii_digit.ensures.cases
 
-pub returns-then-b-gt57 : goal.returns-then-b-gt57
-returns-then-b-gt57 c = digit_high _ _ c.if-b-gt57.true
-
-pub returns-then-d-n : goal.returns-then-d-n
-returns-then-d-n c = digit_large _ _ (omega arith)
+pub returns-in_err-checked_mul : goal.returns-in_err-checked_mul
+returns-in_err-checked_mul c = c.from_residual.ensures ∙ digit_large _ _ (omega (arith, c.in_err-checked_mul.ensures))
 
 pub returns : goal.returns
-returns c = digit_of _ _ (omega arith) (omega arith) (omega arith)
+returns c = digit_sum _ _ _ c.if-not-is_ascii_digit.ensures.cases c.in_ok-checked_mul.ensures.1 c.from.ensures c.checked_add.ensures

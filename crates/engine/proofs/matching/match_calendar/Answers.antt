@@ -16,7 +16,6 @@ match_unfolded-requires c =
     let unfolded = c.unfold_into-n.ensures in
     record {
       s_len_bound = omega (arith, unfolded_small unfolded c.requires.cal_len_bound, unfolded_long unfolded);
-      fits = c.requires.fits;
       q_value = c.requires.q_value;
       context_good = c.requires.context_good;
     }

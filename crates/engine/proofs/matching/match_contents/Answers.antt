@@ -5,9 +5,8 @@ use Rattle.engine.proofs.matching.match_contents.Goals as goal
 pub match_excepted-requires : goal.match_excepted-requires
 match_excepted-requires c =
     record {
-      s_len_bound = (omega (arith, c.if-s-le8192.true), omega arith);
+      s_len_bound = (omega (arith, c.if-cal-le8192.true), omega arith);
       file_rows = c.requires.file_rows;
-      fits = c.requires.fits;
       q_value = c.requires.q_value;
       context_good = c.requires.context_good;
     }
@@ -17,7 +16,6 @@ match_excepted-requires-2 c =
     record {
       s_len_bound = (omega (arith, c.requires.s_len_bound), omega arith);
       file_rows = c.requires.file_rows;
-      fits = c.requires.fits;
       q_value = c.requires.q_value;
       context_good = c.requires.context_good;
     }

@@ -1,10 +1,14 @@
 -- `engine::matching::match_excepted` meets its contract: what both walks answer is a refusal of 8 to 10, or the rows by which the filter is asked.
+use mathlib.Core.Path.{◌∙◌, ap, sym}
+use Rattle.contents.proofs.WalksLaws.{walks_pass, walks_refuse}
+use Rattle.engine.specs.Answers.{outcome_of}
+use Rattle.engine.proofs.Answers.{answer_up}
 use Rattle.engine.proofs.MatchStages.{contents_refusal, contents_verdict}
 use native.Mathlib.Omega.{arith}
 use Rattle.engine.proofs.matching.match_excepted.Goals as goal
 
-pub read_components-read-requires : goal.read_components-read-requires
-read_components-read-requires c =
+pub read_components-requires : goal.read_components-requires
+read_components-requires c =
     record {
       room = omega arith;
       entries_len = omega arith;
@@ -17,20 +21,21 @@ read_components-read-requires c =
 
 pub file_holds-holds-requires : goal.file_holds-holds-requires
 file_holds-holds-requires c =
-    let told = c.read_components-read.ensures in
-    let none = c.in-None.is in
+    let told = walks_pass c.read_components.ensures _ c.in_ok-read_components.was in
     record {
-      fits = c.requires.fits;
       q_value = c.requires.q_value;
       context_good = c.requires.context_good;
       file_rows = c.requires.file_rows;
-      entry_rows = told.entries none;
-      removable = told.removable none;
+      entry_rows = told.entries;
+      removable = told.removable;
       exceptions_len_bound = omega (arith, c.exceptions-1.given, c.requires.s_len_bound.1);
     }
 
-pub returns-in-At : goal.returns-in-At
-returns-in-At c = contents_refusal c.read_components-read.ensures _ _ c.in-At.is
+pub returns-in_err-read_components : goal.returns-in_err-read_components
+returns-in_err-read_components c =
+    ap outcome_of (sym (answer_up _ c.from_residual.ensures.1)) ∙ contents_refusal _ _ _ _ (walks_refuse c.read_components.ensures _ c.in_err-read_components.was)
 
-pub returns-in-None : goal.returns-in-None
-returns-in-None c = contents_verdict c.read_components-read.ensures _ _ c.in-None.is c.file_holds-holds.ensures
+pub returns : goal.returns
+returns c =
+    let told = walks_pass c.read_components.ensures _ c.in_ok-read_components.was in
+    contents_verdict _ _ _ _ told.no_fault c.file_holds-holds.ensures

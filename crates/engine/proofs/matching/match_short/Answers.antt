@@ -7,7 +7,6 @@ match_indexed-requires c =
     record {
       s_len_bound = omega (arith, c.requires.s_len_bound);
       s_len_bound_2 = omega (arith, c.requires.s_len_bound);
-      fits = c.requires.fits;
       q_value = c.requires.q_value;
       context_good = c.requires.context_good;
     }

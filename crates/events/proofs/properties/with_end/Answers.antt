@@ -4,4 +4,4 @@ use Rattle.events.proofs.properties.with_end.Goals as goal
 
 pub returns : goal.returns
 unfolding with_property
-returns c = simp (c.with_span.ensures, c.time_given.ensures)
+returns c = simp (c.with_span.ensures, c.is_some.ensures)

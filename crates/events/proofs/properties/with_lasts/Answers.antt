@@ -4,4 +4,4 @@ use Rattle.events.proofs.properties.with_lasts.Goals as goal
 
 pub returns : goal.returns
 unfolding with_property
-returns c = simp (c.with_span.ensures, c.duration_given.ensures)
+returns c = simp (c.with_span.ensures, c.is_some.ensures)

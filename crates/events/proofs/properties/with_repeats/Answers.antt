@@ -4,4 +4,4 @@ use Rattle.events.proofs.properties.with_repeats.Goals as goal
 
 pub returns : goal.returns
 unfolding with_property
-returns c = simp c.rule_given.ensures
+returns c = simp c.is_some.ensures

@@ -4,4 +4,4 @@ use Rattle.events.proofs.properties.with_status.Goals as goal
 
 pub returns : goal.returns
 unfolding with_property
-returns c = simp (c.with_busy.ensures, c.status_given.ensures)
+returns c = simp (c.with_busy.ensures, c.is_some.ensures)

@@ -4,4 +4,4 @@ use Rattle.events.proofs.rows.block_at.Goals as goal
 
 pub returns : goal.returns
 unfolding block_at
-returns c = simp (c.bound_of-start.ensures, c.bound_of-end.ensures)
+returns c = simp (c.bound_of.ensures, c.bound_of-2.ensures)

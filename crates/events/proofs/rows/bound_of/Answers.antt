@@ -1,12 +1,9 @@
--- `events::rows::bound_of` meets its contract: each way out is one case of the definition, by the numbers that were not met before it.
-use borrow.Author.Tests.{ne_eqb}
+-- `events::rows::bound_of` meets its contract: the test is that of the definition.
 use Rattle.events.specs.EntryRows.{bound_of}
+use mathlib.Core.Path.{◌∙◌}
+use Rattle.events.proofs.EntryRows.{given_then}
 use Rattle.events.proofs.rows.bound_of.Goals as goal
-
-pub returns-then-tag-eq0 : goal.returns-then-tag-eq0
-unfolding bound_of
-returns-then-tag-eq0 c = rw c.if-tag-eq0.true
 
 pub returns : goal.returns
 unfolding bound_of
-returns c = rw (ne_eqb _ _ c.if-tag-eq0.false)
+returns c = c.then_some.ensures ∙ given_then _ _

@@ -1,20 +1,21 @@
--- `events::rows::busy_of` meets its contract: each way out is one case of the definition, by the numbers that were not met before it.
+-- `events::rows::busy_of` meets its contract: each arm is one case of the definition, by the numbers that were not met before it.
 use borrow.Author.Tests.{ne_eqb}
+use native.Mathlib.Omega.{arith}
 use Rattle.events.specs.EntryRows.{busy_of}
 use Rattle.events.proofs.rows.busy_of.Goals as goal
 
-pub returns-then-place-eq0 : goal.returns-then-place-eq0
+pub returns-in-0 : goal.returns-in-0
 unfolding busy_of
-returns-then-place-eq0 c = rw c.if-place-eq0.true
+returns-in-0 c = rw c.in-0.is
 
-pub returns-then-place-eq1 : goal.returns-then-place-eq1
+pub returns-in-1 : goal.returns-in-1
 unfolding busy_of
-returns-then-place-eq1 c = rw (ne_eqb _ _ c.if-place-eq0.false, c.if-place-eq1.true)
+returns-in-1 c = rw c.in-1.is
 
-pub returns-then-place-eq2 : goal.returns-then-place-eq2
+pub returns-in-2 : goal.returns-in-2
 unfolding busy_of
-returns-then-place-eq2 c = rw (ne_eqb _ _ c.if-place-eq0.false, ne_eqb _ _ c.if-place-eq1.false, c.if-place-eq2.true)
+returns-in-2 c = rw c.in-2.is
 
-pub returns : goal.returns
+pub returns-in_default : goal.returns-in_default
 unfolding busy_of
-returns c = rw (ne_eqb _ _ c.if-place-eq0.false, ne_eqb _ _ c.if-place-eq1.false, ne_eqb _ _ c.if-place-eq2.false)
+returns-in_default c = rw (ne_eqb c.args.place 0 (λ h. omega (arith, h)), ne_eqb c.args.place 1 (λ h. omega (arith, h)), ne_eqb c.args.place 2 (λ h. omega (arith, h)))

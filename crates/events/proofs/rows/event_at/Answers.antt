@@ -6,8 +6,8 @@ pub returns : goal.returns
 unfolding event_at
 returns c =
     simp (
-      c.kind_of-kind.ensures,
-      c.ending_of-ending.ensures,
-      c.repeat_of-repeat.ensures,
-      c.busy_of-busy.ensures,
+      c.kind_of.ensures,
+      c.from.ensures,
+      c.from-2.ensures,
+      c.busy_of.ensures,
     )

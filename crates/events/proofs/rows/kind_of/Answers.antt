@@ -1,16 +1,17 @@
--- `events::rows::kind_of` meets its contract: each way out is one case of the definition, by the numbers that were not met before it.
+-- `events::rows::kind_of` meets its contract: each arm is one case of the definition, by the numbers that were not met before it.
 use borrow.Author.Tests.{ne_eqb}
+use native.Mathlib.Omega.{arith}
 use Rattle.events.specs.EntryRows.{kind_of}
 use Rattle.events.proofs.rows.kind_of.Goals as goal
 
-pub returns-then-tag-eq0 : goal.returns-then-tag-eq0
+pub returns-in-0 : goal.returns-in-0
 unfolding kind_of
-returns-then-tag-eq0 c = rw c.if-tag-eq0.true
+returns-in-0 c = rw c.in-0.is
 
-pub returns-then-tag-eq1 : goal.returns-then-tag-eq1
+pub returns-in-1 : goal.returns-in-1
 unfolding kind_of
-returns-then-tag-eq1 c = rw (ne_eqb _ _ c.if-tag-eq0.false, c.if-tag-eq1.true)
+returns-in-1 c = rw c.in-1.is
 
-pub returns : goal.returns
+pub returns-in_default : goal.returns-in_default
 unfolding kind_of
-returns c = rw (ne_eqb _ _ c.if-tag-eq0.false, ne_eqb _ _ c.if-tag-eq1.false)
+returns-in_default c = rw (ne_eqb c.args.tag 0 (λ h. omega (arith, h)), ne_eqb c.args.tag 1 (λ h. omega (arith, h)))

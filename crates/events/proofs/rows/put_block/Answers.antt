@@ -6,4 +6,4 @@ pub returns : goal.returns
 returns c =
     put_as
     c.put_row.ensures
-    (block_numbers _ c.bound_numbers-from.ensures c.bound_numbers-to.ensures)
+    (block_numbers _ c.from-from.ensures c.from-to.ensures)

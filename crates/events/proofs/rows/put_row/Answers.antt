@@ -1,16 +1,7 @@
--- `events::rows::put_row` meets its contract: the loop keeps that the first p numbers stand at their places and all outside the row are as they were.
-use Rattle.ascii.proofs.Rows.{putting_start, putting_next}
-use Rattle.events.proofs.EntryRows.{putting_end}
+-- `events::rows::put_row` meets its contract: the twelve numbers stand in the part that was copied to, and all outside it are as they were.
+use Rattle.events.proofs.EntryRows.{row_put}
+use native.Mathlib.Omega.{arith}
 use Rattle.events.proofs.rows.put_row.Goals as goal
 
-pub loop-p-init : goal.loop-p-init
-loop-p-init c = putting_start _ _ _ _
-
-pub loop-p-preserved : goal.loop-p-preserved
-loop-p-preserved c = putting_next c.loop-p.invariant c.requires c.loop-p-test.true
-
-pub shape_of-column : goal.shape_of-column
-shape_of-column c = c.loop-p.invariant.long
-
 pub returns : goal.returns
-returns c = putting_end c.loop-p.invariant c.loop-p-test.false
+returns c = row_put _ _ _ _ _ (omega arith) (omega arith) c.copy_from_slice.ensures.len c.copy_from_slice.ensures.after

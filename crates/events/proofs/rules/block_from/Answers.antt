@@ -1,19 +1,14 @@
--- `events::rules::block_from` meets its contract: each arm is one clause of the definition.
-use Rattle.events.specs.Events.{block_from}
+-- `events::rules::block_from` meets its contract: where both are given the test is that of the definition.
+use mathlib.Core.Path.{◌∙◌}
+use Rattle.std.proofs.Common.{rules}
+use Rattle.events.proofs.Events.{bound_of, both_given, start_given, no_start}
 use Rattle.events.proofs.rules.block_from.Goals as goal
 
-pub returns-in-Absent-end : goal.returns-in-Absent-end
-unfolding block_from
-returns-in-Absent-end c = simp (c.in-Absent-end.is, c.in-Absent.is)
+pub returns-in-Some-Some : goal.returns-in-Some-Some
+returns-in-Some-Some c = c.then_some.ensures ∙ both_given _ _ _ _ c.in-Some-Some.is-0 c.in-Some-Some.is-1 (bound_of _ _ c.map.ensures.cases (λ t n q. search rules)) (bound_of _ _ c.map-2.ensures.cases (λ t n q. search rules))
 
-pub returns-in-Given-end : goal.returns-in-Given-end
-unfolding block_from
-returns-in-Given-end c = simp (c.in-Given-end.is, c.in-Absent.is)
+pub returns-in_default : goal.returns-in_default
+returns-in_default c = start_given _ _ _ c.in_default.is-0 c.in_default.is-1 (bound_of _ _ c.map.ensures.cases (λ t n q. search rules)) (bound_of _ _ c.map-2.ensures.cases (λ t n q. search rules))
 
-pub returns-in-Absent-end-2 : goal.returns-in-Absent-end-2
-unfolding block_from
-returns-in-Absent-end-2 c = simp (c.in-Absent-end-2.is, c.in-Given.is)
-
-pub returns-in-Given-end-2 : goal.returns-in-Given-end-2
-unfolding block_from
-returns-in-Given-end-2 c = simp (c.block_between.ensures, c.in-Given-end-2.is, c.in-Given.is)
+pub returns-in_default-2 : goal.returns-in_default-2
+returns-in_default-2 c = no_start _ _ _ c.in_default.is-0 (bound_of _ _ c.map.ensures.cases (λ t n q. search rules)) (bound_of _ _ c.map-2.ensures.cases (λ t n q. search rules))

@@ -1,15 +1,10 @@
--- `events::rules::busy_by` meets its contract: each arm is one clause of the definition.
-use Rattle.events.specs.Events.{busy_by}
+-- `events::rules::busy_by` meets its contract: TRANSP that is not given is not TRANSPARENT.
+use mathlib.Core.Path.{sym, ◌∙◌}
+use Rattle.events.proofs.Events.{busy_said}
 use Rattle.events.proofs.rules.busy_by.Goals as goal
 
-pub returns-in-Absent : goal.returns-in-Absent
-unfolding busy_by
-returns-in-Absent c = simp (c.busy_by_status.ensures, c.in-Absent.is)
+pub returns-then-unwrap_or : goal.returns-then-unwrap_or
+returns-then-unwrap_or c = (busy_said _ _).0 (sym c.unwrap_or.ensures ∙ c.if-unwrap_or.true)
 
-pub returns-then-x : goal.returns-then-x
-unfolding busy_by
-returns-then-x c = simp (c.if-x.true, c.in-Given.is)
-
-pub returns-else-x : goal.returns-else-x
-unfolding busy_by
-returns-else-x c = simp (c.busy_by_status-else-x.ensures, c.if-x.false, c.in-Given.is)
+pub returns-else-unwrap_or : goal.returns-else-unwrap_or
+returns-else-unwrap_or c = c.busy_by_status.ensures ∙ (busy_said _ _).1 (sym c.unwrap_or.ensures ∙ c.if-unwrap_or.false)

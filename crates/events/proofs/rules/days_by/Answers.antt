@@ -1,11 +1,7 @@
--- `events::rules::days_by` meets its contract: each arm is one clause of the definition.
-use Rattle.events.specs.Events.{days_by}
+-- `events::rules::days_by` meets its contract: it is the number of the rule that is given.
+use Rattle.std.proofs.Common.{rules}
+use Rattle.events.proofs.Events.{days_said}
 use Rattle.events.proofs.rules.days_by.Goals as goal
 
-pub returns-in-Absent : goal.returns-in-Absent
-unfolding days_by
-returns-in-Absent c = simp c.in-Absent.is
-
-pub returns-in-Given : goal.returns-in-Given
-unfolding days_by
-returns-in-Given c = simp c.in-Given.is
+pub returns : goal.returns
+returns c = days_said _ _ c.map_or.ensures (λ x q. search rules)

@@ -2,18 +2,18 @@
 use Rattle.events.specs.Events.{ending_by}
 use Rattle.events.proofs.rules.ending_by.Goals as goal
 
-pub returns-in-Absent-lasts : goal.returns-in-Absent-lasts
+pub returns-in-None-lasts : goal.returns-in-None-lasts
 unfolding ending_by
-returns-in-Absent-lasts c = simp (c.in-Absent-lasts.is, c.in-Absent.is)
+returns-in-None-lasts c = simp (c.in-None-lasts.is, c.in-None.is)
 
-pub returns-in-Given-lasts : goal.returns-in-Given-lasts
+pub returns-in-Some-lasts : goal.returns-in-Some-lasts
 unfolding ending_by
-returns-in-Given-lasts c = simp (c.stated_duration.ensures, c.in-Given-lasts.is, c.in-Absent.is)
+returns-in-Some-lasts c = simp (c.stated_duration.ensures, c.in-Some-lasts.is, c.in-None.is)
 
-pub returns-in-Absent-lasts-2 : goal.returns-in-Absent-lasts-2
+pub returns-in-None-lasts-2 : goal.returns-in-None-lasts-2
 unfolding ending_by
-returns-in-Absent-lasts-2 c = simp (c.stated_end.ensures, c.in-Absent-lasts-2.is, c.in-Given.is)
+returns-in-None-lasts-2 c = simp (c.stated_end.ensures, c.in-None-lasts-2.is, c.in-Some.is)
 
-pub returns-in-Given-lasts-2 : goal.returns-in-Given-lasts-2
+pub returns-in-Some-lasts-2 : goal.returns-in-Some-lasts-2
 unfolding ending_by
-returns-in-Given-lasts-2 c = simp (c.in-Given-lasts-2.is, c.in-Given.is)
+returns-in-Some-lasts-2 c = simp (c.in-Some-lasts-2.is, c.in-Some.is)

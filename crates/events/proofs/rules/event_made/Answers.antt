@@ -4,4 +4,4 @@ use Rattle.events.proofs.rules.event_made.Goals as goal
 
 pub returns : goal.returns
 unfolding event_made
-returns c = simp (c.busy_by-busy.ensures, c.interval_by-interval.ensures, c.days_by-days.ensures)
+returns c = simp (c.busy_by.ensures, c.interval_by.ensures, c.days_by.ensures)

@@ -1,11 +1,7 @@
--- `events::rules::interval_by` meets its contract: each arm is one clause of the definition.
-use Rattle.events.specs.Events.{interval_by}
+-- `events::rules::interval_by` meets its contract: it is the number of the rule that is given.
+use Rattle.std.proofs.Common.{rules}
+use Rattle.events.proofs.Events.{interval_said}
 use Rattle.events.proofs.rules.interval_by.Goals as goal
 
-pub returns-in-Absent : goal.returns-in-Absent
-unfolding interval_by
-returns-in-Absent c = simp c.in-Absent.is
-
-pub returns-in-Given : goal.returns-in-Given
-unfolding interval_by
-returns-in-Given c = simp c.in-Given.is
+pub returns : goal.returns
+returns c = interval_said _ _ c.map_or.ensures (λ x q. search rules)

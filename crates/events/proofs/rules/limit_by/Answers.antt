@@ -1,6 +1,7 @@
 -- `events::rules::limit_by` meets its contract: each arm is one clause of the definition.
+use mathlib.Core.Path.{sym, ◌∙◌}
 use Rattle.events.specs.Events.{limit_by}
-use Rattle.events.proofs.Events.{until_not_before, until_before}
+use Rattle.events.proofs.Events.{times_alike}
 use Rattle.events.proofs.rules.limit_by.Goals as goal
 
 pub returns-in-Forever : goal.returns-in-Forever
@@ -11,8 +12,10 @@ pub returns-in-Count : goal.returns-in-Count
 unfolding limit_by
 returns-in-Count c = simp c.in-Count.is
 
-pub returns-then-same_kind-from : goal.returns-then-same_kind-from
-returns-then-same_kind-from c = until_not_before _ _ c.in-Until.is c.same_kind.ensures c.if-same_kind-from.true
+pub returns-then-eq-s : goal.returns-then-eq-s
+unfolding limit_by
+returns-then-eq-s c = rw (c.in-Until.is, sym (times_alike c.in-Until.t c.args.s) ∙ sym c.eq.ensures, c.if-eq-s.true)
 
-pub returns-else-same_kind-from : goal.returns-else-same_kind-from
-returns-else-same_kind-from c = until_before _ _ c.in-Until.is c.same_kind.ensures c.if-same_kind-from.false
+pub returns-else-eq-s : goal.returns-else-eq-s
+unfolding limit_by
+returns-else-eq-s c = rw (c.in-Until.is, sym (times_alike c.in-Until.t c.args.s) ∙ sym c.eq.ensures, c.if-eq-s.false)

@@ -2,10 +2,10 @@
 use Rattle.events.specs.Events.{repeat_by}
 use Rattle.events.proofs.rules.repeat_by.Goals as goal
 
-pub returns-in-Absent : goal.returns-in-Absent
+pub returns-in-None : goal.returns-in-None
 unfolding repeat_by
-returns-in-Absent c = simp c.in-Absent.is
+returns-in-None c = simp c.in-None.is
 
-pub returns-in-Given : goal.returns-in-Given
+pub returns-in-Some : goal.returns-in-Some
 unfolding repeat_by
-returns-in-Given c = simp (c.limit_by.ensures, c.in-Given.is)
+returns-in-Some c = simp (c.limit_by.ensures, c.in-Some.is)

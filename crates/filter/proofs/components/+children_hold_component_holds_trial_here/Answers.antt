@@ -21,17 +21,14 @@ children_hold-loop-i-init t c = descending_start _ _ _ _ _ _ c.requires.from_le_
 
 pub children_hold-component_at-r-requires : goal.children_hold-component_at-r-requires
 children_hold-component_at-r-requires t c =
-    record {
-      fits = c.requires.fits;
-      i_lt_count = c.loop-i-test.true;
-    }
+    c.loop-i-test.true
 
 pub children_hold-component_holds-requires : goal.children_hold-component_holds-requires
 children_hold-component_holds-requires t c =
     let next = c.next_row-end.ensures in
     let onward = c.loop-i.invariant.onward in
     let inside = c.loop-i-test.true in
-    (omega (arith, c.decreases, inside, onward), (c.requires.fits, (c.requires.q_value, (inside, (c.requires.context_good, (c.requires.given, (c.requires.removed_rows, inner_among c.requires.here next)))))))
+    (omega (arith, c.decreases, inside, onward), (c.requires.q_value, (inside, (c.requires.context_good, (c.requires.given, (c.requires.removed_rows, inner_among c.requires.here next))))))
 
 pub children_hold-returns-then-not-component_holds : goal.children_hold-returns-then-not-component_holds
 children_hold-returns-then-not-component_holds t c =
@@ -68,17 +65,11 @@ children_hold-returns t c = descending_end _ _ _ _ _ c.loop-i.invariant c.loop-i
 
 pub component_holds-component_at-r-requires : goal.component_holds-component_at-r-requires
 component_holds-component_at-r-requires t c =
-    record {
-      fits = c.requires.fits;
-      i_lt_count = c.requires.j_lt_count;
-    }
+    c.requires.j_lt_count
 
 pub component_holds-text_of-name-requires : goal.component_holds-text_of-name-requires
 component_holds-text_of-name-requires t c =
-    record {
-      fits = c.requires.fits;
-      n_lt_count = component_name _ _ _ c.requires.q_value c.requires.j_lt_count c.component_at-r.ensures;
-    }
+    component_name _ _ _ c.requires.q_value c.requires.j_lt_count c.component_at-r.ensures
 
 pub component_holds-some_component_named-requires : goal.component_holds-some_component_named-requires
 component_holds-some_component_named-requires t c =
@@ -112,15 +103,12 @@ pub component_holds-trial_here-t-requires : goal.component_holds-trial_here-t-re
 component_holds-trial_here-t-requires t c = (
   omega (arith, c.decreases, c.requires.j_lt_count),
   (
-    c.requires.fits,
+    c.requires.q_value,
     (
-      c.requires.q_value,
+      c.requires.j_lt_count,
       (
-        c.requires.j_lt_count,
-        (
-          record_name _ _ _ c.component_at-r.ensures c.text_of-name.ensures,
-          (c.requires.context_good, (c.requires.given, (c.requires.removed_rows, beside_file c.search.invariant c.if-end-row.false c.requires.among.within))),
-        ),
+        record_name _ _ _ c.component_at-r.ensures c.text_of-name.ensures,
+        (c.requires.context_good, (c.requires.given, (c.requires.removed_rows, beside_file c.search.invariant c.if-end-row.false c.requires.among.within))),
       ),
     ),
   ),
@@ -191,7 +179,6 @@ component_holds-returns t c =
 pub trial_here-alone_holds-requires : goal.trial_here-alone_holds-requires
 trial_here-alone_holds-requires t c =
     record {
-      fits = c.requires.fits;
       q_value = c.requires.q_value;
       j_lt_count = c.requires.j_lt_count;
       name_value = c.requires.name_value;
@@ -202,24 +189,20 @@ trial_here-alone_holds-requires t c =
 
 pub trial_here-overflow_add-j : goal.trial_here-overflow_add-j
 trial_here-overflow_add-j t c =
-    let few = c.requires.fits.components_few in
+    let few = c.args.q.now.fits.components_few in
     omega (arith, c.requires.j_lt_count, few)
 
 pub trial_here-children_hold-requires : goal.trial_here-children_hold-requires
 trial_here-children_hold-requires t c =
-    (omega (arith, c.decreases, c.requires.j_lt_count), (c.requires.fits, (c.requires.q_value, (omega (arith, c.requires.j_lt_count), (c.requires.context_good, (c.requires.given, (c.requires.removed_rows, c.requires.here)))))))
+    (omega (arith, c.decreases, c.requires.j_lt_count), (c.requires.q_value, (omega (arith, c.requires.j_lt_count), (c.requires.context_good, (c.requires.given, (c.requires.removed_rows, c.requires.here))))))
 
 pub trial_here-component_at-r-requires : goal.trial_here-component_at-r-requires
 trial_here-component_at-r-requires t c =
-    record {
-      fits = c.requires.fits;
-      i_lt_count = c.requires.j_lt_count;
-    }
+    c.requires.j_lt_count
 
 pub trial_here-trial_of-requires : goal.trial_here-trial_of-requires
 trial_here-trial_of-requires t c =
     record {
-      fits = c.requires.fits;
       q_value = c.requires.q_value;
       r_le_count = component_range _ _ _ c.requires.q_value c.requires.j_lt_count c.component_at-r.ensures;
       context_good = c.requires.context_good;

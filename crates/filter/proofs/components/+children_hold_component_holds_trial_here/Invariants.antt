@@ -10,16 +10,16 @@ use Rattle.filter.proofs.components.+children_hold_component_holds_trial_here.Gi
 
 -- the records that are left, three steps for each
 abbrev pub decreases-children_hold : goal.decreases-children_hold
-decreases-children_hold l = (l.q.components.count - l.from) * 3 + 1
+decreases-children_hold l = (l.q.now.sections.components.count - l.from) * 3 + 1
 
 abbrev pub decreases-component_holds : goal.decreases-component_holds
-decreases-component_holds l = (l.q.components.count - l.j) * 3
+decreases-component_holds l = (l.q.now.sections.components.count - l.j) * 3
 
 abbrev pub decreases-trial_here : goal.decreases-trial_here
-decreases-trial_here l = (l.q.components.count - l.j) * 3 - 1
+decreases-trial_here l = (l.q.now.sections.components.count - l.j) * 3 - 1
 
 abbrev pub invariant-children_hold-loop-i : goal.invariant-children_hold-loop-i
-invariant-children_hold-loop-i l = Descending (whole_of l.c (tree_in l.s)) l.query l.q l.parent (components_by l.s l.rows (l.k + 1) (get_or l.rows (4 * l.k + 2) 0)) l.from l.i
+invariant-children_hold-loop-i l = Descending (whole_of l.c (tree_in l.cal.text.now)) l.q.bytes.now l.q.sections l.parent (components_by l.cal.text.now l.cal.rows.now (l.k + 1) (get_or l.cal.rows.now (4 * l.k + 2) 0)) l.from l.i
 
 abbrev pub decreases-children_hold-loop-i : goal.decreases-children_hold-loop-i
 decreases-children_hold-loop-i l = l.n - l.i
@@ -31,7 +31,7 @@ abbrev pub decreases-component_holds-loop-gone : goal.decreases-component_holds-
 decreases-component_holds-loop-gone l = instances_at_most - l.k
 
 abbrev pub invariant-component_holds-search : goal.invariant-component_holds-search
-invariant-component_holds-search l = Beside (some_here (whole_of l.c (tree_in l.s)) l.query l.q l.j) l.s l.rows l.first l.end l.row
+invariant-component_holds-search l = Beside (some_here (whole_of l.c (tree_in l.cal.text.now)) l.q.bytes.now l.q.sections l.j) l.cal.text.now l.cal.rows.now l.first l.end l.row
 
 abbrev pub decreases-component_holds-search : goal.decreases-component_holds-search
 decreases-component_holds-search l = l.end - l.row

@@ -15,15 +15,11 @@ returns-then-not-is_called c = alone_other _ _ _ _ _ _ _ c.requires.name_value c
 
 pub component_at-r-requires : goal.component_at-r-requires
 component_at-r-requires c =
-    record {
-      fits = c.requires.fits;
-      i_lt_count = c.requires.j_lt_count;
-    }
+    c.requires.j_lt_count
 
 pub ruled_out-requires : goal.ruled_out-requires
 ruled_out-requires c =
     record {
-      fits = c.requires.fits;
       q_value = c.requires.q_value;
       r_le_count = component_range _ _ _ c.requires.q_value c.requires.j_lt_count c.component_at-r.ensures;
       row_small = c.requires.row_small;
@@ -40,7 +36,6 @@ returns-then-ruled_out c =
 pub properties_hold-requires : goal.properties_hold-requires
 properties_hold-requires c =
     record {
-      fits = c.requires.fits;
       q_value = c.requires.q_value;
       indexed = c.requires.indexed;
       row_of = c.requires.row_of;

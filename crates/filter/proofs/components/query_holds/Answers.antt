@@ -9,9 +9,8 @@ next_row-end-requires c = file_room c.requires.file_rows
 pub component_holds-requires : goal.component_holds-requires
 component_holds-requires c =
     record {
-      fits = c.requires.fits;
       q_value = c.requires.q_value;
-      j_lt_count = first_record c.requires.fits;
+      j_lt_count = first_record c.args.q.now.fits;
       context_good = c.requires.context_good;
       given = file_given c.requires.file_rows c.requires.entry_rows;
       removed_rows = c.requires.removed_rows;

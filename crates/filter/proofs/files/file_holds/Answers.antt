@@ -15,7 +15,6 @@ pub query_holds-requires : goal.query_holds-requires
 query_holds-requires c =
     let h = removable_at c.next_row-m.ensures c.requires.removable in
     record {
-      fits = c.requires.fits;
       q_value = c.requires.q_value;
       context_good = c.requires.context_good;
       file_rows = c.requires.file_rows;
@@ -26,11 +25,10 @@ query_holds-requires c =
 pub holds_few-requires : goal.holds_few-requires
 holds_few-requires c =
     record {
-      fits = c.requires.fits;
       q_value = c.requires.q_value;
       context_good = c.requires.context_good;
       file_rows = c.requires.file_rows;
       entry_rows = c.requires.entry_rows;
       removable = c.requires.removable;
-      exceptions_len_bound = c.if-exceptions-le1025.true;
+      exceptions_len_bound = c.if-events-le1025.true;
     }

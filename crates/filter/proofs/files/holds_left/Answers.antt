@@ -22,7 +22,6 @@ query_holds-requires c =
     let next_row_told = c.next_row-m in
     let fill_removed_told = c.fill_removed in
     record {
-      fits = c.requires.fits;
       q_value = c.requires.q_value;
       context_good = c.requires.context_good;
       file_rows = c.requires.file_rows;

@@ -5,7 +5,6 @@ use Rattle.filter.proofs.files.holds_many.Goals as goal
 pub holds_left-requires : goal.holds_left-requires
 holds_left-requires c =
     record {
-      fits = c.requires.fits;
       q_value = c.requires.q_value;
       context_good = c.requires.context_good;
       file_rows = c.requires.file_rows;

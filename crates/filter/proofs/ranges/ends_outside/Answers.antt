@@ -2,8 +2,8 @@
 use Rattle.filter.proofs.RangesLaws.{between_outside, no_outside}
 use Rattle.filter.proofs.ranges.ends_outside.Goals as goal
 
-pub returns-in-At-end : goal.returns-in-At-end
-returns-in-At-end c = λ e. between_outside _ _ _ _ _ c.in-At.is c.in-At-end.is c.between_in.ensures e
+pub returns-in-Some-end : goal.returns-in-Some-end
+returns-in-Some-end c = λ e. between_outside _ _ _ _ _ c.in-Some.is c.in-Some-end.is c.between_in.ensures e
 
 pub returns-in-None-end : goal.returns-in-None-end
 returns-in-None-end c = λ e. no_outside _ _ _ e

@@ -11,18 +11,18 @@ pub returns-then-overlaps : goal.returns-then-overlaps
 returns-then-overlaps c =
     overlapping_found
     c.loop-p.invariant
-    (next_period_at _ _ c.next_period.ensures c.in-Of.is)
+    (next_period_at _ _ c.next_period.ensures c.in-Some.is)
     c.overlaps.ensures c.if-overlaps.true
 
 pub loop-p-smaller : goal.loop-p-smaller
-loop-p-smaller c = let h = next_period_at _ _ c.next_period.ensures c.in-Of.is in omega (arith, h.onward, h.within)
+loop-p-smaller c = let h = next_period_at _ _ c.next_period.ensures c.in-Some.is in omega (arith, h.onward, h.within)
 
 pub loop-p-preserved : goal.loop-p-preserved
 loop-p-preserved c =
     overlapping_next
     c.loop-p.invariant
-    (next_period_at _ _ c.next_period.ensures c.in-Of.is)
+    (next_period_at _ _ c.next_period.ensures c.in-Some.is)
     c.overlaps.ensures c.if-overlaps.false
 
-pub returns-in-Done : goal.returns-in-Done
-returns-in-Done c = overlapping_end c.loop-p.invariant (no_period_at c.next_period.ensures c.in-Done.is)
+pub returns : goal.returns
+returns c = overlapping_end c.loop-p.invariant (no_period_at c.next_period.ensures c.in_default.is)

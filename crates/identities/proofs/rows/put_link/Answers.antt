@@ -5,7 +5,7 @@ use Rattle.identities.proofs.rows.put_link.Goals as goal
 pub returns : goal.returns
 returns c =
     put_as _
-    c.uid_numbers-by.ensures
-    c.recurrence_numbers-at.ensures
-    c.kinds_tag-tag.ensures
+    c.uid_numbers-uid.ensures
+    c.recurrence_numbers-recurrence.ensures
+    c.kinds_tag-kinds.ensures
     c.put_row.ensures

@@ -1,10 +1,6 @@
-use Prim.Native.Nat.{◌-◌}
 use Rattle.line.specs.WellFormed.{control_at}
 use Rattle.text.proofs.Unfolding.{Scanned}
 use Rattle.line.proofs.check.control_in.Given as goal
 
 abbrev pub invariant-loop-k : goal.invariant-loop-k
 invariant-loop-k l = Scanned control_at l.s l.i 32 l.k l.first
-
-abbrev pub decreases-loop-k : goal.decreases-loop-k
-decreases-loop-k l = 32 - l.k

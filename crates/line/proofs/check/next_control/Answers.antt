@@ -1,8 +1,10 @@
 -- `line::check::next_control` meets its contract: no control stands before the place.
 use Rattle.text.proofs.Unfolding.{nowhere_next}
-use Rattle.line.specs.WellFormed.{control_at}
+use Rattle.line.specs.WellFormed.{control_at, NextControl}
 use Rattle.line.proofs.WellFormedControls.{control_found, control_none}
-use mathlib.Core.Path.{sym, ◌∙◌}
+use lib.ListN.{length}
+use mathlib.Core.Path.{◌≡◌, subst, sym, ◌∙◌}
+use native.Mathlib.Omega.{arith}
 use Rattle.line.proofs.check.next_control.Goals as goal
 
 pub skip_clear-i-requires : goal.skip_clear-i-requires
@@ -19,4 +21,6 @@ unfolding control_at
 loop-i-preserved c = nowhere_next c.loop-i.invariant c.loop-i-test.true (sym c.is_control.ensures ∙ c.if-is_control.false)
 
 pub returns : goal.returns
-returns c = control_none c.loop-i.invariant c.loop-i-test.false
+returns c =
+    let end : c.loop-i.i ≡ length c.args.s.now = omega (arith, c.loop-i.invariant.inside) in
+    subst (NextControl _ _) end (control_none c.loop-i.invariant c.loop-i-test.false)

@@ -10,21 +10,17 @@ returns-then-s-from c = next_past _ _ c.if-s-from.true
 pub returns-then-not-break_at : goal.returns-then-not-break_at
 returns-then-not-break_at c = control_bad c.if-s-from.false c.next_control-e.ensures (sym c.break_at.ensures ∙ c.if-not-break_at.true)
 
-pub clear_name-n-requires : goal.clear_name-n-requires
-clear_name-n-requires c = part_clear c.next_control-e.ensures.before
+pub clear_name-requires : goal.clear_name-requires
+clear_name-requires c = part_clear c.next_control-e.ensures.before
 
-pub returns-then-n-eq0 : goal.returns-then-n-eq0
-returns-then-n-eq0 c =
+pub returns-in-Some : goal.returns-in-Some
+returns-in-Some c =
     let control = c.next_control-e.ensures in
     let breaks = sym c.break_at.ensures ∙ c.if-not-break_at.false in
-    let name = c.clear_name-n.ensures in
-    let no_name = c.if-n-eq0.true in
-    next_badly _ _ (control_line control breaks) name no_name
+    next_line _ _ (control_line control breaks) (sym c.in-Some.is ∙ c.clear_name.ensures)
 
-pub returns-else-n-eq0 : goal.returns-else-n-eq0
-returns-else-n-eq0 c =
+pub returns-in-None : goal.returns-in-None
+returns-in-None c =
     let control = c.next_control-e.ensures in
     let breaks = sym c.break_at.ensures ∙ c.if-not-break_at.false in
-    let name = c.clear_name-n.ensures in
-    let some_name = c.if-n-eq0.false in
-    next_line _ _ (control_line control breaks) name some_name
+    next_badly _ (control_line control breaks) (sym c.in-None.is ∙ c.clear_name.ensures)

@@ -1,5 +1,6 @@
 -- `line::scan::pass_name` meets its contract: name bytes leave the scanner in the parameter's name.
-use Rattle.line.proofs.Scanner.{leads_none, leads_next, parameter_name_stays}
+use Rattle.line.proofs.Places.{stops}
+use Rattle.line.proofs.Scanner.{Leads, leads_none, leads_next, parameter_name_stays}
 use Rattle.ascii.specs.Bytes.{is_name_byte}
 use Rattle.line.specs.declared.scan.State.TheVariants.{ParameterName}
 use Rattle.line.proofs.scan.pass_name.Goals as goal
@@ -15,4 +16,4 @@ loop-i-preserved c =
     leads_next ParameterName is_name_byte parameter_name_stays _ _ _ _ c.loop-i-test.true c.is_name_byte.ensures c.if-not-is_name_byte.false-raw c.loop-i.invariant
 
 pub returns : goal.returns
-returns c = c.loop-i.invariant
+returns c = stops (Leads _ ParameterName _ ParameterName) _ _ _ _ c.max.ensures c.loop-i.auto.i-end c.loop-i-test.false (λ h. leads_none _ ParameterName _) c.loop-i.invariant

@@ -1,11 +1,6 @@
 use Rattle.line.proofs.Scanner.{Leads}
 use Rattle.line.specs.declared.scan.State.TheVariants.{Unquoted}
-use lib.ListN.{length}
-use Prim.Native.Nat.{◌-◌}
 use Rattle.line.proofs.scan.pass_unquoted.Given as goal
 
 abbrev pub invariant-loop-i : goal.invariant-loop-i
 invariant-loop-i l = Leads l.line Unquoted l.from Unquoted l.i
-
-abbrev pub decreases-loop-i : goal.decreases-loop-i
-decreases-loop-i l = length l.line - l.i

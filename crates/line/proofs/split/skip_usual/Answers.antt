@@ -1,6 +1,8 @@
 -- `line::split::skip_usual` meets its contract: the next place is the same from each byte passed.
 use Rattle.line.proofs.Splitting.{usual_next}
-use mathlib.Core.Path.{refl, ◌∙◌}
+use Rattle.line.proofs.Places.{stops}
+use Rattle.line.specs.Splitting.{next_place}
+use mathlib.Core.Path.{◌≡◌, refl, ◌∙◌}
 use Rattle.line.proofs.split.skip_usual.Goals as goal
 
 pub loop-i-init : goal.loop-i-init
@@ -16,4 +18,6 @@ pub loop-i-preserved : goal.loop-i-preserved
 loop-i-preserved c = λ g. usual_next g _ _ _ c.loop-i-test.true c.if-b-separator.false c.if-b-eq34.false ∙ c.loop-i.invariant g
 
 pub returns : goal.returns
-returns c = c.loop-i.invariant
+returns c =
+    λ g. stops (λ i. next_place g c.args.separator c.args.s.now i ≡ next_place g c.args.separator c.args.s.now c.args.from) _ _ _ _
+    c.max.ensures c.loop-i.auto.i-end c.loop-i-test.false (λ h. refl) (c.loop-i.invariant g)

@@ -1,12 +1,7 @@
 use Rattle.line.specs.Splitting.{next_place}
 use mathlib.Core.Bool.{Bool}
-use lib.ListN.{length}
-use Prim.Native.Nat.{◌-◌}
 use mathlib.Core.Path.{◌≡◌}
 use Rattle.line.proofs.split.skip_usual.Given as goal
 
 abbrev pub invariant-loop-i : goal.invariant-loop-i
 invariant-loop-i l = (g : Bool) → next_place g l.separator l.s l.i ≡ next_place g l.separator l.s l.from
-
-abbrev pub decreases-loop-i : goal.decreases-loop-i
-decreases-loop-i l = length l.s - l.i

@@ -3,4 +3,4 @@ use Rattle.pieces.proofs.Pieces.{no_event_pieces}
 use Rattle.pieces.proofs.storing.may_have_pieces.Goals as goal
 
 pub returns : goal.returns
-returns c = no_event_pieces _ c.report_place.ensures c.is_zero_length.ensures
+returns c = no_event_pieces _ c.is_busy.ensures c.is_zero_length.ensures

@@ -5,7 +5,6 @@ use Rattle.property_tests.proofs.parameters.parameter_passes.Goals as goal
 pub parameter_holds-requires : goal.parameter_holds-requires
 parameter_holds-requires c =
     record {
-      fits = c.requires.fits;
       name_lt_count = parameter_name_lem _ _ _ c.requires.q_value c.requires.k_lt_count c.parameter_at-r.ensures;
       text_le_count = parameter_text _ _ _ c.requires.q_value c.requires.k_lt_count c.parameter_at-r.ensures;
     }

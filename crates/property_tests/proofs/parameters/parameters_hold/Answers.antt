@@ -1,16 +1,12 @@
 -- `property_tests::parameters::parameters_hold` meets its contract: every record so far passes, and the first that does not decides.
 use Rattle.property_tests.specs.PropertyTests.{parameters_hold}
-use Rattle.query.proofs.Counting.{so_far_start, so_far_next, every_stop, every_end}
+use Rattle.query.proofs.Counting.{so_far_next, every_stop, every_end}
 use Rattle.property_tests.proofs.parameters.parameters_hold.Goals as goal
-
-pub loop-k-init : goal.loop-k-init
-loop-k-init c = so_far_start
 
 pub parameter_passes-requires : goal.parameter_passes-requires
 parameter_passes-requires c =
     record {
-      fits = c.requires.fits;
-      q_value = c.requires.q_value;
+      q_value = c.requires;
       k_lt_count = c.loop-k-test.true;
     }
 

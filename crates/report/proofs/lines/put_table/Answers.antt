@@ -1,18 +1,13 @@
--- `report::lines::put_table` meets its contract: the rows of the part of the columns that is lent are the table's.
-use Rattle.report.proofs.Writing.{rest_asks, rest_put}
+-- `report::lines::put_table` meets its contract: the rows of the part that is lent are the table's.
+use Rattle.table.proofs.Spans.{spans_part}
 use Rattle.report.proofs.lines.put_table.Goals as goal
 
 pub put_periods-requires : goal.put_periods-requires
 put_periods-requires c =
     let called = c.args in
-    let held = rest_asks called.first called.count called.starts.now called.ends.now _ _ c.requires.count_in_bounds.0 c.requires.count_in_bounds.1 c.requires.good_periods c.requires.ends_in_bounds in
-    record {
-      count_in_bounds = held.0;
-      good_periods = held.1.0;
-      ends_in_bounds = held.1.1;
-    }
+    rw (spans_part called.first called.count called.spans.now) (record { good_periods = c.requires.good_periods; ends_in_bounds = c.requires.ends_in_bounds })
 
 pub returns : goal.returns
 returns c =
     let called = c.args in
-    rest_put called.first called.count called.starts.now called.ends.now _ c.put_periods.ensures
+    rw (← spans_part called.first called.count called.spans.now) c.put_periods.ensures

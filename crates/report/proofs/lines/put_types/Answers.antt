@@ -9,13 +9,13 @@ use Rattle.report.proofs.lines.put_types.Goals as goal
 pub put_table-a-requires : goal.put_table-a-requires
 unfolding period_head packed
 put_table-a-requires c =
-    record { count_in_bounds = (omega (arith, c.requires.unavailable_in_bounds.0), c.requires.unavailable_in_bounds.1); good_periods = c.requires.all_good BusyType.Busy; ends_in_bounds = busy_room (packed _ _ _ _ _) _ _ c.requires.ends_in_bounds }
+    record { count_in_bounds = omega (arith, c.requires.unavailable_in_bounds); good_periods = c.requires.all_good BusyType.Busy; ends_in_bounds = busy_room (packed _ _ _ _ _) _ _ c.requires.ends_in_bounds }
 
 pub put_table-b-requires : goal.put_table-b-requires
 unfolding period_head packed
 put_table-b-requires c =
     let busy = c.put_table-a.ensures in
-    record { count_in_bounds = (omega (arith, c.requires.unavailable_in_bounds.0), c.requires.unavailable_in_bounds.1); good_periods = c.requires.all_good BusyType.Tentative; ends_in_bounds = omega (arith, tentative_room (packed _ _ _ _ _) _ _ c.requires.ends_in_bounds busy) }
+    record { count_in_bounds = omega (arith, c.requires.unavailable_in_bounds); good_periods = c.requires.all_good BusyType.Tentative; ends_in_bounds = omega (arith, tentative_room (packed _ _ _ _ _) _ _ c.requires.ends_in_bounds busy) }
 
 pub put_table-requires : goal.put_table-requires
 unfolding period_head packed
@@ -23,7 +23,7 @@ put_table-requires c =
     let busy = c.put_table-a.ensures in
     let tentative = c.put_table-b.ensures in
     record {
-      count_in_bounds = (omega (arith, c.requires.unavailable_in_bounds.0), c.requires.unavailable_in_bounds.1);
+      count_in_bounds = omega (arith, c.requires.unavailable_in_bounds);
       good_periods = c.requires.all_good BusyType.Unavailable;
       ends_in_bounds = omega (arith, unavailable_room (packed _ _ _ _ _) _ _ c.requires.ends_in_bounds busy tentative);
     }

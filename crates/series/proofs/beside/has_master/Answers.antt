@@ -5,5 +5,5 @@ use Rattle.series.proofs.beside.has_master.Goals as goal
 pub returns-in-None : goal.returns-in-None
 returns-in-None c = none_before _ _ (none_of c.master_of.ensures c.in-None.is)
 
-pub returns-in-At : goal.returns-in-At
-returns-in-At c = one_before _ _ (at_of c.master_of.ensures c.in-At.is).master
+pub returns-in-Some : goal.returns-in-Some
+returns-in-Some c = one_before _ _ (at_of c.master_of.ensures c.in-Some.is).master

@@ -1,15 +1,12 @@
--- `series::beside::is_among` meets its contract: the seconds that are left decide.
-use Rattle.series.proofs.BesideLaws.{among_start, among_more, among_found, among_none}
+-- `series::beside::is_among` meets its contract: the library's test of some element is the definition.
+use Rattle.std.proofs.Common.{rules, tests, nat_eq, ◌∙◌}
+use Rattle.std.proofs.lemmas.Iterator.{YieldsList-from_slice}
+use Rattle.std.proofs.lemmas.Iterator.Search.{any_from_yields_List}
+use Prim.Native.Nat.{ℕ}
+use Rattle.series.proofs.BesideLaws.{among_any}
 use Rattle.series.proofs.beside.is_among.Goals as goal
 
-pub loop-i-init : goal.loop-i-init
-loop-i-init c = among_start _ _
-
-pub returns-then-wide-x : goal.returns-then-wide-x
-returns-then-wide-x c = among_found c.loop-i.invariant c.loop-i-test.true c.wide.ensures c.if-wide-x.true
-
-pub loop-i-preserved : goal.loop-i-preserved
-loop-i-preserved c = among_more c.loop-i.invariant c.loop-i-test.true c.wide.ensures c.if-wide-x.false
-
 pub returns : goal.returns
-returns c = among_none c.loop-i.invariant c.loop-i-test.false
+returns c =
+    any_from_yields_List (λ (s : ℕ). nat_eq s c.args.x) _ _ _ c.any.ensures.ran (YieldsList-from_slice c.args.l.now cc) (λ x b q k. search (rules, tests))
+    ∙ among_any c.args.x c.args.l.now

@@ -9,14 +9,14 @@ pub misfits-requires : goal.misfits-requires
 misfits-requires c =
     let master_of_told = c.master_of in
     record {
-      master_known = let z = at_of master_of_told.ensures c.in-At.is in master_known c.requires.linked z.there z.is_event_holds;
+      master_known = let z = at_of master_of_told.ensures c.in-Some.is in master_known c.requires.linked z.there z.is_event_holds;
       second_le_last_second = c.requires.second_le_last_second;
     }
 
 pub returns-in-None : goal.returns-in-None
 returns-in-None c = place_none _ (none_of c.master_of.ensures c.in-None.is)
 
-pub returns-in-At : goal.returns-in-At
-returns-in-At c =
+pub returns-in-Some : goal.returns-in-Some
+returns-in-Some c =
     let master_of_told = c.master_of in
-    let z = at_of master_of_told.ensures c.in-At.is in place_at (c.requires.linked.stands _ z.there z.is_event_holds) _ _ _ z.master c.misfits.ensures
+    let z = at_of master_of_told.ensures c.in-Some.is in place_at (c.requires.linked.stands _ z.there z.is_event_holds) _ _ _ z.master c.misfits.ensures

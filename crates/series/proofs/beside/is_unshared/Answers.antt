@@ -4,20 +4,20 @@ use Rattle.series.proofs.PrintLaws.{unshared_marked, unshared_new, unshared_no}
 use native.Mathlib.Omega.{arith}
 use Rattle.series.proofs.beside.is_unshared.Goals as goal
 
-pub bounds-marks-k : goal.bounds-marks-k
-bounds-marks-k c = omega (arith, c.requires.mark_room, c.requires.few)
+pub bounds-known-k : goal.bounds-known-k
+bounds-known-k c = omega (arith, c.requires.mark_room, c.requires.few)
 
-pub returns-then-marks-k-eq0 : goal.returns-then-marks-k-eq0
-returns-then-marks-k-eq0 c = unshared_marked c.requires c.in-None.is c.if-marks-k-eq0.true
+pub returns-then-known-k-eq0 : goal.returns-then-known-k-eq0
+returns-then-known-k-eq0 c = unshared_marked c.requires c.in-None.is c.if-known-k-eq0.true
 
 pub overflow_add-print : goal.overflow_add-print
 overflow_add-print c = omega (arith, c.requires.room, c.requires.few)
 
-pub offset_bounds-prints-k : goal.offset_bounds-prints-k
-offset_bounds-prints-k c = omega (arith, c.requires.room, c.requires.few)
+pub offset_bounds-known-k : goal.offset_bounds-known-k
+offset_bounds-known-k c = omega (arith, c.requires.room, c.requires.few)
 
-pub bounds-prints-k : goal.bounds-prints-k
-bounds-prints-k c = omega (arith, c.requires.room, c.requires.few)
+pub bounds-known-k-in-None : goal.bounds-known-k-in-None
+bounds-known-k-in-None c = omega (arith, c.requires.room, c.requires.few)
 
 pub is_new-requires : goal.is_new-requires
 is_new-requires c =
@@ -26,8 +26,8 @@ is_new-requires c =
       n_bound = omega (arith, c.requires.few);
     }
 
-pub returns-else-marks-k-eq0 : goal.returns-else-marks-k-eq0
-returns-else-marks-k-eq0 c = unshared_new c.in-None.is refl c.is_new.ensures
+pub returns-else-known-k-eq0 : goal.returns-else-known-k-eq0
+returns-else-known-k-eq0 c = unshared_new c.in-None.is refl c.is_new.ensures
 
 pub returns-in-One : goal.returns-in-One
 returns-in-One c = unshared_no _ _ _

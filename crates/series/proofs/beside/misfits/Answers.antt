@@ -35,8 +35,8 @@ returns-then-not-names_instance c =
     let same_kind_told = c.same_kind in
     misfit_named _ _ _ _ _ link_at_told.ensures first_if.false event_at_told.ensures same_kind_told.ensures c.if-not-same_kind.false c.names_instance.ensures c.if-not-names_instance.true
 
-pub offset_bounds-exceptions-from : goal.offset_bounds-exceptions-from
-offset_bounds-exceptions-from c = omega (arith, part_there c.requires.master_known c.link_at-link.ensures)
+pub offset_bounds-events-from : goal.offset_bounds-events-from
+offset_bounds-events-from c = omega (arith, part_there c.requires.master_known c.link_at-link.ensures)
 
 pub slice_bounds-is_among-count : goal.slice_bounds-is_among-count
 slice_bounds-is_among-count c = omega (arith, part_there c.requires.master_known c.link_at-link.ensures)

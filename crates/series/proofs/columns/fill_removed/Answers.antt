@@ -25,8 +25,8 @@ pub slice_bounds-fill_row-end : goal.slice_bounds-fill_row-end
 slice_bounds-fill_row-end c =
     omega (arith, filling_fits c.requires.removable c.requires.exceptions_in_bounds c.loop-k.invariant.0)
 
-pub fill_row-n-requires : goal.fill_row-n-requires
-fill_row-n-requires c =
+pub fill_row-at-requires : goal.fill_row-at-requires
+fill_row-at-requires c =
     let turn = c.loop-k in
     record {
       row_fillable = filling_row c.requires.removable c.requires.exceptions_in_bounds turn.invariant.0 c.loop-k-test.true (behind_long turn.removed turn.at turn.invariant.0.removed_long);
@@ -37,7 +37,7 @@ pub overflow_add-at : goal.overflow_add-at
 overflow_add-at c =
     let turn = c.loop-k in
     let test = c.loop-k-test in
-    let fill_row_told = c.fill_row-n in
+    let fill_row_told = c.fill_row-at in
     let removed_told = c.removed-1 in
     omega (arith, filling_small c.requires.removable c.requires.exceptions_in_bounds turn.invariant.0 test.true fill_row_told.ensures (filling_size c.requires.removable c.requires.exceptions_in_bounds turn.invariant.0 fill_row_told.new.out removed_told.given.0), c.requires.removed_len_bound)
 
@@ -45,7 +45,7 @@ pub overflow_cast-places : goal.overflow_cast-places
 overflow_cast-places c =
     let turn = c.loop-k in
     let test = c.loop-k-test in
-    let fill_row_told = c.fill_row-n in
+    let fill_row_told = c.fill_row-at in
     let removed_told = c.removed-1 in
     omega (arith, filling_small c.requires.removable c.requires.exceptions_in_bounds turn.invariant.0 test.true fill_row_told.ensures (filling_size c.requires.removable c.requires.exceptions_in_bounds turn.invariant.0 fill_row_told.new.out removed_told.given.0), c.requires.removed_len_bound)
 
@@ -63,7 +63,7 @@ pub loop-k-preserved : goal.loop-k-preserved
 loop-k-preserved c =
     let turn = c.loop-k in
     let test = c.loop-k-test in
-    let fill_row_told = c.fill_row-n in
+    let fill_row_told = c.fill_row-at in
     let removed_told = c.removed-1 in
     (filling_on c.requires.removable c.requires.exceptions_in_bounds turn.invariant.0 test.true fill_row_told.ensures (filling_size c.requires.removable c.requires.exceptions_in_bounds turn.invariant.0 fill_row_told.new.out removed_told.given.0) (none_behind turn.removed turn.at), omega (arith, c.spare-1.given, turn.invariant.1))
 

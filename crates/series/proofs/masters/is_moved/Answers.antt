@@ -1,6 +1,5 @@
 -- `series::masters::is_moved` meets its contract: the rows that are left decide.
 use Rattle.series.proofs.MasterLaws.{some_start, some_more, some_there, some_nowhere}
-use native.Mathlib.Omega.{arith}
 use Rattle.series.proofs.masters.is_moved.Goals as goal
 
 pub loop-k-init : goal.loop-k-init
@@ -15,9 +14,6 @@ is_named-requires c =
 
 pub returns-then-is_named : goal.returns-then-is_named
 returns-then-is_named c = some_there c.loop-k.invariant c.is_named.ensures c.loop-k-test.true c.if-is_named.true
-
-pub overflow_add-k : goal.overflow_add-k
-overflow_add-k c = omega (arith, c.requires.tied.few)
 
 pub loop-k-preserved : goal.loop-k-preserved
 loop-k-preserved c = some_more c.loop-k.invariant c.is_named.ensures c.loop-k-test.true c.if-is_named.false

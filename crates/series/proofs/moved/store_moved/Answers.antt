@@ -2,12 +2,10 @@
 use Rattle.series.proofs.MovedLaws.{moving_start, moving_past, moving_more, moving_end, named_one_by}
 use native.Mathlib.Omega.{arith}
 use Rattle.series.proofs.moved.store_moved.Goals as goal
+use Rattle.series.proofs.moved.store_moved.Goals.{in-Some, in_default}
 
 pub loop-k-init : goal.loop-k-init
 loop-k-init c = moving_start _ _ _ _ _ _ _
-
-pub overflow_add-next : goal.overflow_add-next
-overflow_add-next c = omega (arith, c.requires.tied.few)
 
 pub named_second-requires : goal.named_second-requires
 named_second-requires c =
@@ -16,11 +14,8 @@ named_second-requires c =
       one_at = c.requires.one_each _ c.loop-k-test.true;
     }
 
-pub loop-k-preserved-in-None : goal.loop-k-preserved-in-None
-loop-k-preserved-in-None c = moving_past c.loop-k.invariant c.loop-k-test.true c.named_second.ensures c.in-None.is
-
 pub overflow_cast-out : goal.overflow_cast-out
-overflow_cast-out c = omega (arith, (named_one_by c.named_second.ensures c.in-At.is).0)
+overflow_cast-out c = omega (arith, (named_one_by c.named_second.ensures c.in-Some.is).0)
 
 pub offset_bounds-out-end : goal.offset_bounds-out-end
 offset_bounds-out-end c =
@@ -40,7 +35,11 @@ overflow_add-end c =
     omega (arith, turn.invariant.few, turn.invariant.long, test.true, c.requires.m_in_bounds)
 
 pub loop-k-preserved : goal.loop-k-preserved
-loop-k-preserved c = moving_more c.loop-k.invariant c.loop-k-test.true c.named_second.ensures c.in-At.is
+loop-k-preserved c =
+    elim c.match-named_second.branch [
+      | in-Some w ↦ rw (w.out-is, w.end-is) (moving_more c.loop-k.invariant c.loop-k-test.true c.named_second.ensures w.in-Some.is)
+      | in_default w ↦ rw (w.out-is, w.end-is) (moving_past c.loop-k.invariant c.loop-k-test.true c.named_second.ensures w.in_default.is)
+    ]
 
 pub shape_of-out : goal.shape_of-out
 shape_of-out c = c.loop-k.invariant.long

@@ -3,10 +3,10 @@ use Rattle.series.specs.Stopping.{stop_line}
 use borrow.Author.Rules.{rules}
 use Rattle.series.proofs.passes.stop_line.Goals as goal
 
-pub returns-in-Good : goal.returns-in-Good
+pub returns-in-None : goal.returns-in-None
 unfolding stop_line
-returns-in-Good c = search rules
+returns-in-None c = search rules
 
-pub returns-in-Broken : goal.returns-in-Broken
+pub returns-in-Some : goal.returns-in-Some
 unfolding stop_line
-returns-in-Broken c = search rules
+returns-in-Some c = search rules

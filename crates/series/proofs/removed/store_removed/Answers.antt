@@ -9,8 +9,8 @@ use Rattle.series.proofs.removed.store_removed.Goals as goal
 pub link_at-link-requires : goal.link_at-link-requires
 link_at-link-requires c = (c.requires.takeable.tied.each _ c.requires.takeable.there).link_room
 
-pub offset_bounds-exceptions-from : goal.offset_bounds-exceptions-from
-offset_bounds-exceptions-from c = omega (arith, part_there c.requires.takeable c.link_at-link.ensures)
+pub offset_bounds-events-from : goal.offset_bounds-events-from
+offset_bounds-events-from c = omega (arith, part_there c.requires.takeable c.link_at-link.ensures)
 
 pub slice_bounds-store_seconds-count : goal.slice_bounds-store_seconds-count
 slice_bounds-store_seconds-count c = omega (arith, part_there c.requires.takeable c.link_at-link.ensures)

@@ -4,54 +4,54 @@ use Rattle.series.specs.Uids.{is_uid}
 use borrow.Author.Rules.{rules}
 use Rattle.series.proofs.uids.is_uid.Goals as goal
 
-pub returns-in-Nothing : goal.returns-in-Nothing
+pub returns-in-Ok-Nothing : goal.returns-in-Ok-Nothing
 unfolding is_uid reading_of
-returns-in-Nothing c = search rules
+returns-in-Ok-Nothing c = search rules
 
-pub returns-in-Unsupported : goal.returns-in-Unsupported
+pub returns-in-Err-Unsupported : goal.returns-in-Err-Unsupported
 unfolding is_uid reading_of
-returns-in-Unsupported c = search rules
+returns-in-Err-Unsupported c = search rules
 
-pub returns-in-Bad : goal.returns-in-Bad
+pub returns-in-Err-Bad : goal.returns-in-Err-Bad
 unfolding is_uid reading_of
-returns-in-Bad c = search rules
+returns-in-Err-Bad c = search rules
 
-pub returns-in-Start : goal.returns-in-Start
+pub returns-in-Ok-Start : goal.returns-in-Ok-Start
 unfolding is_uid reading_of
-returns-in-Start c = search rules
+returns-in-Ok-Start c = search rules
 
-pub returns-in-End : goal.returns-in-End
+pub returns-in-Ok-End : goal.returns-in-Ok-End
 unfolding is_uid reading_of
-returns-in-End c = search rules
+returns-in-Ok-End c = search rules
 
-pub returns-in-Lasts : goal.returns-in-Lasts
+pub returns-in-Ok-Lasts : goal.returns-in-Ok-Lasts
 unfolding is_uid reading_of
-returns-in-Lasts c = search rules
+returns-in-Ok-Lasts c = search rules
 
-pub returns-in-Repeats : goal.returns-in-Repeats
+pub returns-in-Ok-Repeats : goal.returns-in-Ok-Repeats
 unfolding is_uid reading_of
-returns-in-Repeats c = search rules
+returns-in-Ok-Repeats c = search rules
 
-pub returns-in-HasStatus : goal.returns-in-HasStatus
+pub returns-in-Ok-HasStatus : goal.returns-in-Ok-HasStatus
 unfolding is_uid reading_of
-returns-in-HasStatus c = search rules
+returns-in-Ok-HasStatus c = search rules
 
-pub returns-in-Transparent : goal.returns-in-Transparent
+pub returns-in-Ok-Transparent : goal.returns-in-Ok-Transparent
 unfolding is_uid reading_of
-returns-in-Transparent c = search rules
+returns-in-Ok-Transparent c = search rules
 
-pub returns-in-Uid : goal.returns-in-Uid
+pub returns-in-Ok-Uid : goal.returns-in-Ok-Uid
 unfolding is_uid reading_of
-returns-in-Uid c = search rules
+returns-in-Ok-Uid c = search rules
 
-pub returns-in-RecurrenceId : goal.returns-in-RecurrenceId
+pub returns-in-Ok-RecurrenceId : goal.returns-in-Ok-RecurrenceId
 unfolding is_uid reading_of
-returns-in-RecurrenceId c = search rules
+returns-in-Ok-RecurrenceId c = search rules
 
-pub returns-in-HasExceptions : goal.returns-in-HasExceptions
+pub returns-in-Ok-HasExceptions : goal.returns-in-Ok-HasExceptions
 unfolding is_uid reading_of
-returns-in-HasExceptions c = search rules
+returns-in-Ok-HasExceptions c = search rules
 
-pub returns-in-HasPeriods : goal.returns-in-HasPeriods
+pub returns-in-Ok-HasPeriods : goal.returns-in-Ok-HasPeriods
 unfolding is_uid reading_of
-returns-in-HasPeriods c = search rules
+returns-in-Ok-HasPeriods c = search rules

@@ -5,7 +5,7 @@ use Rattle.series.proofs.UidLaws.{Asking}
 use Rattle.series.proofs.uids.lines_have.Given as goal
 
 abbrev pub invariant-loop-i : goal.invariant-loop-i
-invariant-loop-i l = Asking l.c l.s l.rows l.u (properties_in (component_by l.s l.rows l.k).items) l.i l.row l.stop l.last
+invariant-loop-i l = Asking l.c l.cal.text.now l.cal.rows.now l.u (properties_in (component_by l.cal.text.now l.cal.rows.now l.k).items) l.i l.row l.stop l.last
 
 abbrev pub decreases-loop-i : goal.decreases-loop-i
 decreases-loop-i l = l.stop - l.i

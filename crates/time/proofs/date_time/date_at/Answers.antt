@@ -4,24 +4,27 @@ use Rattle.time.proofs.DateTime.{year_at_small, three_first, three_second, three
 use mathlib.Core.Path.{sym, ◌∙◌}
 use Rattle.time.proofs.date_time.date_at.Goals as goal
 
+pub returns-in_err-year : goal.returns-in_err-year
+unfolding date_at
+returns-in_err-year c = c.from_residual.ensures ∙ three_first _ _ _ _ (sym c.year_at.ensures ∙ c.in_err-year.was)
+
+pub returns-in_err-month : goal.returns-in_err-month
+unfolding date_at
+returns-in_err-month c =
+    c.from_residual-in_err-month.ensures ∙ three_second _ _ _ _ (sym c.year_at.ensures ∙ c.in_ok-year.was) (sym c.pair_at.ensures ∙ c.in_err-month.was)
+
+pub returns-in_err-day : goal.returns-in_err-day
+unfolding date_at
+returns-in_err-day c =
+    let month = sym c.pair_at.ensures ∙ c.in_ok-month.was in
+    c.from_residual-in_err-day.ensures ∙ three_third _ _ _ _ (sym c.year_at.ensures ∙ c.in_ok-year.was) month (sym c.pair_at-2.ensures ∙ c.in_err-day.was)
+
 pub checked_day-requires : goal.checked_day-requires
-checked_day-requires c = year_at_small _ _ (sym c.year_at-year.ensures ∙ c.in-Of.is)
+checked_day-requires c = year_at_small _ _ (sym c.year_at.ensures ∙ c.in_ok-year.was)
 
-pub returns-in-Bad : goal.returns-in-Bad
+pub returns : goal.returns
 unfolding date_at
-returns-in-Bad c = three_first _ _ _ _ (sym c.year_at-year.ensures ∙ c.in-Bad.is)
-
-pub returns-in-Bad-month : goal.returns-in-Bad-month
-unfolding date_at
-returns-in-Bad-month c = three_second _ _ _ _ (sym c.year_at-year.ensures ∙ c.in-Of.is) (sym c.pair_at-month.ensures ∙ c.in-Bad-month.is)
-
-pub returns-in-Bad-day : goal.returns-in-Bad-day
-unfolding date_at
-returns-in-Bad-day c =
-    three_third _ _ _ _ (sym c.year_at-year.ensures ∙ c.in-Of.is) (sym c.pair_at-month.ensures ∙ c.in-Of-month.is) (sym c.pair_at-day.ensures ∙ c.in-Bad-day.is)
-
-pub returns-in-Of-day : goal.returns-in-Of-day
-unfolding date_at
-returns-in-Of-day c =
-    let third = sym c.pair_at-day.ensures ∙ c.in-Of-day.is in
-    c.checked_day.ensures ∙ three_all _ _ _ _ (sym c.year_at-year.ensures ∙ c.in-Of.is) (sym c.pair_at-month.ensures ∙ c.in-Of-month.is) third
+returns c =
+    let month = sym c.pair_at.ensures ∙ c.in_ok-month.was in
+    let day = sym c.pair_at-2.ensures ∙ c.in_ok-day.was in
+    c.checked_day.ensures ∙ three_all _ _ _ _ (sym c.year_at.ensures ∙ c.in_ok-year.was) month day

@@ -7,11 +7,11 @@ use Rattle.time.proofs.date_time.read_date.Goals as goal
 pub returns-then-s-ne8 : goal.returns-then-s-ne8
 returns-then-s-ne8 c = read_date_length _ c.if-s-ne8.true
 
+pub returns-in_err-day : goal.returns-in_err-day
+returns-in_err-day c = c.from_residual.ensures ∙ read_date_bad _ c.if-s-ne8.false (sym c.date_at.ensures ∙ c.in_err-day.was)
+
 pub overflow_mul-result : goal.overflow_mul-result
-overflow_mul-result c = omega (arith, date_at_small _ _ (sym c.date_at-date.ensures ∙ c.in-Of.is))
+overflow_mul-result c = omega (arith, date_at_small _ _ (sym c.date_at.ensures ∙ c.in_ok-day.was))
 
-pub returns-in-Bad : goal.returns-in-Bad
-returns-in-Bad c = read_date_bad _ c.if-s-ne8.false (sym c.date_at-date.ensures ∙ c.in-Bad.is)
-
-pub returns-in-Of : goal.returns-in-Of
-returns-in-Of c = read_date_of _ _ c.if-s-ne8.false (sym c.date_at-date.ensures ∙ c.in-Of.is)
+pub returns : goal.returns
+returns c = read_date_of _ _ c.if-s-ne8.false (sym c.date_at.ensures ∙ c.in_ok-day.was)

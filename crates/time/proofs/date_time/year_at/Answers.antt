@@ -6,28 +6,19 @@ use native.Mathlib.Omega.{arith}
 use Rattle.time.proofs.date_time.year_at.Goals as goal
 
 pub overflow_mul-result : goal.overflow_mul-result
-overflow_mul-result c = omega (arith, pair_at_small _ _ _ (sym c.pair_at-hundreds.ensures ∙ c.in-Of.is))
+overflow_mul-result c = omega (arith, pair_at_small _ _ _ (sym c.pair_at.ensures ∙ c.in_ok-hundreds.was))
 
 pub overflow_add-result : goal.overflow_add-result
-overflow_add-result c =
-    let hundreds = sym c.pair_at-hundreds.ensures ∙ c.in-Of.is in
-    let rest = sym c.pair_at-rest.ensures ∙ c.in-Of-rest.is in
-    omega (arith, pair_at_small _ _ _ hundreds, pair_at_small _ _ _ rest)
+overflow_add-result c = omega (arith, pair_at_small _ _ _ (sym c.pair_at.ensures ∙ c.in_ok-hundreds.was), pair_at_small _ _ _ (sym c.pair_at-2.ensures ∙ c.in_ok-rest.was))
 
-pub returns-in-Bad : goal.returns-in-Bad
+pub returns-in_err-hundreds : goal.returns-in_err-hundreds
 unfolding year_at
-returns-in-Bad c = joined_first _ _ (sym c.pair_at-hundreds.ensures ∙ c.in-Bad.is)
+returns-in_err-hundreds c = c.from_residual.ensures ∙ joined_first _ _ (sym c.pair_at.ensures ∙ c.in_err-hundreds.was)
 
-pub returns-in-Bad-rest : goal.returns-in-Bad-rest
+pub returns-in_err-rest : goal.returns-in_err-rest
 unfolding year_at
-returns-in-Bad-rest c =
-    let hundreds = sym c.pair_at-hundreds.ensures ∙ c.in-Of.is in
-    let no_rest = sym c.pair_at-rest.ensures ∙ c.in-Bad-rest.is in
-    joined_second _ _ hundreds no_rest
+returns-in_err-rest c = c.from_residual-in_err-rest.ensures ∙ joined_second _ _ (sym c.pair_at.ensures ∙ c.in_ok-hundreds.was) (sym c.pair_at-2.ensures ∙ c.in_err-rest.was)
 
-pub returns-in-Of-rest : goal.returns-in-Of-rest
+pub returns : goal.returns
 unfolding year_at
-returns-in-Of-rest c =
-    let hundreds = sym c.pair_at-hundreds.ensures ∙ c.in-Of.is in
-    let rest = sym c.pair_at-rest.ensures ∙ c.in-Of-rest.is in
-    joined_both _ _ hundreds rest
+returns c = joined_both _ _ (sym c.pair_at.ensures ∙ c.in_ok-hundreds.was) (sym c.pair_at-2.ensures ∙ c.in_ok-rest.was)

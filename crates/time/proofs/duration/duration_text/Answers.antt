@@ -3,23 +3,17 @@ use Rattle.time.specs.declared.duration.Stage.TheVariants.{Start}
 use Rattle.time.specs.Duration.{finish, duration_text}
 use Rattle.time.proofs.DurationLaws.{blank_small, step_small, runs_next, runs_end}
 use mathlib.Core.Path.{refl, sym, ap, ◌∙◌}
-use native.Mathlib.Omega.{arith}
 use Rattle.time.proofs.duration.duration_text.Goals as goal
 
-pub loop-i-init : goal.loop-i-init
-loop-i-init c = (omega arith, rw c.blank-r.ensures (blank_small Start), rw c.blank-r.ensures refl)
+pub loop-b-init : goal.loop-b-init
+loop-b-init c = (rw c.blank-r.ensures (blank_small Start), rw c.blank-r.ensures refl)
 
-pub step-r-requires : goal.step-r-requires
-step-r-requires c = c.loop-i.invariant.1
-
-pub loop-i-preserved : goal.loop-i-preserved
-loop-i-preserved c =
-    let small = c.loop-i.invariant.1 in
-    let reads = c.loop-i.invariant.2 in
-    let inside = c.loop-i-test.true in
+pub loop-b-preserved : goal.loop-b-preserved
+loop-b-preserved c =
+    let small = c.loop-b.invariant.0 in
     let stepped = c.step-r.ensures in
-    (omega arith, rw stepped (step_small _ _ small), runs_next _ _ _ _ inside stepped ∙ reads)
+    (rw stepped (step_small _ _ small), runs_next _ _ _ _ c.loop-b-test.true stepped ∙ c.loop-b.invariant.1)
 
 pub returns : goal.returns
 unfolding duration_text
-returns c = c.finish.ensures ∙ ap finish (sym (runs_end _ _ _ c.loop-i-test.false) ∙ c.loop-i.invariant.2)
+returns c = c.finish.ensures ∙ ap finish (sym (runs_end _ _ _ c.loop-b-test.false) ∙ c.loop-b.invariant.1)

@@ -1,43 +1,20 @@
--- `values::period::all_periods` meets its contract: every item before a place is a period, so those from it on decide.
-use Rattle.values.proofs.PeriodLaws.{passed_start, passed_bad, passed_next, passed_end}
-use Rattle.line.proofs.Splitting.{item_rises, item_inside}
-use mathlib.Core.Path.{sym, ◌∙◌}
-use native.Mathlib.Omega.{arith}
+-- `values::period::all_periods` meets its contract: each piece between commas is asked.
+use Rattle.std.proofs.Common.{rules, ap, ◌∙◌}
+use Rattle.std.proofs.lemmas.Iterator.Search.{all_from_yields_List}
+use Rattle.std.proofs.lemmas.Iterator.Splits.{YieldsList-from_slice_split}
+use Rattle.std.specs.List.{list_all}
+use borrow.Author.Tests.{tests}
+use lib.Dec.{eqb}
+use Rattle.line.specs.Splitting.{plain_split}
+use Rattle.values.specs.Period.{period_of, period_items, is_period}
+use Rattle.values.proofs.Splits.{split_same, periods_all}
 use Rattle.values.proofs.period.all_periods.Goals as goal
 
-pub loop-from-init : goal.loop-from-init
-loop-from-init c = passed_start _
-
-pub slice_bounds-is_period-count : goal.slice_bounds-is_period-count
-slice_bounds-is_period-count c = omega (arith, item_rises _ _ _ _ c.find-e.ensures, item_inside _ _ _ _ c.loop-from.invariant.inside_list c.find-e.ensures)
-
-pub slice_bounds-is_period-start : goal.slice_bounds-is_period-start
-slice_bounds-is_period-start c = omega (arith, item_rises _ _ _ _ c.find-e.ensures, item_inside _ _ _ _ c.loop-from.invariant.inside_list c.find-e.ensures)
-
-pub slice_bounds-is_period-end : goal.slice_bounds-is_period-end
-slice_bounds-is_period-end c = omega (arith, item_rises _ _ _ _ c.find-e.ensures, item_inside _ _ _ _ c.loop-from.invariant.inside_list c.find-e.ensures)
-
-pub returns-then-not-is_period : goal.returns-then-not-is_period
-returns-then-not-is_period c = passed_bad _ c.find-e.ensures (sym c.is_period.ensures ∙ c.if-not-is_period.true) c.loop-from.invariant
-
-pub returns-then-v-e : goal.returns-then-v-e
-returns-then-v-e c =
-    let passed = c.loop-from.invariant in
-    let next = c.find-e.ensures in
-    let period = sym c.is_period.ensures ∙ c.if-not-is_period.false in
-    let ended = c.if-v-e.true in
-    passed_end _ next period ended passed
-
-pub loop-from-smaller : goal.loop-from-smaller
-loop-from-smaller c =
-    let passed = c.loop-from.invariant in
-    let next = c.find-e.ensures in
-    omega (arith, item_rises _ _ _ _ next, item_inside _ _ _ _ passed.inside_list next)
-
-pub loop-from-preserved : goal.loop-from-preserved
-loop-from-preserved c =
-    let passed = c.loop-from.invariant in
-    let next = c.find-e.ensures in
-    let period = sym c.is_period.ensures ∙ c.if-not-is_period.false in
-    let inside = c.if-v-e.false in
-    passed_next _ next period inside passed
+pub returns : goal.returns
+unfolding period_items
+returns c =
+    all_from_yields_List (λ t. is_period (period_of t)) _ _ _ c.all.ensures.ran
+    (YieldsList-from_slice_split _ (λ b. eqb b 44) c.args.v.now c.split.ensures.rest c.split.ensures.done c.split.ensures.closure (λ x b q k. search (rules, tests)))
+    (λ x b q k. search (rules, tests))
+    ∙ ap (list_all (λ t. is_period (period_of t))) (split_same 44 c.args.v.now)
+    ∙ periods_all (plain_split 44 c.args.v.now)

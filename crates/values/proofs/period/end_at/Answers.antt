@@ -1,33 +1,26 @@
--- `values::period::end_at` meets its contract: each arm is the definition's clause, and a start with a duration is small.
+-- `values::period::end_at` meets its contract: each way out is the definition's clause, and a start with a duration is small.
 use Rattle.values.proofs.PeriodLaws.{read_duration_small}
 use Rattle.values.specs.Period.{end_by}
 use mathlib.Core.Path.{sym, ◌∙◌}
 use native.Mathlib.Omega.{arith}
 use Rattle.values.proofs.period.end_at.Goals as goal
 
+pub returns-in-Some : goal.returns-in-Some
+unfolding end_by
+returns-in-Some c = rw (sym c.utc_at.ensures ∙ c.in-Some.is)
+
+pub returns-in_err-length : goal.returns-in_err-length
+unfolding end_by
+returns-in_err-length c = rw (sym c.utc_at.ensures ∙ c.in_default.is, sym c.read_duration.ensures ∙ c.in_err-length.was) c.from_residual.ensures
+
 pub duration_seconds-requires : goal.duration_seconds-requires
 duration_seconds-requires c =
-    let read = sym c.read_duration-length.ensures ∙ c.in-Of.is in
-    omega (arith, (read_duration_small _ _ read).few_days, (read_duration_small _ _ read).few_seconds)
+    let small = read_duration_small _ _ (sym c.read_duration.ensures ∙ c.in_ok-length.was) in
+    omega (arith, small.few_days, small.few_seconds)
 
 pub overflow_add-result : goal.overflow_add-result
-overflow_add-result c = omega (arith, c.duration_seconds.ensures, (read_duration_small _ _ (sym c.read_duration-length.ensures ∙ c.in-Of.is)).limited)
+overflow_add-result c = omega (arith, c.duration_seconds.ensures, (read_duration_small _ _ (sym c.read_duration.ensures ∙ c.in_ok-length.was)).limited)
 
-pub returns-in-At : goal.returns-in-At
+pub returns : goal.returns
 unfolding end_by
-returns-in-At c = rw (sym c.utc_at-stated.ensures ∙ c.in-At.is)
-
-pub returns-in-Of : goal.returns-in-Of
-unfolding end_by
-returns-in-Of c =
-    let no_end = sym c.utc_at-stated.ensures ∙ c.in-Outside.is in
-    let read = sym c.read_duration-length.ensures ∙ c.in-Of.is in
-    let seconds = c.duration_seconds.ensures in
-    rw (no_end, read, seconds)
-
-pub returns-in-Bad : goal.returns-in-Bad
-unfolding end_by
-returns-in-Bad c =
-    let no_end = sym c.utc_at-stated.ensures ∙ c.in-Outside.is in
-    let no_duration = sym c.read_duration-length.ensures ∙ c.in-Bad.is in
-    rw (no_end, no_duration)
+returns c = rw (sym c.utc_at.ensures ∙ c.in_default.is, sym c.read_duration.ensures ∙ c.in_ok-length.was, c.duration_seconds.ensures)

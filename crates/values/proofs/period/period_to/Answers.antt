@@ -3,14 +3,14 @@ use borrow.Author.Tests.{lt-ltb, le-ltb}
 use Rattle.values.specs.Period.{period_to}
 use Rattle.values.proofs.period.period_to.Goals as goal
 
-pub returns-then-start-e : goal.returns-then-start-e
+pub returns-in_err-end : goal.returns-in_err-end
 unfolding period_to
-returns-then-start-e c = rw (c.in-Of.is, lt-ltb _ _ c.if-start-e.true)
+returns-in_err-end c = rw (c.in_err-end.was) c.from_residual.ensures
 
-pub returns-else-start-e : goal.returns-else-start-e
+pub returns-then-start-end : goal.returns-then-start-end
 unfolding period_to
-returns-else-start-e c = rw (c.in-Of.is, le-ltb _ _ c.if-start-e.false)
+returns-then-start-end c = rw (c.in_ok-end.was, lt-ltb _ _ c.if-start-end.true)
 
-pub returns-in-Bad : goal.returns-in-Bad
+pub returns-else-start-end : goal.returns-else-start-end
 unfolding period_to
-returns-in-Bad c = rw c.in-Bad.is
+returns-else-start-end c = rw (c.in_ok-end.was, le-ltb _ _ c.if-start-end.false)

@@ -1,42 +1,28 @@
--- `values::rule::rule_of` meets its contract: with the parts before a place, those from it on give all the parts.
-use Rattle.values.proofs.RuleLaws.{parts_start, parts_next, parts_end}
-use Rattle.line.proofs.Splitting.{item_rises, item_inside}
-use mathlib.Core.Path.{◌∙◌}
-use native.Mathlib.Omega.{arith}
+-- `values::rule::rule_of` meets its contract: the parts are those of the pieces between semicolons, one after the other.
+use Rattle.std.proofs.Common.{rules, ap, ◌∙◌, ◌≡◌}
+use Rattle.std.proofs.lemmas.Iterator.Consumers.{fold_from_yields_List}
+use Rattle.std.proofs.lemmas.Iterator.Splits.{YieldsList-from_slice_split}
+use Rattle.std.specs.List.{fold, slice_split}
+use borrow.Author.Tests.{tests}
+use lib.Dec.{eqb}
+use mathlib.Core.List.{map}
+use Rattle.values.specs.Rule.{rule_by, rule_of, part_of, no_parts, with_part, with_parts}
+use Rattle.values.proofs.Splits.{split_same, parts_folded}
 use Rattle.values.proofs.rule.rule_of.Goals as goal
 
-pub loop-c-init : goal.loop-c-init
-loop-c-init c = parts_start _ _ _ c.no_parts-p.ensures
-
-pub slice_bounds-part_of-count : goal.slice_bounds-part_of-count
-slice_bounds-part_of-count c = omega (arith, item_rises _ _ _ _ c.find-e.ensures, item_inside _ _ _ _ c.loop-c.invariant.inside_value c.find-e.ensures)
-
-pub slice_bounds-part_of-start : goal.slice_bounds-part_of-start
-slice_bounds-part_of-start c = omega (arith, item_rises _ _ _ _ c.find-e.ensures, item_inside _ _ _ _ c.loop-c.invariant.inside_value c.find-e.ensures)
-
-pub slice_bounds-part_of-end : goal.slice_bounds-part_of-end
-slice_bounds-part_of-end c = omega (arith, item_rises _ _ _ _ c.find-e.ensures, item_inside _ _ _ _ c.loop-c.invariant.inside_value c.find-e.ensures)
-
-pub returns-then-v-e : goal.returns-then-v-e
-returns-then-v-e c =
-    let parts = c.loop-c.invariant in
-    let next = c.find-e.ensures in
-    let read = c.part_of.ensures in
-    let joined = c.with_part-p.ensures in
-    let ended = c.if-v-e.true in
-    c.rule_by.ensures ∙ parts_end _ _ _ next ended read joined parts
-
-pub loop-c-smaller : goal.loop-c-smaller
-loop-c-smaller c =
-    let parts = c.loop-c.invariant in
-    let next = c.find-e.ensures in
-    omega (arith, item_rises _ _ _ _ next, item_inside _ _ _ _ parts.inside_value next)
-
-pub loop-c-preserved : goal.loop-c-preserved
-loop-c-preserved c =
-    let parts = c.loop-c.invariant in
-    let next = c.find-e.ensures in
-    let read = c.part_of.ensures in
-    let joined = c.with_part-p.ensures in
-    let inside = c.if-v-e.false in
-    parts_next _ _ _ next inside read joined parts
+pub returns : goal.returns
+unfolding rule_of
+returns c =
+    let v = c.args.v.now in
+    let x = c.args.c in
+    let folded : c.fold-parts.result ≡ fold (λ p t. with_part p (part_of x t)) c.no_parts.result (slice_split (λ b. eqb b 59) v) =
+    fold_from_yields_List _ (λ p t. with_part p (part_of x t)) _ _ c.fold-parts.ensures.ran
+    (YieldsList-from_slice_split _ (λ b. eqb b 59) v c.split.ensures.rest c.split.ensures.done c.split.ensures.closure (λ x b q k. search (rules, tests)))
+    (λ a y b q k. search (rules, tests))
+    in
+    c.rule_by.ensures
+    ∙ ap rule_by
+    (folded
+    ∙ parts_folded x _ _
+    ∙ ap (λ p. with_parts p (map (part_of x) (slice_split (λ b. eqb b 59) v))) c.no_parts.ensures
+    ∙ ap (λ ts. with_parts no_parts (map (part_of x) ts)) (split_same 59 v))

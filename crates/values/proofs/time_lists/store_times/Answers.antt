@@ -1,56 +1,54 @@
--- `values::time_lists::store_times` meets its contract: every item before a place is a time,
--- and the seconds of those from there on are left to store.
-use mathlib.Core.Path.{◌∙◌}
-use lib.ListN.{length-set}
-use Rattle.line.proofs.Splitting.{item_rises, item_inside}
-use Rattle.values.proofs.TimeLists.{storing_start, storing_stops, storing_small, storing_room, storing_next, storing_ends}
+-- `values::time_lists::store_times` meets its contract: every piece before those left is a time, and the seconds of these are left to store.
+use Rattle.std.proofs.Common.{rules}
+use Rattle.std.proofs.lemmas.Iterator.{YieldsList}
+use Rattle.std.proofs.lemmas.Iterator.Splits.{YieldsList-from_slice_split}
+use Rattle.std.specs.Iterator.{AlwaysYields}
+use Rattle.std.specs.List.{slice_split}
+use borrow.Author.Tests.{tests}
+use Rattle.values.specs.TimeLists.{TimesAre}
+use lib.Dec.{eqb}
+use mathlib.Core.Path.{sym, subst}
 use native.Mathlib.Omega.{arith}
+use Rattle.values.proofs.TimeLists.{next_piece, no_piece, storing_start, storing_stops, storing_small, storing_room, storing_next, storing_ends}
+use Rattle.values.proofs.time_lists.store_times.Given.{iterator-loop-item}
 use Rattle.values.proofs.time_lists.store_times.Goals as goal
 
-pub loop-t-init : goal.loop-t-init
-loop-t-init c = storing_start _ _ _ _ _ _ c.requires.v_bound
+pub loop-item-init : goal.loop-item-init
+loop-item-init c =
+    let v = c.args.v.now in
+    let pieces : YieldsList iterator-loop-item.next_gives (λ x. x.now) c.split-item-items.result (slice_split (λ b. eqb b 44) v) =
+    YieldsList-from_slice_split _ (λ b. eqb b 44) v c.split-item-items.ensures.rest c.split-item-items.ensures.done c.split-item-items.ensures.closure (λ x b q k. search (rules, tests))
+    in (
+      slice_split (λ b. eqb b 44) v,
+      subst (λ s. AlwaysYields iterator-loop-item.next_gives (λ x. x.now) s (slice_split (λ b. eqb b 44) v)) (sym c.into_iter-item-iterator.ensures.into_iter_gives) pieces.runs,
+      storing_start _ _ _ _ _ _ c.requires.v_bound,
+    )
 
-pub slice_bounds-read_time-count : goal.slice_bounds-read_time-count
-slice_bounds-read_time-count c = omega (arith, item_rises _ _ _ _ c.find-e.ensures, item_inside _ _ _ _ c.loop-t.invariant.inside_value c.find-e.ensures)
-
-pub slice_bounds-read_time-start : goal.slice_bounds-read_time-start
-slice_bounds-read_time-start c = omega (arith, item_rises _ _ _ _ c.find-e.ensures, item_inside _ _ _ _ c.loop-t.invariant.inside_value c.find-e.ensures)
-
-pub slice_bounds-read_time-end : goal.slice_bounds-read_time-end
-slice_bounds-read_time-end c = omega (arith, item_rises _ _ _ _ c.find-e.ensures, item_inside _ _ _ _ c.loop-t.invariant.inside_value c.find-e.ensures)
+pub returns-in_err-t : goal.returns-in_err-t
+returns-in_err-t c =
+    let so_far = c.loop-item.invariant in
+    let next = next_piece iterator-loop-item.next_gives (λ x. x.now) so_far.0 {t = c.next.new.self} {x = c.in-Some.item} so_far.1 c.in-Some.ensures.steps in
+    subst (TimesAre _ _ _ _ _ _ _) (sym c.from_residual.ensures) (storing_stops so_far.2 next.1 c.read_time.ensures c.in_err-t.was)
 
 pub overflow_cast-column : goal.overflow_cast-column
 overflow_cast-column c =
-    omega (arith, storing_small c.loop-t.invariant c.find-e.ensures c.read_time.ensures c.in-Of.is)
-
-pub offset_bounds-column-n : goal.offset_bounds-column-n
-offset_bounds-column-n c = omega (arith, storing_room c.loop-t.invariant c.find-e.ensures c.read_time.ensures c.in-Of.is, c.loop-t.invariant.long)
+    let so_far = c.loop-item.invariant in
+    let next = next_piece iterator-loop-item.next_gives (λ x. x.now) so_far.0 {t = c.next.new.self} {x = c.in-Some.item} so_far.1 c.in-Some.ensures.steps in
+    omega (arith, storing_small so_far.2 next.1 c.read_time.ensures c.in_ok-t.was)
 
 pub bounds-column-n : goal.bounds-column-n
 bounds-column-n c =
-    storing_room c.loop-t.invariant c.find-e.ensures c.read_time.ensures c.in-Of.is
+    let so_far = c.loop-item.invariant in
+    let next = next_piece iterator-loop-item.next_gives (λ x. x.now) so_far.0 {t = c.next.new.self} {x = c.in-Some.item} so_far.1 c.in-Some.ensures.steps in
+    storing_room so_far.2 next.1 c.read_time.ensures c.in_ok-t.was
 
-pub overflow_add-n : goal.overflow_add-n
-overflow_add-n c = omega (arith, storing_room c.loop-t.invariant c.find-e.ensures c.read_time.ensures c.in-Of.is, c.loop-t.invariant.long)
+pub loop-item-preserved : goal.loop-item-preserved
+loop-item-preserved c =
+    let so_far = c.loop-item.invariant in
+    let next = next_piece iterator-loop-item.next_gives (λ x. x.now) so_far.0 {t = c.next.new.self} {x = c.in-Some.item} so_far.1 c.in-Some.ensures.steps in
+    (next.0, next.2, storing_next so_far.2 next.1 c.read_time.ensures c.in_ok-t.was c.with_kind-found.ensures)
 
-pub shape_of-column-then-v-e : goal.shape_of-column-then-v-e
-shape_of-column-then-v-e c =
-    let turn = c.loop-t in
-    length-set turn.column turn.n c.in-Of.t.second ∙ turn.invariant.long
-
-pub returns-then-v-e : goal.returns-then-v-e
-returns-then-v-e c =
-    storing_ends c.loop-t.invariant c.find-e.ensures c.read_time.ensures c.in-Of.is c.with_kind-found.ensures c.if-v-e.true
-
-pub loop-t-smaller : goal.loop-t-smaller
-loop-t-smaller c = omega (arith, item_rises _ _ _ _ c.find-e.ensures, item_inside _ _ _ _ c.loop-t.invariant.inside_value c.find-e.ensures)
-
-pub loop-t-preserved : goal.loop-t-preserved
-loop-t-preserved c =
-    storing_next c.loop-t.invariant c.find-e.ensures c.read_time.ensures c.in-Of.is c.with_kind-found.ensures c.if-v-e.false
-
-pub shape_of-column-in-Bad : goal.shape_of-column-in-Bad
-shape_of-column-in-Bad c = c.loop-t.invariant.long
-
-pub returns-in-Bad : goal.returns-in-Bad
-returns-in-Bad c = storing_stops c.loop-t.invariant c.find-e.ensures c.read_time.ensures c.in-Bad.is
+pub returns : goal.returns
+returns c =
+    let so_far = c.loop-item.invariant in
+    storing_ends so_far.2 (no_piece iterator-loop-item.next_gives (λ x. x.now) so_far.0 so_far.1 c.in-None.ensures.steps)

@@ -1,11 +1,16 @@
--- `values::times::time_by` meets its contract: each arm is the definition's clause, at what the callees answer.
-use Rattle.values.specs.Times.{time_by}
+-- `values::times::time_by` meets its contract: no value, no second within the limits, or the time.
+use Rattle.values.specs.Times.{time_by, at_second}
+use mathlib.Core.Path.{sym, ◌∙◌}
 use Rattle.values.proofs.times.time_by.Goals as goal
 
-pub returns-in-At : goal.returns-in-At
+pub returns-in_err-kind : goal.returns-in_err-kind
 unfolding time_by
-returns-in-At c = simp (c.at_second.ensures, c.utc_of.ensures, c.in-At.is)
+returns-in_err-kind c = rw (c.in_err-kind.was) c.from_residual.ensures
 
-pub returns-in-Bad : goal.returns-in-Bad
-unfolding time_by
-returns-in-Bad c = rw c.in-Bad.is
+pub returns-in_err-second : goal.returns-in_err-second
+unfolding time_by at_second
+returns-in_err-second c = rw (c.in_ok-kind.was, sym c.utc_of.ensures ∙ c.in_err-second.was) c.from_residual-in_err-second.ensures
+
+pub returns : goal.returns
+unfolding time_by at_second
+returns c = rw (c.in_ok-kind.was, sym c.utc_of.ensures ∙ c.in_ok-second.was)

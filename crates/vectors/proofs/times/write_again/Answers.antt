@@ -4,4 +4,4 @@ use Rattle.time.proofs.LimitsLaws.{utc_second_in}
 use Rattle.vectors.proofs.times.write_again.Goals as goal
 
 pub show_written-requires : goal.show_written-requires
-show_written-requires g c = (utc_second_in _ _ 50400 _ (sym c.utc_second.ensures ∙ c.in-At-utc_second.is)).0
+show_written-requires g c = (utc_second_in _ _ 50400 _ (sym c.utc_second.ensures ∙ c.in-Some-utc_second.is)).0

@@ -9,8 +9,8 @@ returns-then-w-p c = before_start _ _ c.if-w-p.true
 pub returns-then-p-eq0 : goal.returns-then-p-eq0
 returns-then-p-eq0 c = without_rule _ _ (omega arith) c.if-p-eq0.true
 
-pub returns-in-At : goal.returns-in-At
-returns-in-At c = rule_found _ _ _ _ c.latest_by_rule-found.ensures c.in-At.is
+pub returns-in-Some : goal.returns-in-Some
+returns-in-Some c = rule_found _ _ _ _ c.latest_by_rule-found.ensures c.in-Some.is
 
-pub returns-in-Nothing : goal.returns-in-Nothing
-returns-in-Nothing c = rule_none _ _ _ (omega arith) c.latest_by_rule-found.ensures c.in-Nothing.is
+pub returns-in-None : goal.returns-in-None
+returns-in-None c = rule_none _ _ _ (omega arith) c.latest_by_rule-found.ensures c.in-None.is

@@ -1,6 +1,0 @@
--- `console::fault_line::show_line` is safe and ends: each line lies inside the bytes, and the next one begins behind it.
-use Rattle.std.proofs.Common.{length, ◌-◌}
-use Rattle.console.proofs.fault_line.show_line.Given as goal
-
-abbrev pub decreases-loop-e : goal.decreases-loop-e
-decreases-loop-e g l = length l.s - l.from

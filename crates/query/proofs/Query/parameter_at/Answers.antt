@@ -1,0 +1,13 @@
+-- `query::Query::parameter_at` meets its contract: the five bytes lie inside, since i is below the count.
+use Rattle.query.proofs.Records.{parameter_is}
+use Rattle.query.proofs.Query.parameter_at.Goals as goal
+
+pub returns : goal.returns
+returns c =
+    let sections = c.args.self.now.sections in
+    let property = c.byte_at.ensures.is in
+    let name = c.byte_at-2.ensures.is in
+    let text = c.byte_at-3.ensures.is in
+    let collation = c.byte_at-4.ensures.is in
+    let flag = c.byte_at-5.ensures.is in
+    parameter_is _ sections _ property name text collation flag
