@@ -2,6 +2,8 @@
 // Everything above reads bytes through these leaves.
 #![tactic(auto)]
 
+pub mod copying;
+
 ghost use Rattle.std.specs.Prelude.{◌≡◌, eqb};
 ghost use Rattle.ascii.specs.Bytes.{is_digit, is_letter, is_name_byte, is_control, upper};
 ghost use Rattle.ascii.specs.Names.{same_name, is_name};

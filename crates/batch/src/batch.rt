@@ -148,15 +148,15 @@ fn one(
     room: &mut Room,
 ) -> io::Result<Outcome> {
     rt.write_all(name)?;
-    match read_file(rt, name, &mut room.cal) {
+    match read_file(rt, name, room.cal) {
         Ok(cal) => {
             if let Some(query) = asked.query {
                 print_verdict(
                     rt,
-                    engine::matches(cal, query, asked.plan.offset, &mut room.work),
+                    engine::matches(cal, query, asked.plan.offset, room.work),
                 )?;
             }
-            report(rt, name, asked.plan, cal, &mut room.work, &mut room.out)
+            report(rt, name, asked.plan, cal, room.work, room.out)
         }
         Err(error) => print_unread(rt, asked, tell(rt, name, error)?),
     }
@@ -213,15 +213,15 @@ pub fn run(rt: &impl Runtime, query: &mut [u8], room: &mut Room) -> Result<(), S
     if many != 6 && many != 7 {
         return wrong(
             rt,
-            "batch takes START END OFFSET STAMP, and a QUERY or none",
+            b"batch takes START END OFFSET STAMP, and a QUERY or none",
         );
     }
-    let plan = args::read_plan(rt, 2)?;
+    let plan = args::read_plan(rt, 2, 3, 4, 5)?;
     if many == 6 {
         run_all(rt, Asked { plan, query: None }, room)?;
         return Ok(());
     }
-    let query = Some(query_at(rt, 6, &mut room.work, query)?);
+    let query = Some(query_at(rt, 6, room.work, query)?);
     run_all(rt, Asked { plan, query }, room)?;
     Ok(())
 }

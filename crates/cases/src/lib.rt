@@ -4,5 +4,5 @@
 
 pub mod case;
 mod number;
-mod reader;
+pub mod reader;
 pub mod run;

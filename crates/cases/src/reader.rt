@@ -95,6 +95,11 @@ impl<const N: usize> Bytes<N> {
             return Ok(());
         }
         let digit = hex_digit(b).ok_or(Fault::Byte)?;
+        self.push(digit)
+    }
+
+    // One more digit, the first or the second of a byte.
+    fn push(&mut self, digit: u8) -> Result<(), Fault> {
         match self.high.take() {
             None => self.high = Some(digit),
             Some(high) => self
@@ -149,6 +154,24 @@ impl Reader {
 
     // One more byte of the input. Is it the end of a line that is not empty?
     pub fn feed(&mut self, b: u8) -> bool {
+        // Nearly all of the input is digits of a calendar or a query: they take a short way.
+        if self.fault.is_none() {
+            if let Some(digit) = hex_digit(b) {
+                match self.field {
+                    Field::Calendar => {
+                        self.begun = true;
+                        self.fault = self.cal.push(digit).err();
+                        return false;
+                    }
+                    Field::Query => {
+                        self.begun = true;
+                        self.fault = self.query.push(digit).err();
+                        return false;
+                    }
+                    _ => {}
+                }
+            }
+        }
         if b == b'\n' && self.is_empty() {
             return false;
         }
@@ -183,7 +206,7 @@ impl Reader {
     }
 
     // Has nothing of the line been read?
-    fn is_empty(&self) -> bool {
+    pub fn is_empty(&self) -> bool {
         self.field == Field::Call && !self.begun && self.fault.is_none()
     }
 

@@ -51,7 +51,9 @@ fn store_value(
 {
     let mut n = first;
     for item in v.split(|&b| b == 44) {
-        let p = period::read_period(item)?;
+        let Some(p) = period::read_period(item) else {
+            return None;
+        };
         n = storing::store_period(column, n, busy, p.start, p.end, a, b);
     }
     Some(n)

@@ -1,4 +1,6 @@
 // The numbers among the arguments; what is wrong with one is said here.
+ghost use Rattle.std.specs.Prelude.{◌≤◌, length};
+
 use crate::out;
 use crate::stop::Stop;
 use cli::arguments::{Plan, offset_of, second_of};
@@ -16,7 +18,9 @@ pub fn count(rt: &impl Env) -> usize {
 }
 
 // Argument i, or nothing where it is missing or longer than the buffer.
-pub fn word_at<'a>(rt: &impl Env, i: usize, into: &'a mut [u8]) -> &'a [u8] {
+pub fn word_at<'a>(rt: &impl Env, i: usize, into: &'a mut [u8]) -> &'a [u8]
+    ensures { length result.now ≤ length into.old }
+{
     let n = rt.arg(i, into).unwrap_or(0);
     &into[..n]
 }
@@ -25,7 +29,7 @@ pub fn word_at<'a>(rt: &impl Env, i: usize, into: &'a mut [u8]) -> &'a [u8] {
 fn value_at<T, F: FnOnce(&[u8]) -> Option<T>>(
     rt: &(impl Env + Print),
     i: usize,
-    wanted: &str,
+    wanted: &[u8],
     read: F,
 ) -> Result<T, Stop>
     requires { F.IsAlwaysCallable read }
@@ -43,7 +47,7 @@ fn second_at(rt: &(impl Env + Print), i: usize) -> Result<u64, Stop> {
     value_at(
         rt,
         i,
-        "a time is seconds or UTC as 20240311T080000Z",
+        b"a time is seconds or UTC as 20240311T080000Z",
         second_of,
     )
 }
@@ -53,18 +57,23 @@ pub fn offset_at(rt: &(impl Env + Print), i: usize) -> Result<i64, Stop> {
     value_at(
         rt,
         i,
-        "an offset is seconds as -18000, or as +02:00",
+        b"an offset is seconds as -18000, or as +02:00",
         offset_of,
     )
 }
 
-// Start, end, offset and stamp, which are four arguments in a row.
-pub fn read_plan(rt: &(impl Env + Print), first: u8) -> Result<Plan, Stop> {
-    let first = usize::from(first);
-    let start = second_at(rt, first)?;
-    let end = second_at(rt, first + 1)?;
-    let offset = offset_at(rt, first + 2)?;
-    let stamp = second_at(rt, first + 3)?;
+// Start, end, offset and stamp by their numbers among the arguments.
+pub fn read_plan(
+    rt: &(impl Env + Print),
+    start: usize,
+    end: usize,
+    offset: usize,
+    stamp: usize,
+) -> Result<Plan, Stop> {
+    let start = second_at(rt, start)?;
+    let end = second_at(rt, end)?;
+    let offset = offset_at(rt, offset)?;
+    let stamp = second_at(rt, stamp)?;
     Ok(Plan {
         start,
         end,

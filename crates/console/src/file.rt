@@ -41,15 +41,18 @@ const NO_NAME: i32 = 22;
 
 const LONG_NAME: i32 = 36;
 
-fn reason_of(code: i32) -> Reason {
-    match code {
-        2 => Reason::Missing,
-        13 => Reason::NoLeave,
-        20 => Reason::NoDirectory,
-        21 => Reason::Directory,
-        NO_NAME => Reason::NoName,
-        LONG_NAME => Reason::LongName,
-        _ => Reason::Other,
+// The system's number of an error as people are told it.
+impl From<i32> for Reason {
+    fn from(code: i32) -> Reason {
+        match code {
+            2 => Reason::Missing,
+            13 => Reason::NoLeave,
+            20 => Reason::NoDirectory,
+            21 => Reason::Directory,
+            NO_NAME => Reason::NoName,
+            LONG_NAME => Reason::LongName,
+            _ => Reason::Other,
+        }
     }
 }
 
@@ -75,7 +78,7 @@ pub fn tell(rt: &(impl Eprint + Alloc), name: &[u8], error: io::Error) -> io::Re
     let told = format!(in rt.alloc(); "{}", io::Error::from_raw_os_error(code))?;
     let shown = String::from_utf8_lossy(rt.alloc(), name)?;
     let _ = eprintln!(rt; "{shown}: {}", words_of(&told));
-    Ok(reason_of(code))
+    Ok(Reason::from(code))
 }
 
 // Reads until the buffer is full, the file ends or a read fails.

@@ -15,21 +15,41 @@ example: loku report team.ics 20240311T080000Z 20240311T180000Z +00:00 171005040
 ";
 
 // One sentence on what is wrong with the call, and how to call.
-pub fn wrong<T>(rt: &impl Print, what: &str) -> Result<T, Stop> {
-    print!(rt; "wrong: {what}.\n{USAGE}")?;
+pub fn wrong<T>(rt: &impl Print, what: &[u8]) -> Result<T, Stop> {
+    print!(rt; "wrong: ")?;
+    rt.write_all(what)?;
+    print!(rt; ".\n{USAGE}")?;
     Err(Stop::Said)
 }
 
-// The same, with the word that is wrong.
-pub fn wrong_word<T>(rt: &impl Print, what: impl Display + Drop, word: &[u8]) -> Result<T, Stop> {
-    print!(rt; "wrong: {what}, and this is none: ")?;
+// The word that is wrong, and how to call.
+fn end_wrong<T>(rt: &impl Print, word: &[u8]) -> Result<T, Stop> {
+    print!(rt; ", and this is none: ")?;
     rt.write_all(word)?;
     print!(rt; "\n{USAGE}")?;
     Err(Stop::Said)
 }
 
+// The same as wrong, with the word that is wrong.
+pub fn wrong_word<T>(rt: &impl Print, what: &[u8], word: &[u8]) -> Result<T, Stop> {
+    print!(rt; "wrong: ")?;
+    rt.write_all(what)?;
+    end_wrong(rt, word)
+}
+
+// The same, where an error says what is wrong.
+pub fn wrong_by<T>(rt: &impl Print, what: impl Display + Drop, word: &[u8]) -> Result<T, Stop> {
+    print!(rt; "wrong: {what}")?;
+    end_wrong(rt, word)
+}
+
 // A file that cannot be read; the system's own words are on standard error.
-pub fn unreadable(rt: &impl Print, name: &[u8], reason: Reason) -> io::Result<()> {
+pub fn unreadable(
+    rt: &impl Print,
+    name: &[u8],
+    reason: impl Into<Reason> + Drop,
+) -> io::Result<()> {
+    let reason: Reason = reason.into();
     print!(rt; "unreadable: ")?;
     rt.write_all(name)?;
     println!(rt; ": {reason}")

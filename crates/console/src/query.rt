@@ -16,7 +16,7 @@ fn from_hex<'a>(
     match decode_hex(query, text) {
         Ok(n) => Ok(&query[..n]),
         Err(HexError::TooLong) => Ok(query),
-        Err(HexError::Bad) => out::wrong_word(rt, HexError::Bad, name),
+        Err(HexError::Bad) => out::wrong_by(rt, HexError::Bad, name),
     }
 }
 
@@ -33,7 +33,10 @@ fn read_query<'a>(
     let room = text.len();
     let text = file::read_or_say(rt, name, text)?;
     if text.len() == room {
-        return out::wrong(rt, "the text of a .hex query is at most 131,071 bytes long");
+        return out::wrong(
+            rt,
+            b"the text of a .hex query is at most 131,071 bytes long",
+        );
     }
     from_hex(rt, name, text, query)
 }

@@ -1,8 +1,8 @@
 // The memory that a command works in, lent by the program: a calendar, the engine's work buffer and a report.
-// The calendar's buffer is longer than any calendar that is answered, and a report is at most 35,006 bytes long.
+// Slices of any length, as the engine's calls take them.
 #[derive(Drop)]
-pub struct Room {
-    pub cal: [u8; 131072],
-    pub work: [u8; 131072],
-    pub out: [u8; 40000],
+pub struct Room<'a> {
+    pub cal: &'a mut [u8],
+    pub work: &'a mut [u8],
+    pub out: &'a mut [u8],
 }

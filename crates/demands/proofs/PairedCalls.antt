@@ -1,7 +1,7 @@
 -- Two report calls in one: each keeps its own promise, and what they say together follows from both.
-use Prim.Native.Nat.{ℕ, ◌≤◌, ◌<◌, min}
+use Prim.Native.Nat.{ℕ, suc, ◌≤◌, ◌<◌, min}
 use mathlib.Core.Path.{◌≡◌, refl, sym, ap, ◌∙◌, subst}
-use mathlib.Core.Bool.{Bool, true, false, ◌&&◌}
+use mathlib.Core.Bool.{Bool, true, false, ◌&&◌, and-false}
 use mathlib.Core.List.{List, [], ◌∷◌}
 use native.Mathlib.Omega.{arith}
 use lib.IntN.{ℤ}
@@ -9,11 +9,11 @@ use lib.Dec.{eqb, ltb}
 use lib.ListN.{length, take}
 use lib.Seq.{length-take-le, take_all, take-length}
 use lib.Pointwise.{pointwise}
-use borrow.Author.Tests.{ltb-true, ltb-false, lt-ltb}
+use borrow.Author.Tests.{eq-eqb, ne_eqb, ltb-true, ltb-false, lt-ltb, eqb-true, eqb-false}
 use Rattle.ascii.specs.Names.{same_bytes}
 use Rattle.ascii.proofs.Bools.{and_both}
 use Rattle.ascii.proofs.Names.{same_bytes_refl}
-use Rattle.report.specs.Heads.{heads_match}
+use Rattle.report.specs.Heads.{begins, has_bytes_at, heads_match}
 use Rattle.report.proofs.HeadsLaws.{report_heads_match}
 use Rattle.report.proofs.Bytes.{parts_length}
 use Rattle.collecting.specs.CalendarTerms.{report_for}
@@ -54,6 +54,28 @@ heads_match_holds {a = a} {o = o} p e n i =
     ap heads_match (ap (λ (j : ℕ). take j o) (e ∙ length_is a i) ∙ z.its_bytes) ∙ report_heads_match _
 
 -- ---- the same bytes
+
+same_step : (x l b m : Bool) → (l && b) ≡ m → (l && (x && b)) ≡ (x && m)
+same_step true l b m e = e
+same_step false l b m e = and-false l
+
+eqb_suc : (m n : ℕ) → eqb (suc m) (suc n) ≡ eqb m n
+eqb_suc m n = go (eqb m n) refl
+  where
+    go : (t : Bool) → eqb m n ≡ t → eqb (suc m) (suc n) ≡ eqb m n
+    go true q = eq-eqb (suc m) (suc n) (ap suc (eqb-true m n q)) ∙ sym q
+    go false q = ne_eqb (suc m) (suc n) (λ e. eqb-false m n q (omega arith)) ∙ sym q
+
+-- of one length, and one begins with the other
+same_both : (s t : List ℕ) → (eqb (length s) (length t) && has_bytes_at s t 0) ≡ same_bytes s t
+unfolding has_bytes_at begins
+same_both [] [] = refl
+same_both [] (b ∷ t) = rw (ne_eqb 0 (suc (length t)) (omega arith))
+same_both (a ∷ s) [] = rw (ne_eqb (suc (length s)) 0 (omega arith))
+same_both (a ∷ s) (b ∷ t) = rw (eqb_suc (length s) (length t)) (same_step (eqb a b) (eqb (length s) (length t)) (begins s t) (same_bytes s t) (same_both s t))
+
+pub same_by : (s t : List ℕ) {r : Bool} → r ≡ has_bytes_at s t 0 → (eqb (length s) (length t) && r) ≡ same_bytes s t
+same_by s t e = rw e (same_both s t)
 
 -- std's equality of slices
 pointwise_same : (s t : List ℕ) → pointwise eqb s t ≡ same_bytes s t

@@ -47,6 +47,13 @@ on_date Kind.Utc = refl
 on_date Kind.Floating = refl
 on_date Kind.Date = refl
 
+-- DATE is the kind of number 2
+pub date_number : (k : Kind) → eqb (kind_number k) 2 ≡ is_date k
+unfolding kind_number is_date
+date_number Kind.Utc = refl
+date_number Kind.Floating = refl
+date_number Kind.Date = refl
+
 -- the number of a rule, where one is given
 module _ {P : Rule → Type 0} (g : Option Rule) (n : ℕ) (h : MatchOption g (n ≡ 1) P) where
   pub days_said : ((x : Rule) → P x → n ≡ x.days) → n ≡ days_by g

@@ -16,7 +16,7 @@
 
 mod verify;
 
-use cli::arguments::{Command, command_of};
+use cli::arguments::{Command, Plan, command_of};
 use console::args::{offset_at, read_plan};
 use console::fault_line::show_fault;
 use console::file::file_at;
@@ -47,34 +47,37 @@ fn print_answer(
     }
 }
 
+// Calendar and buffers stand apart, as `engine::report` takes them.
+fn print_report(
+    rt: &impl Print,
+    p: Plan,
+    cal: &[u8],
+    work: &mut [u8],
+    out: &mut [u8],
+) -> io::Result<()> {
+    let a = engine::report(cal, p.start, p.end, p.offset, p.stamp, work, out);
+    print_answer(rt, a, out, cal, work)
+}
+
 fn report(rt: &impl Runtime, room: &mut Room) -> Result<(), Stop> {
     if args::count(rt) != 7 {
-        return out::wrong(rt, "report takes CALENDAR START END OFFSET STAMP");
+        return out::wrong(rt, b"report takes CALENDAR START END OFFSET STAMP");
     }
-    let p = read_plan(rt, 3)?;
-    let cal = file_at(rt, 2, &mut room.cal)?;
-    let a = engine::report(
-        cal,
-        p.start,
-        p.end,
-        p.offset,
-        p.stamp,
-        &mut room.work,
-        &mut room.out,
-    );
-    print_answer(rt, a, &room.out, cal, &mut room.work)?;
+    let p = read_plan(rt, 3, 4, 5, 6)?;
+    let cal = file_at(rt, 2, room.cal)?;
+    print_report(rt, p, cal, room.work, room.out)?;
     Ok(())
 }
 
 fn match_query(rt: &impl Runtime, query: &mut [u8], room: &mut Room) -> Result<(), Stop> {
     if args::count(rt) != 5 {
-        return out::wrong(rt, "match takes CALENDAR QUERY OFFSET");
+        return out::wrong(rt, b"match takes CALENDAR QUERY OFFSET");
     }
     let offset = offset_at(rt, 4)?;
-    let query = query_at(rt, 3, &mut room.work, query)?;
-    let cal = file_at(rt, 2, &mut room.cal)?;
-    let a = engine::matches(cal, query, offset, &mut room.work);
-    print_answer(rt, a, query, cal, &mut room.work)?;
+    let query = query_at(rt, 3, room.work, query)?;
+    let cal = file_at(rt, 2, room.cal)?;
+    let a = engine::matches(cal, query, offset, room.work);
+    print_answer(rt, a, query, cal, room.work)?;
     Ok(())
 }
 
@@ -86,16 +89,20 @@ fn run(rt: &impl Runtime, query: &mut [u8], room: &mut Room) -> Result<(), Stop>
         Some(Command::Verify) => verify::run(rt, room),
         Some(Command::Match) => match_query(rt, query, room),
         Some(Command::Batch) => batch::batch::run(rt, query, room),
-        None => out::wrong(rt, "the first word is report, verify, match or batch"),
+        None => out::wrong(rt, b"the first word is report, verify, match or batch"),
     }
 }
 
 fn main(rt: HostRuntime) -> io::Result<()> {
     let mut query = [0u8; 16384];
+    // The calendar's buffer is longer than any calendar that is answered, and a report is at most 35,006 bytes long.
+    let mut cal = [0u8; 131072];
+    let mut work = [0u8; 131072];
+    let mut out = [0u8; 40000];
     let mut room = Room {
-        cal: [0; 131072],
-        work: [0; 131072],
-        out: [0; 40000],
+        cal: &mut cal,
+        work: &mut work,
+        out: &mut out,
     };
     match run(&rt, &mut query, &mut room) {
         Ok(()) => Ok(()),

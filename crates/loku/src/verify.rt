@@ -69,16 +69,16 @@ pub fn run(rt: &impl Runtime, room: &mut Room) -> Result<(), Stop> {
     if many != 7 && many != 8 {
         return out::wrong(
             rt,
-            "verify takes CALENDAR START END OFFSET STAMP, and an OFFSET-AGAIN or none",
+            b"verify takes CALENDAR START END OFFSET STAMP, and an OFFSET-AGAIN or none",
         );
     }
-    let p = read_plan(rt, 3)?;
+    let p = read_plan(rt, 3, 4, 5, 6)?;
     // The offset of the second call: the argument behind the stamp, or the first one's.
     let again = if many == 8 {
         offset_at(rt, 7)?
     } else {
         p.offset
     };
-    let cal = file_at(rt, 2, &mut room.cal)?;
-    verify(rt, p, again, cal, &mut room.work, &mut room.out)
+    let cal = file_at(rt, 2, room.cal)?;
+    verify(rt, p, again, cal, room.work, room.out)
 }

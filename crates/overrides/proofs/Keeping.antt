@@ -17,6 +17,7 @@ use Rattle.values.specs.declared.times.Time.{Time}
 use Rattle.values.specs.TimeLists.{seconds_of, kind_number, same_kind}
 use Rattle.time.specs.contracts.date_time.Kind.{the_type}
 use denote.Enum.Bare.{sameb}
+use Rattle.events.specs.Events.{kind_number as event_kind_number}
 use Rattle.events.specs.declared.Event.{Event}
 use Rattle.events.specs.declared.Repeat.{Repeat}
 use Rattle.overrides.specs.Lists.{some, is_empty, two_or_more}
@@ -45,6 +46,13 @@ kind_is Kind.Date Kind.Date h = refl
 pub same_kind_iff : (a b : Kind) → (same_kind a b ≡ true) ↔ (a ≡ b)
 unfolding same_kind
 same_kind_iff a b = (λ h. kind_is a b (eqb-true _ _ h), λ e. eq-eqb _ _ (ap kind_number e))
+
+-- kinds have the same numbers in values and in events
+pub kind_number_lem : (k : Kind) → event_kind_number k ≡ kind_number k
+unfolding event_kind_number kind_number
+kind_number_lem Kind.Utc = refl
+kind_number_lem Kind.Floating = refl
+kind_number_lem Kind.Date = refl
 
 -- kinds are equal where their numbers are
 pub kinds_equal : (a b : Kind) → sameb the_type a b ≡ same_kind a b

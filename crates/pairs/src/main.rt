@@ -11,17 +11,12 @@ use cases::run::Answering;
 use std::io;
 use told::{Told, told_heads, told_same};
 
-// A case that was read, with its calendar.
-#[derive(Drop)]
-struct Kept {
-    numbers: Numbers,
-    cal: ArrayVec<u8, CALENDAR>,
-}
-
-// The case before the one that is answered, where there is one.
+// The case before the one that is answered, where there is one, and its calendar.
+// The calendar stands beside the Option: in it, each case would fill and move the whole array.
 #[derive(Drop)]
 struct Pairs {
-    before: Option<Kept>,
+    before: Option<Numbers>,
+    cal: ArrayVec<u8, CALENDAR>,
 }
 
 impl Answering for Pairs {
@@ -30,8 +25,8 @@ impl Answering for Pairs {
             return Ok(());
         }
         read_back(rt, case.numbers, case.cal)?;
-        if let Some(before) = &self.before {
-            compare(rt, before.numbers, &before.cal, case.numbers, case.cal)?;
+        if let Some(before) = self.before {
+            compare(rt, before, &self.cal, case.numbers, case.cal)?;
         }
         self.keep(case);
         Ok(())
@@ -41,26 +36,33 @@ impl Answering for Pairs {
 impl Pairs {
     // The case is kept for the one behind it.
     fn keep(&mut self, case: &Case<'_>) {
-        let mut cal = ArrayVec::new();
+        self.cal.clear();
         // A calendar that was read has room there.
-        if cal.try_extend_from_slice(case.cal).is_ok() {
-            self.before = Some(Kept {
-                numbers: case.numbers,
-                cal,
-            });
+        if self.cal.try_extend_from_slice(case.cal).is_ok() {
+            self.before = Some(case.numbers);
         }
     }
 }
 
-// With buffers as long as the case asks for.
+// A case whose offset 64 bits do not hold both ways is told before any buffer is filled.
 fn read_back(rt: &impl Print, numbers: Numbers, cal: &[u8]) -> io::Result<()> {
+    match both_ways(numbers.offset) {
+        Some((offset, again)) => read_back_with(rt, numbers, offset, again, cal),
+        None => println!(rt; "{}", numbers.unreadable()),
+    }
+}
+
+// With buffers as long as the case asks for.
+fn read_back_with(
+    rt: &impl Print,
+    numbers: Numbers,
+    offset: i64,
+    again: i64,
+    cal: &[u8],
+) -> io::Result<()> {
     let mut work = [0xA5u8; 131072];
     let mut out = [0xA5u8; 131072];
-    let (Some((offset, again)), Some(work), Some(out)) = (
-        both_ways(numbers.offset),
-        work.get_mut(..numbers.work),
-        out.get_mut(..numbers.out),
-    ) else {
+    let (Some(work), Some(out)) = (work.get_mut(..numbers.work), out.get_mut(..numbers.out)) else {
         return println!(rt; "{}", numbers.unreadable());
     };
     read_back_in(rt, numbers, offset, again, cal, work, out)
@@ -142,6 +144,9 @@ fn compare(
 }
 
 fn main(rt: HostRuntime) -> io::Result<()> {
-    let mut pairs = Pairs { before: None };
+    let mut pairs = Pairs {
+        before: None,
+        cal: ArrayVec::new(),
+    };
     cases::run::run(&rt, &mut pairs)
 }

@@ -4,10 +4,11 @@ use mathlib.Core.Path.{◌≡◌, refl, sym, ap, ◌∙◌}
 use mathlib.Core.Bool.{true}
 use mathlib.Core.List.{List, [], ◌∷◌, ◌++◌}
 use mathlib.Core.Logic.{◌↔◌}
+use lib.Dec.{ltb}
 use borrow.Author.Tests.{eqb-true, eq-eqb}
 use Rattle.periods.specs.declared.Period.{Period}
 use Rattle.periods.specs.declared.BusyType.{BusyType}
-use Rattle.periods.specs.BusyTypes.{report_place, same_busy, BusyPeriod, typed, periods_of}
+use Rattle.periods.specs.BusyTypes.{report_place, is_busy, same_busy, BusyPeriod, typed, periods_of}
 
 -- the busy type that stands at a place
 type_at : ℕ → BusyType
@@ -28,6 +29,14 @@ pub same_busy_iff : (a b : BusyType) → (same_busy a b ≡ true) ↔ (a ≡ b)
 unfolding same_busy
 same_busy_iff a b =
     (λ e. sym (type_there a) ∙ ap type_at (eqb-true (report_place a) (report_place b) e) ∙ type_there b, λ e. eq-eqb (report_place a) (report_place b) (ap report_place e))
+
+-- busy time has one of the places below 3
+pub busy_place : (b : BusyType) → ltb (report_place b) 3 ≡ is_busy b
+unfolding report_place is_busy
+busy_place BusyType.Busy = refl
+busy_place BusyType.Tentative = refl
+busy_place BusyType.Unavailable = refl
+busy_place BusyType.Free = refl
 
 -- a type given and left out again
 pub periods_of_typed : (b : BusyType) (ps : List Period) → periods_of (typed b ps) ≡ ps

@@ -1,10 +1,10 @@
 -- Bytes written one run behind another: two runs are one, and what is left to write;
 -- the lines of three tables, and how long they are.
-use Prim.Native.Nat.{ℕ, ◌+◌, ◌≤◌}
+use Prim.Native.Nat.{ℕ, zero, suc, ◌+◌, ◌≤◌}
 use mathlib.Core.Path.{◌≡◌, refl, ap, ◌∙◌, sym, subst}
 use mathlib.Core.List.{List, [], ◌∷◌, ◌++◌, append_assoc}
 use native.Mathlib.Omega.{arith}
-use lib.ListN.{length, length-append, drop, drop_of_length-le}
+use lib.ListN.{length, take, length-append, drop, drop_of_length-le}
 use lib.Seq.{sets, length-sets}
 use Rattle.text.specs.Lines.{joined}
 use Rattle.time.specs.Writing.{utc_text}
@@ -14,7 +14,7 @@ use Rattle.time.proofs.WritingLaws.{utc_text_length}
 use Rattle.periods.specs.declared.BusyType.{BusyType}
 use Rattle.periods.specs.declared.Period.{Period}
 use Rattle.periods.specs.Periods.{period}
-use Rattle.table.specs.Tables.{table_at, listed}
+use Rattle.table.specs.Tables.{rows, table_at, listed}
 use Rattle.table.proofs.Tables.{listed_length, table_sound}
 use Rattle.report.specs.Bytes.{busy_lines, report_bytes, report_length, period_text, period_lines, GoodPeriods, then, Writable}
 use Rattle.report.specs.Writing.{packed, report_of, AllGood, Put}
@@ -28,6 +28,14 @@ types_length : (f : BusyType → List Period)
     ≡ length (type_bytes BusyType.Busy (f BusyType.Busy))
     + (length (type_bytes BusyType.Tentative (f BusyType.Tentative)) + length (type_bytes BusyType.Unavailable (f BusyType.Unavailable)))
 types_length f = ap length (busy_parts f) ∙ simp length-append
+
+-- as many periods as rows are counted
+pub rows_length : (n : ℕ) (ss es : List ℕ) → n ≤ length ss → n ≤ length es → length (take n (rows ss es)) ≡ n
+unfolding rows
+rows_length zero ss es h k = refl
+rows_length (suc n) [] es h k = absurd (omega arith)
+rows_length (suc n) (s ∷ ss) [] h k = absurd (omega arith)
+rows_length (suc n) (s ∷ ss) (e ∷ es) h k = ap suc (rows_length n ss es (omega arith) (omega arith))
 
 -- a report of so many rows of each type is as long as they make it
 pub tables_length : (a b s x y z : ℕ) (ss es : List ℕ) → x + y + z ≤ length ss → length es ≡ length ss

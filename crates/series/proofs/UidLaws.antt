@@ -1,9 +1,10 @@
 -- Laws of UIDs: a line by what it says, the lines of an event one after the other, and its link.
-use Prim.Native.Nat.{ℕ, ◌+◌, ◌*◌, ◌-◌, ◌≤◌}
+use Prim.Native.Nat.{ℕ, ◌+◌, ◌*◌, ◌-◌, ◌≤◌, suc}
 use mathlib.Core.Path.{◌≡◌, refl, sym, ap, subst, ◌∙◌}
-use mathlib.Core.Bool.{Bool, true, false, ◌||◌}
+use mathlib.Core.Bool.{Bool, true, false, ◌||◌, and-false}
 use mathlib.Core.List.{List, [], ◌∷◌, ◌++◌}
 use native.Mathlib.Omega.{arith}
+use lib.Dec.{eqb}
 use lib.ListN.{length, get_or}
 use Rattle.ascii.specs.Names.{same_bytes}
 use Rattle.ascii.proofs.Bools.{clash}
@@ -30,6 +31,15 @@ use Rattle.values.specs.declared.given.Given.{Given}
 use Rattle.identities.specs.declared.rows.Link.{Link}
 use Rattle.series.specs.Identities.{UidTies}
 use Rattle.series.specs.Uids.{is_uid, line_has, lines_have, UidsKnown}
+
+-- ---- bytes
+
+-- other lengths, other bytes
+pub bytes_length : (s t : List ℕ) → (length s ≡ length t → ⊥) → same_bytes s t ≡ false
+bytes_length [] [] h = absurd (h refl)
+bytes_length [] (b ∷ t) h = refl
+bytes_length (a ∷ s) [] h = refl
+bytes_length (a ∷ s) (b ∷ t) h = rw (bytes_length s t (λ e. h (ap suc e))) (and-false (eqb a b))
 
 -- ---- a line
 

@@ -6,6 +6,7 @@ ghost use Rattle.series.specs.Removed.{Takeable, SecondsStored, SecondsOrdered, 
 
 use crate::columns::EventColumns;
 use crate::{moved, uids};
+use ascii::copying::copy_over;
 use structure::calendar::Calendar;
 use values::given::Given;
 use values::times::Context;
@@ -15,7 +16,7 @@ fn store_seconds(out: &mut [u32], l: &[u32])
     requires { length l.now ≤ length out.old }
     ensures { out.new ≡ sets out.old 0 l.now }
 {
-    out[..l.len()].copy_from_slice(l);
+    copy_over(&mut out[..l.len()], l);
 }
 
 // What overrides name of the event of row k, whose link has this UID, stored from place n on; where that ends.

@@ -9,6 +9,8 @@ ghost use Rattle.text.specs.TextMatch.{folded_by, starts_at};
 ghost use Rattle.text.specs.Unfolding.{fold_at, Nowhere, Excludes, NextFold, Unfolded};
 ghost use Rattle.text.specs.Lines.{break_at, StepsTo};
 
+use ascii::copying::copy_over;
+
 // How bytes are compared: as they are, or with a to z read as A to Z.
 #[derive(Clone, Copy)]
 pub enum Collation {
@@ -109,7 +111,7 @@ pub fn unfold_into(work: &mut [u8], cal: &[u8]) -> usize
     loop {
         let e = next_fold(cal, i);
         let many = e - i;
-        work[n..n + many].copy_from_slice(&cal[i..e]);
+        copy_over(&mut work[n..n + many], &cal[i..e]);
         n += many;
         if cal.len() <= e {
             return n;

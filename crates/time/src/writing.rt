@@ -7,6 +7,7 @@ ghost use Rattle.time.specs.Limits.{last_second};
 ghost use Rattle.time.specs.Writing.{month_in, day_of, date_text, time_text, utc_text};
 
 use crate::days;
+use ascii::copying::copy_over;
 
 // A day of the calendar.
 #[derive(Clone, Copy)]
@@ -21,7 +22,7 @@ pub fn put_bytes(out: &mut [u8], at: usize, src: &[u8])
     requires { at + length src.now ≤ length out.old }
     ensures { out.new ≡ sets out.old at src.now }
 {
-    out[at..at + src.len()].copy_from_slice(src);
+    copy_over(&mut out[at..at + src.len()], src);
 }
 
 // The month that has begun last after n days of a year, a day being 67 / 2048 of a month.

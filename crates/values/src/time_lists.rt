@@ -51,7 +51,9 @@ pub fn store_times(
     let mut n = first;
     let mut found = kinds;
     for item in v.split(|&b| b == 44) {
-        let t = times::read_time(c, form, item)?;
+        let Some(t) = times::read_time(c, form, item) else {
+            return None;
+        };
         column[n] = t.second as u32;
         found = with_kind(found, t.kind);
         n += 1;

@@ -6,6 +6,7 @@ ghost use Rattle.values.specs.Times.{ContextGood};
 ghost use Rattle.structure.specs.Rows.{FileRows};
 
 use crate::lines::decode;
+use arrayvec::ArrayVec;
 use calendar::Refusal;
 use contents::walks;
 use std::io;
@@ -36,8 +37,13 @@ fn with_digit(n: u64, b: u8) -> u64
 
 fn show_fault(rt: &impl Print, r: Result<(), Refusal>) -> io::Result<()> {
     match r {
-        Ok(()) => rt.print("good"),
-        Err(e) => print!(rt; "refused {} at line {}", e.number, e.line),
+        Ok(()) => rt.write_all(b"good"),
+        Err(e) => {
+            rt.write_all(b"refused ")?;
+            rt.print(e.number)?;
+            rt.write_all(b" at line ")?;
+            rt.print(e.line)
+        }
     }
 }
 
@@ -82,7 +88,8 @@ fn fault_of(s: &[u8], c: Context) -> Result<(), Refusal>
 
 // The offset as 50,400 more than it, a blank, and the calendar in hex.
 pub fn check_hex(rt: &impl Print, s: &[u8]) -> io::Result<()> {
-    let cal = decode::<65536>(line::split::after(s, b' ', false));
+    let mut cal = ArrayVec::<u8, 65536>::new();
+    decode(&mut cal, line::split::after(s, b' ', false));
     let shift = shift(line::split::before(s, b' ', false));
     let mut work = [0u8; 65536];
     let n = text::unfold_into(&mut work, &cal);

@@ -20,22 +20,21 @@ fn digit(b: u8) -> u8
     }
 }
 
-// The bytes that a text in hex writes, the first N of them.
-pub fn decode<const N: usize>(hex: &[u8]) -> ArrayVec<u8, N> {
-    let mut bytes = ArrayVec::new();
+// The bytes that a text in hex writes, as many as there is room for, behind those that are there.
+// They go to the caller's array: one that is handed out would be copied whole.
+pub fn decode<const N: usize>(bytes: &mut ArrayVec<u8, N>, hex: &[u8]) {
     let (pairs, _) = hex.as_chunks::<2>();
     for &[high, low] in pairs {
         if bytes.try_push(digit(high) * 16 + digit(low)).is_err() {
             break;
         }
     }
-    bytes
 }
 
 fn show_value(rt: &impl Print, v: &[u8]) -> io::Result<()> {
-    rt.print(" <")?;
+    rt.write_all(b" <")?;
     rt.write_all(v)?;
-    rt.print(">")
+    rt.write_all(b">")
 }
 
 fn show_values(rt: &impl Print, p: &[u8]) -> io::Result<()> {
@@ -47,7 +46,7 @@ fn show_values(rt: &impl Print, p: &[u8]) -> io::Result<()> {
 }
 
 fn show_parameter(rt: &impl Print, p: &[u8]) -> io::Result<()> {
-    rt.print(" parameter ")?;
+    rt.write_all(b" parameter ")?;
     rt.write_all(line::read::parameter_name(p))?;
     show_values(rt, p)
 }
@@ -62,19 +61,23 @@ fn show_parameters(rt: &impl Print, l: &[u8]) -> io::Result<()> {
 }
 
 fn show_parts(rt: &impl Print, l: &[u8]) -> io::Result<()> {
-    rt.print(" [")?;
+    rt.write_all(b" [")?;
     rt.write_all(line::split::before(line::read::head(l), b';', true))?;
     show_parameters(rt, l)?;
-    rt.print(" value")?;
+    rt.write_all(b" value")?;
     show_value(rt, line::read::value(l))?;
-    rt.print("]")
+    rt.write_all(b"]")
 }
 
 // The line l, which starts at this place of s.
 fn show_line(rt: &impl Print, s: &[u8], from: usize, l: &[u8]) -> io::Result<()> {
     match line::check::next_good(s, from) {
         Next::Line(_, _) => show_parts(rt, l),
-        Next::Bad => print!(rt; " [bad {}]", l.len()),
+        Next::Bad => {
+            rt.write_all(b" [bad ")?;
+            rt.print(l.len())?;
+            rt.write_all(b"]")
+        }
         Next::End => Ok(()),
     }
 }
@@ -94,9 +97,12 @@ fn show_check(rt: &impl Print, s: &[u8]) -> io::Result<()>
 {
     let mut index = [0u32; 16385];
     match index::fill_index(&mut index, s) {
-        Ok(_) => rt.print(" good"),
-        Err(IndexError::BadLine(n)) => print!(rt; " bad line {n}"),
-        Err(IndexError::Full) => rt.print(" too many lines"),
+        Ok(_) => rt.write_all(b" good"),
+        Err(IndexError::BadLine(n)) => {
+            rt.write_all(b" bad line ")?;
+            rt.print(n)
+        }
+        Err(IndexError::Full) => rt.write_all(b" too many lines"),
     }
 }
 
@@ -107,22 +113,25 @@ fn show_contains(
     collation: Collation,
 ) -> io::Result<()> {
     if search::contains(value, wanted, collation) {
-        rt.print("contained")
+        rt.write_all(b"contained")
     } else {
-        rt.print("not contained")
+        rt.write_all(b"not contained")
     }
 }
 
 // Both texts, with a comma between them.
 pub fn compare(rt: &impl Print, hex: &[u8], collation: Collation) -> io::Result<()> {
-    let value = decode::<4096>(line::split::before(hex, b',', false));
-    let wanted = decode::<4096>(line::split::after(hex, b',', false));
+    let mut value = ArrayVec::<u8, 4096>::new();
+    let mut wanted = ArrayVec::<u8, 4096>::new();
+    decode(&mut value, line::split::before(hex, b',', false));
+    decode(&mut wanted, line::split::after(hex, b',', false));
     show_contains(rt, &value, &wanted, collation)
 }
 
 // The calendar in hex is unfolded and cut into lines.
 pub fn unfold_hex(rt: &impl Print, hex: &[u8]) -> io::Result<()> {
-    let cal = decode::<4096>(hex);
+    let mut cal = ArrayVec::<u8, 4096>::new();
+    decode(&mut cal, hex);
     let mut work = [0u8; 4096];
     let n = text::unfold_into(&mut work, &cal);
     rt.print(n)?;

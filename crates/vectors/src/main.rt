@@ -3,6 +3,7 @@
 // +, -: at offset 50,400, -50,400; p: a DURATION; w: a DATE-TIME written again; u: bytes in hex, unfolded and cut into lines;
 // 0, 1: a value and a text in hex with a comma between them, compared by each collation;
 // k: the offset as 50,400 more than it, a blank and a calendar in hex, of which the answer alone is written.
+// Fixed text goes out by `write_all`, which needs no buffer to format it in; numbers by `print`.
 #![tactic(auto)]
 
 mod calendars;
@@ -37,14 +38,14 @@ fn answer(rt: &impl Print, kind: u8, text: &[u8]) -> io::Result<()> {
 fn answer_line(rt: &impl Print, line: &[u8]) -> io::Result<()> {
     match line {
         [] => Ok(()),
-        [_] => rt.println("too short"),
+        [_] => rt.write_all(b"too short\n"),
         &[kind, _, ref text @ ..] => {
             if kind != b'k' {
                 rt.write_all(line)?;
-                rt.print(" is ")?;
+                rt.write_all(b" is ")?;
             }
             answer(rt, kind, text)?;
-            rt.println("")
+            rt.write_all(b"\n")
         }
     }
 }

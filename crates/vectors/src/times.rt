@@ -12,15 +12,16 @@ fn show_second(rt: &impl Print, kind: Kind, clock: u64, shift: u64) -> io::Resul
 {
     match time::limits::utc_second(kind, clock, shift) {
         Some(t) => rt.print(t),
-        None => rt.print("outside"),
+        None => rt.write_all(b"outside"),
     }
 }
 
-fn name_of(kind: Kind) -> &'static str {
+// Its name and the blank that follows.
+fn name_of(kind: Kind) -> &'static [u8] {
     match kind {
-        Kind::Utc => "utc",
-        Kind::Floating => "floating",
-        Kind::Date => "date",
+        Kind::Utc => b"utc ",
+        Kind::Floating => b"floating ",
+        Kind::Date => b"date ",
     }
 }
 
@@ -29,20 +30,26 @@ pub fn show_time(rt: &impl Print, read: Option<DateTime>, shift: u64) -> io::Res
 {
     match read {
         Some(DateTime { kind, clock }) => {
-            print!(rt; "{} ", name_of(kind))?;
+            rt.write_all(name_of(kind))?;
             show_second(rt, kind, clock, shift)
         }
-        None => rt.print("bad"),
+        None => rt.write_all(b"bad"),
     }
 }
 
 pub fn show_duration(rt: &impl Print, text: &[u8]) -> io::Result<()> {
     match time::duration::read_duration(text) {
         Some(d) => {
-            let timed = if d.timed { ", timed" } else { "" };
-            print!(rt; "{} days {} seconds{timed}", d.days, d.seconds)
+            rt.print(d.days)?;
+            rt.write_all(b" days ")?;
+            rt.print(d.seconds)?;
+            rt.write_all(if d.timed {
+                b" seconds, timed"
+            } else {
+                b" seconds"
+            })
         }
-        None => rt.print("bad"),
+        None => rt.write_all(b"bad"),
     }
 }
 
@@ -59,8 +66,8 @@ pub fn write_again(rt: &impl Print, text: &[u8]) -> io::Result<()> {
     match time::date_time::read_date_time(text) {
         Some(DateTime { kind, clock }) => match time::limits::utc_second(kind, clock, 50400) {
             Some(t) => show_written(rt, t),
-            None => rt.print("outside"),
+            None => rt.write_all(b"outside"),
         },
-        None => rt.print("bad"),
+        None => rt.write_all(b"bad"),
     }
 }

@@ -7,7 +7,6 @@ use Rattle.std.specs.List.{slice_split}
 use borrow.Author.Tests.{tests}
 use lib.Dec.{eqb}
 use mathlib.Core.Path.{sym, subst, ◌∙◌}
-use Rattle.component_lines.specs.Lines.{ValueIs}
 use Rattle.values.proofs.TimeLists.{next_piece, no_piece}
 use Rattle.component_lines.proofs.LinesStoring.{value_start, value_next, value_ends, value_stops}
 use Rattle.component_lines.proofs.store_value.Given.{iterator-loop-item}
@@ -24,14 +23,14 @@ loop-item-init c =
       value_start _ _ _ _ _ _ c.requires.first_bound c.requires.room,
     )
 
-pub shape_of-column-in_err-p : goal.shape_of-column-in_err-p
-shape_of-column-in_err-p c = c.loop-item.invariant.2.still.long ∙ sym c.requires.room
+pub shape_of-column-in_default : goal.shape_of-column-in_default
+shape_of-column-in_default c = c.loop-item.invariant.2.still.long ∙ sym c.requires.room
 
-pub returns-in_err-p : goal.returns-in_err-p
-returns-in_err-p c =
+pub returns-in_default : goal.returns-in_default
+returns-in_default c =
     let so_far = c.loop-item.invariant in
     let next = next_piece iterator-loop-item.next_gives (λ x. x.now) so_far.0 {t = c.next.new.self} {x = c.in-Some.item} so_far.1 c.in-Some.ensures.steps in
-    subst (ValueIs _ _ _ _ _ _ _) (sym c.from_residual.ensures) (value_stops so_far.2 next.1 c.read_period.ensures c.in_err-p.was _)
+    value_stops so_far.2 next.1 c.read_period.ensures c.in_default.is _
 
 pub store_period-n-requires : goal.store_period-n-requires
 store_period-n-requires c =
@@ -46,7 +45,7 @@ pub loop-item-preserved : goal.loop-item-preserved
 loop-item-preserved c =
     let so_far = c.loop-item.invariant in
     let next = next_piece iterator-loop-item.next_gives (λ x. x.now) so_far.0 {t = c.next.new.self} {x = c.in-Some.item} so_far.1 c.in-Some.ensures.steps in
-    (next.0, next.2, value_next so_far.2 next.1 c.read_period.ensures c.in_ok-p.was c.store_period-n.ensures)
+    (next.0, next.2, value_next so_far.2 next.1 c.read_period.ensures c.in-Some-read_period.is c.store_period-n.ensures)
 
 pub returns : goal.returns
 returns c =

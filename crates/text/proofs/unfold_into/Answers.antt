@@ -7,8 +7,8 @@ loop-n-init c = passed_start _ _
 
 pub returns-then-cal-e : goal.returns-then-cal-e
 returns-then-cal-e c =
-    passed_end c.requires c.loop-n.invariant c.next_fold-e.ensures (run_copied _ _ _ _ _ _ c.next_fold-e.ensures.before.order c.next_fold-e.ensures.before.inside c.copy_from_slice.ensures.after) c.if-cal-e.true
+    passed_end c.requires c.loop-n.invariant c.next_fold-e.ensures (run_copied _ _ _ _ _ _ c.next_fold-e.ensures.before.order c.next_fold-e.ensures.before.inside c.copy_over.ensures.after) c.if-cal-e.true
 
 pub loop-n-preserved : goal.loop-n-preserved
 loop-n-preserved c =
-    passed_next c.requires c.loop-n.invariant c.next_fold-e.ensures (run_copied _ _ _ _ _ _ c.next_fold-e.ensures.before.order c.next_fold-e.ensures.before.inside c.copy_from_slice.ensures.after) c.if-cal-e.false
+    passed_next c.requires c.loop-n.invariant c.next_fold-e.ensures (run_copied _ _ _ _ _ _ c.next_fold-e.ensures.before.order c.next_fold-e.ensures.before.inside c.copy_over.ensures.after) c.if-cal-e.false

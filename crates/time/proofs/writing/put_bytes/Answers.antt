@@ -4,4 +4,4 @@ use native.Mathlib.Omega.{arith}
 use Rattle.time.proofs.writing.put_bytes.Goals as goal
 
 pub returns : goal.returns
-returns c = sets_part _ _ c.args.at (omega arith) c.copy_from_slice.ensures.after c.requires
+returns c = sets_part _ _ c.args.at (omega arith) c.copy_over.ensures.after c.requires

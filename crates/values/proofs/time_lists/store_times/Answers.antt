@@ -5,7 +5,6 @@ use Rattle.std.proofs.lemmas.Iterator.Splits.{YieldsList-from_slice_split}
 use Rattle.std.specs.Iterator.{AlwaysYields}
 use Rattle.std.specs.List.{slice_split}
 use borrow.Author.Tests.{tests}
-use Rattle.values.specs.TimeLists.{TimesAre}
 use lib.Dec.{eqb}
 use mathlib.Core.Path.{sym, subst}
 use native.Mathlib.Omega.{arith}
@@ -24,29 +23,29 @@ loop-item-init c =
       storing_start _ _ _ _ _ _ c.requires.v_bound,
     )
 
-pub returns-in_err-t : goal.returns-in_err-t
-returns-in_err-t c =
+pub returns-in_default : goal.returns-in_default
+returns-in_default c =
     let so_far = c.loop-item.invariant in
     let next = next_piece iterator-loop-item.next_gives (λ x. x.now) so_far.0 {t = c.next.new.self} {x = c.in-Some.item} so_far.1 c.in-Some.ensures.steps in
-    subst (TimesAre _ _ _ _ _ _ _) (sym c.from_residual.ensures) (storing_stops so_far.2 next.1 c.read_time.ensures c.in_err-t.was)
+    storing_stops so_far.2 next.1 c.read_time.ensures c.in_default.is
 
 pub overflow_cast-column : goal.overflow_cast-column
 overflow_cast-column c =
     let so_far = c.loop-item.invariant in
     let next = next_piece iterator-loop-item.next_gives (λ x. x.now) so_far.0 {t = c.next.new.self} {x = c.in-Some.item} so_far.1 c.in-Some.ensures.steps in
-    omega (arith, storing_small so_far.2 next.1 c.read_time.ensures c.in_ok-t.was)
+    omega (arith, storing_small so_far.2 next.1 c.read_time.ensures c.in-Some-read_time.is)
 
 pub bounds-column-n : goal.bounds-column-n
 bounds-column-n c =
     let so_far = c.loop-item.invariant in
     let next = next_piece iterator-loop-item.next_gives (λ x. x.now) so_far.0 {t = c.next.new.self} {x = c.in-Some.item} so_far.1 c.in-Some.ensures.steps in
-    storing_room so_far.2 next.1 c.read_time.ensures c.in_ok-t.was
+    storing_room so_far.2 next.1 c.read_time.ensures c.in-Some-read_time.is
 
 pub loop-item-preserved : goal.loop-item-preserved
 loop-item-preserved c =
     let so_far = c.loop-item.invariant in
     let next = next_piece iterator-loop-item.next_gives (λ x. x.now) so_far.0 {t = c.next.new.self} {x = c.in-Some.item} so_far.1 c.in-Some.ensures.steps in
-    (next.0, next.2, storing_next so_far.2 next.1 c.read_time.ensures c.in_ok-t.was c.with_kind-found.ensures)
+    (next.0, next.2, storing_next so_far.2 next.1 c.read_time.ensures c.in-Some-read_time.is c.with_kind-found.ensures)
 
 pub returns : goal.returns
 returns c =
